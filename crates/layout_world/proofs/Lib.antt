@@ -9,6 +9,7 @@ mod Going
 mod Finishing
 mod Opened
 mod Watched
+mod Housed
 pub mod ServerActed
 pub mod Knowing
 pub mod Posted

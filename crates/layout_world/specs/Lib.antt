@@ -10,3 +10,4 @@ pub mod ServerActing
 pub mod Making
 pub mod Posting
 pub mod ServerState
+pub mod Machine

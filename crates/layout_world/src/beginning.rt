@@ -53,7 +53,7 @@ fn begin_plain(parties: &mut Parties, alloc: Global, event: &Event) -> Result<Ac
             key,
             capacity,
         } => by_server::add_drive(parties, alloc, *drive, *key, *capacity, true),
-        Event::Zone { drive, zone } => Ok(by_server::set_zone(parties, alloc, *drive, *zone)),
+        Event::Zone { drive, zone } => by_server::set_zone(parties, alloc, *drive, *zone),
         Event::Client { client } => by_client::add(parties, alloc, *client),
         Event::Do { client, call } => by_client::call(parties, alloc, *client, call),
         Event::Call { client, call } => by_client::call(parties, alloc, *client, call),
@@ -67,7 +67,7 @@ fn begin_plain(parties: &mut Parties, alloc: Global, event: &Event) -> Result<Ac
         Event::Resend {
             sender: Sender::Server,
         } => by_server::resend(parties, alloc),
-        Event::Format { format } => Ok(by_server::set_format(parties, alloc, *format)),
+        Event::Format { format } => by_server::set_format(parties, alloc, *format),
         Event::Inject { drive, bytes } => inject(parties, alloc, *drive, bytes.as_slice()),
         _ => change(parties, alloc, event),
     }

@@ -49,11 +49,16 @@ pub fn make_file<P: Place>(
 }
 
 /// A drive is put into a zone, of which the server is told.
-pub fn set_zone(parties: &mut Parties, alloc: Global, drive: DriveName, zone: u32) -> Act
-    ensures { Acts (λ w chosen. gives w chosen (Zones drive zone)) parties.old parties.new result }
+pub fn set_zone(
+    parties: &mut Parties,
+    alloc: Global,
+    drive: DriveName,
+    zone: u32,
+) -> Result<Act, Memory>
+    ensures { IfOk result (λ act. Acts (λ w chosen. gives w chosen (Zones drive zone)) parties.old parties.new act) }
 {
-    parties.server.set_zone(drive, zone);
-    Act::nothing(alloc)
+    parties.server.set_zone(drive, zone)?;
+    Ok(Act::nothing(alloc))
 }
 
 /// The server is given an order on a file, or on a failed drive that is taken out.
@@ -81,9 +86,9 @@ pub fn resend(parties: &Parties, alloc: Global) -> Result<Act, Memory>
 }
 
 /// Fences leave files with this format at least.
-pub fn set_format(parties: &mut Parties, alloc: Global, format: u8) -> Act
-    ensures { Acts (λ w chosen. gives w chosen (FormatsAt format)) parties.old parties.new result }
+pub fn set_format(parties: &mut Parties, alloc: Global, format: u8) -> Result<Act, Memory>
+    ensures { IfOk result (λ act. Acts (λ w chosen. gives w chosen (FormatsAt format)) parties.old parties.new act) }
 {
-    parties.server.set_format(format);
-    Act::nothing(alloc)
+    parties.server.set_format(format)?;
+    Ok(Act::nothing(alloc))
 }

@@ -13,6 +13,7 @@ mod changing;
 mod delivering;
 mod err_name;
 mod following;
+mod machine;
 mod making;
 mod moving;
 mod parties;

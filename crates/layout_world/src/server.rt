@@ -11,10 +11,11 @@ ghost use Rattle.world_history.specs.Refusals.{lacks_file, is_zoned};
 ghost use Rattle.world_network.specs.Acts.{nothing};
 ghost use Rattle.layout_world.specs.ServerActing.{Acts, Adds, Does, Gives, Hears, Makes};
 
+use crate::machine::ServerMachine;
 use crate::making::{has_algorithm, has_number, is_in_zone, raw_map, tell_refusal};
 use crate::posting::postings;
 use layout_ops::OrderKind;
-use layout_server::{DriveInfo, DriveTable, FileErr, Repairs, ServerCore, Step};
+use layout_server::{DriveInfo, FileErr, Repairs, Step};
 use osd_lists::{Memory, Node};
 use scenario_text::{Delivery, DriveName, FileMap, FileName, Line, MapFault, Note};
 use server_rules::Kept;
@@ -27,11 +28,11 @@ use world_watch::KeptFiles;
 
 /// The metadata server as a party of a world.
 ///
-/// Where a counter of 64 bits has no room, a call that gives the server something to do answers that there is no
-/// memory.
+/// It has each change in a journal on a disk in memory before it tells of it, and a crash leaves it that disk. Where a counter
+/// of 64 bits has no room, or the server is down, a call that gives it something to do answers that there is no memory.
 #[derive(Drop)]
 pub struct WorldServer {
-    core: ServerCore,
+    core: ServerMachine,
     // The repairs that the last step ended, until they are taken.
     mended: Repairs,
 }
@@ -61,7 +62,7 @@ impl WorldServer {
         ensures { IfOk result (λ server. server ≡ record { state = new_server []; mended = [] }) }
     {
         Ok(WorldServer {
-            core: ServerCore::new(alloc, DriveTable::new(alloc))?,
+            core: ServerMachine::new(alloc)?,
             mended: Repairs::new(alloc),
         })
     }
@@ -101,7 +102,7 @@ impl WorldServer {
     fn ready(&self) -> Result<(), Memory>
         ensures { OnOk result (HasRoom self.now.state) }
     {
-        if self.core.counters_low() {
+        if self.core.has_room() {
             Ok(())
         } else {
             Err(Memory)
@@ -166,12 +167,8 @@ impl WorldServer {
         ensures made { IfOk result (MakesAt file (raw_of map.now) tag zoned self.old.state self.new.state) }
         ensures mended { self.new.mended ≡ self.old.mended }
     {
-        let (number, raw) = (file.number(), raw_map(map));
-        if zoned {
-            self.core.create_zoned(number, raw, tag, placer)
-        } else {
-            self.core.create_file(number, raw, tag, placer)
-        }
+        self.core
+            .create(file.number(), raw_map(map), tag, zoned, placer)
     }
 
     /// A file is made, spread over zones or not, or it is noted why it isn't. A map that names no parity algorithm is
@@ -214,13 +211,15 @@ impl WorldServer {
 
     /// A drive is put into a zone. One that is in a zone stays there, and one that the server doesn't know changes
     /// nothing.
-    pub fn set_zone(&mut self, drive: DriveName, zone: u32)
-        ensures state { Does self.old.state (λ w. gives w [] (Zones drive zone)) self.new.state nothing }
-        ensures mended { self.new.mended ≡ self.old.mended }
+    pub fn set_zone(&mut self, drive: DriveName, zone: u32) -> Result<(), Memory>
+        ensures state { OnOk result (Does self.old.state (λ w. gives w [] (Zones drive zone)) self.new.state nothing) }
+        ensures mended { OnOk result (self.new.mended ≡ self.old.mended) }
     {
-        if has_number(self.core.drives(), drive.number()) {
-            let _is_there = self.core.set_zone(drive.number(), zone);
+        if !has_number(self.core.drives(), drive.number()) {
+            return Ok(());
         }
+        self.core.set_zone(drive.number(), zone)?;
+        Ok(())
     }
 
     /// The server is given an order on a file, or on a failed drive that is taken out.
@@ -250,7 +249,7 @@ impl WorldServer {
         })
     }
 
-    /// The server crashes: no job runs any more, and all that is kept stays.
+    /// The server crashes: no job runs any more, and all that is kept stays, on its disk.
     pub fn crash(&mut self, alloc: Global) -> Result<Act, Memory>
         ensures { IfOk result (Gives self.old.state Crashes self.new) }
     {
@@ -263,15 +262,16 @@ impl WorldServer {
     pub fn reopen(&mut self, alloc: Global) -> Result<Act, Memory>
         ensures { IfOk result (Gives self.old.state Opens self.new) }
     {
-        let step = self.core.reopen()?;
+        let step = self.core.reopen(alloc)?;
         self.did(alloc, step)
     }
 
     /// Fences leave files with this format at least, 1 or 2.
-    pub fn set_format(&mut self, format: u8)
-        ensures state { Does self.old.state (λ w. gives w [] (Formats format)) self.new.state nothing }
-        ensures mended { self.new.mended ≡ self.old.mended }
+    pub fn set_format(&mut self, format: u8) -> Result<(), Memory>
+        ensures state { OnOk result (Does self.old.state (λ w. gives w [] (Formats format)) self.new.state nothing) }
+        ensures mended { OnOk result (self.new.mended ≡ self.old.mended) }
     {
-        self.core.set_format(format);
+        self.core.set_format(format)?;
+        Ok(())
     }
 }

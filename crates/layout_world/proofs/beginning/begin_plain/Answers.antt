@@ -12,7 +12,7 @@ returns-in-Disk c = rw c.in-Disk.is (held c.add_drive-in-Disk.result _ _ c.add_d
 
 pub returns-in-Zone : goal.returns-in-Zone
 unfolding begins
-returns-in-Zone c = rw c.in-Zone.is (λ _. c.set_zone.ensures)
+returns-in-Zone c = rw c.in-Zone.is (held c.set_zone.result _ _ c.set_zone.ensures)
 
 pub returns-in-Client : goal.returns-in-Client
 unfolding begins

@@ -9,4 +9,4 @@ pub returns : goal.returns
 returns c =
     rw c.nothing.ensures
     (server_keeps c.args.parties.now c.set_format.new.self nothing (λ w chosen. gives w chosen (Formats c.args.format)) []
-    c.set_format.ensures.state c.set_format.ensures.mended)
+    c.in_ok-set_format.ensures.state c.in_ok-set_format.ensures.mended)

@@ -9,4 +9,4 @@ pub returns : goal.returns
 returns c =
     rw c.nothing.ensures
     (server_keeps c.args.parties.now c.set_zone.new.self nothing (λ w chosen. gives w chosen (Zones c.args.drive c.args.zone)) []
-    c.set_zone.ensures.state c.set_zone.ensures.mended)
+    c.in_ok-set_zone.ensures.state c.in_ok-set_zone.ensures.mended)
