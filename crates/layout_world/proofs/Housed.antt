@@ -6,7 +6,8 @@ use Rattle.data_map.specs.declared.check.RawMap.{RawMap}
 use Rattle.osd_disk.specs.declared.disk.Disk.{Ghosts}
 use Rattle.osd_disk.specs.Medium.{Medium}
 use Rattle.gate_log.specs.declared.log.GateLog.{GateLog}
-use Rattle.server_rules.specs.State.{File, Kept}
+use Rattle.server_rules.specs.declared.files.File.{File}
+use Rattle.server_rules.specs.Making.{new_server}
 use Rattle.server_rules.specs.declared.server.Server.{Server}
 use Rattle.server_rules.specs.Files.{file_at}
 use Rattle.server_rules.specs.Openings.{crash, crashed_file}
@@ -47,12 +48,6 @@ is_want DiskFault r is of cause = let rose = cause.failed is in absurd (omega (a
 is_want (NotAJournal at) r is of cause = absurd of
 is_want Memory r is of cause = refl
 
-pub is_told_want : (e : JournalErr) → IsOfDisk e → HasErrCause 0 0 e → e ≡ Memory
-is_told_want (NotEmpty size) of cause = absurd of
-is_told_want DiskFault of cause = absurd (never cause)
-is_told_want (NotAJournal at) of cause = absurd of
-is_told_want Memory of cause = refl
-
 -- ---- a journal after a call
 
 module _ (k : Ghosts Medium) where
@@ -79,21 +74,15 @@ module _ (k : Ghosts Medium) where
   refused_so old new n m zoned e r = λ other.
       (r.reason, r.refused, ap (λ (x : JournalFileErr). told_back x) r.told ∙ told_again (cause_of r.reason), r.stays.server)
 
-  pub refused_back : (old new : JournaledServer Medium) (n : ℕ) (m : RawMap) (tag : ℕ) (zoned : Bool) (e : JournalFileErr)
-      → MakesNot k old new n m tag zoned e → layout.IsRefused n m zoned (core_of old) (core_of new) (told_back e)
-  refused_back old new n m tag zoned made.FileExists h = refused_so old new n m zoned made.FileExists h
-  refused_back old new n m tag zoned (made.BadMap why) h = refused_so old new n m zoned (made.BadMap why) h
-  refused_back old new n m tag zoned (made.TooFewDrives online) h = refused_so old new n m zoned (made.TooFewDrives online) h
-  refused_back old new n m tag zoned (made.NoSpread online) h = refused_so old new n m zoned (made.NoSpread online) h
-  refused_back old new n m tag zoned (made.Journal e) h = λ other. absurd (other refl)
-
-  pub well_refused : (old new : JournaledServer Medium) (n : ℕ) (m : RawMap) (tag : ℕ) (zoned : Bool) (e : JournalFileErr) → IsKept k old
-      → MakesNot k old new n m tag zoned e → IsWell k new
-  well_refused old new n m tag zoned made.FileExists kept h = well_still old new kept h.stays
-  well_refused old new n m tag zoned (made.BadMap why) kept h = well_still old new kept h.stays
-  well_refused old new n m tag zoned (made.TooFewDrives online) kept h = well_still old new kept h.stays
-  well_refused old new n m tag zoned (made.NoSpread online) kept h = well_still old new kept h.stays
-  well_refused old new n m tag zoned (made.Journal e) kept h = well_over new h.1
+  -- a call that makes no file leaves a journal, and says what a server without one says
+  pub refused_back : (old new : JournaledServer Medium) (n : ℕ) (m : RawMap) (tag : ℕ) (zoned : Bool) (e : JournalFileErr) → IsKept k old
+      → MakesNot k old new n m tag zoned e → layout.IsRefused n m zoned (core_of old) (core_of new) (told_back e) × IsWell k new
+  refused_back old new n m tag zoned made.FileExists kept h = (refused_so old new n m zoned made.FileExists h, well_still old new kept h.stays)
+  refused_back old new n m tag zoned (made.BadMap why) kept h = (refused_so old new n m zoned (made.BadMap why) h, well_still old new kept h.stays)
+  refused_back old new n m tag zoned (made.TooFewDrives online) kept h =
+      (refused_so old new n m zoned (made.TooFewDrives online) h, well_still old new kept h.stays)
+  refused_back old new n m tag zoned (made.NoSpread online) kept h = (refused_so old new n m zoned (made.NoSpread online) h, well_still old new kept h.stays)
+  refused_back old new n m tag zoned (made.Journal e) kept h = ((λ other. absurd (other refl)), well_over new h.1)
 
 -- ---- what is told of a server that is down
 
@@ -102,3 +91,8 @@ pub kept_there : (fs : List File) (n : ℕ) → option_map (λ (f : File). f.kep
 unfolding file_at
 kept_there [] n = refl
 kept_there (f ∷ fs) n = elim (cases_Bool (f.kept.number == n)) [ inl here ↦ rw here refl | inr elsewhere ↦ rw elsewhere (kept_there fs n) ]
+
+-- where there is no server there is no file
+pub none_there : (n : ℕ) → None ≡ option_map (λ (f : File). f.kept) (file_at (new_server []).files n)
+unfolding file_at
+none_there n = refl

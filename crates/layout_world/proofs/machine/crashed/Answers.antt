@@ -7,12 +7,12 @@ use Rattle.server_journal.specs.Resting.{stands}
 use Rattle.layout_world.proofs.machine.crashed.Goals as goal
 
 pub returns-clause-state : goal.returns-clause-state
-returns-clause-state c = ap (λ (s : Server). crash s) c.into_parts.ensures.server
+returns-clause-state c = ap (λ (s : Server). crash s) c.into_parts-was.ensures.server
 
 pub returns-clause-stands : goal.returns-clause-stands
 returns-clause-stands c =
     let j = c.args.journal in
-    let left = ap (λ (m : Medium). bytes_of m) c.crash.ensures ∙ ap (λ (m : Medium). bytes_of m) c.into_parts.ensures.disk in
-    subst (λ (l : List ℕ). IsJournalOf (crash c.into_parts.result.0.server) l) (sym left)
-    (subst (λ (s : Server). IsJournalOf (crash s) (bytes_of (disk_in j))) (sym c.into_parts.ensures.server)
+    let left = ap (λ (m : Medium). bytes_of m) c.crash.ensures ∙ ap (λ (m : Medium). bytes_of m) c.into_parts-was.ensures.disk in
+    subst (λ (l : List ℕ). IsJournalOf (crash c.into_parts-was.result.0.server) l) (sym left)
+    (subst (λ (s : Server). IsJournalOf (crash s) (bytes_of (disk_in j))) (sym c.into_parts-was.ensures.server)
     (stands _ (crash (core_of j)) j.log (c.requires.well c.requires.goes_on)))

@@ -1,4 +1,4 @@
-use Rattle.std.proofs.Common.{◌×◌, ◌≡◌, ◌<◌, ◌∙◌, ℕ, List, length, true, refl, ap, arith}
+use Rattle.std.proofs.Common.{◌≡◌, ◌<◌, ◌∙◌, ℕ, List, length, true, refl, ap, arith}
 use Rattle.std.specs.Prelude.{IsTrue}
 use Rattle.osd_disk.specs.Medium.{Medium, bytes_of}
 use Rattle.layout_world.proofs.Housed.{none_was_refused}
