@@ -16,7 +16,6 @@ use Rattle.gf256.proofs.Laws.{two_to_lt, two_to_pos}
 use Rattle.gf256.proofs.Inverses.{inverse_is}
 use Rattle.parity_code.specs.declared.code.Code.{Code}
 use Rattle.parity_code.specs.declared.code.Code.TheVariants.{Plain, Xor, PandQ}
-use Rattle.parity_code.specs.declared.repair.Repair.{Repair}
 use Rattle.parity_code.specs.Parity.{p_of, q_of}
 use Rattle.parity_code.specs.Codeword.{count_of, codeword, AgreeOutside}
 use Rattle.parity_code.specs.Syndromes.{p_syndrome, q_syndrome, HasNoSyndrome}
@@ -156,19 +155,13 @@ two_repairs units x y rising unit last few = elim (cases_lt y units) [
 
 module _ (units x y : ℕ) (col : List ℕ) (bytes : AreBytes col) (rising : x < y) (unit : x < units) (last : y < units + 2)
     (few : units ≤ 255) (wide : length col ≡ units + 2) where
-  abbrev r : Repair
-  r = first_repair units x y
-
-  abbrev s : Repair
-  s = second_repair units x y
-
   abbrev cleared_both : List ℕ
   cleared_both = set (set col x 0) y 0
 
   abbrev both : List ℕ
-  both = repaired_column units r s cleared_both
+  both = repaired_column units (first_repair units x y) (second_repair units x y) cleared_both
 
-  repairs : AreRepairs units x y r s
+  repairs : AreRepairs units x y (first_repair units x y) (second_repair units x y)
   repairs = two_repairs units x y rising unit last few
 
   first_long : length (set col x 0) ≡ length col
@@ -182,9 +175,8 @@ module _ (units x y : ℕ) (col : List ℕ) (bytes : AreBytes col) (rising : x <
       All-set (λ (d : ℕ). d < 256) (set col x 0) y 0 (omega arith)
       (All-set (λ (d : ℕ). d < 256) col x 0 (omega arith) bytes)
 
-  repaired_lt : (t : Repair) (p q : ℕ) → t.by_p < 256 → t.by_q < 256 → repaired t p q < 256
-  repaired_lt t p q p_lt q_lt =
-      xor_of_8 (product t.by_p p) (product t.by_q q) (product_lt t.by_p p p_lt) (product_lt t.by_q q q_lt)
+  sum_lt : (a b p q : ℕ) → a < 256 → b < 256 → bit_xor (product a p) (product b q) < 256
+  sum_lt a b p q a_lt b_lt = xor_of_8 (product a p) (product b q) (product_lt a p a_lt) (product_lt b q b_lt)
 
   abbrev p : ℕ
   p = p_syndrome units cleared_both
@@ -194,19 +186,19 @@ module _ (units x y : ℕ) (col : List ℕ) (bytes : AreBytes col) (rising : x <
 
   both_bytes : AreBytes both
   both_bytes =
-      All-set (λ (d : ℕ). d < 256) (set cleared_both r.row (repaired r p q)) s.row (repaired s p q)
-      (repaired_lt s p q repairs.other_by_p_lt repairs.other_by_q_lt)
-      (All-set (λ (d : ℕ). d < 256) cleared_both r.row (repaired r p q)
-      (repaired_lt r p q repairs.by_p_lt repairs.by_q_lt) cleared_bytes)
+      All-set (λ (d : ℕ). d < 256) (set cleared_both (first_repair units x y).row (repaired (first_repair units x y) p q)) (second_repair units x y).row (repaired (second_repair units x y) p q)
+      (sum_lt (second_repair units x y).by_p (second_repair units x y).by_q p q repairs.other_by_p_lt repairs.other_by_q_lt)
+      (All-set (λ (d : ℕ). d < 256) cleared_both (first_repair units x y).row (repaired (first_repair units x y) p q)
+      (sum_lt (first_repair units x y).by_p (first_repair units x y).by_q p q repairs.by_p_lt repairs.by_q_lt) cleared_bytes)
 
   both_long : length both ≡ length col
   both_long =
-      length-set (set cleared_both r.row (repaired r p q)) s.row (repaired s p q)
-      ∙ length-set cleared_both r.row (repaired r p q) ∙ cleared_long
+      length-set (set cleared_both (first_repair units x y).row (repaired (first_repair units x y) p q)) (second_repair units x y).row (repaired (second_repair units x y) p q)
+      ∙ length-set cleared_both (first_repair units x y).row (repaired (first_repair units x y) p q) ∙ cleared_long
 
   both_solved : HasNoSyndrome units both
   both_solved =
-      two_solved units x y r s cleared_both repairs cleared_bytes rising (omega (arith, last, wide, cleared_long))
+      two_solved units x y (first_repair units x y) (second_repair units x y) cleared_both repairs cleared_bytes rising (omega (arith, last, wide, cleared_long))
       (cleared_long ∙ wide)
       (get_or-set_other (set col x 0) y x 0 0 (λ e. absurd (omega (arith, e, rising)))
       ∙ get_or-set_same col x 0 0 (omega (arith, unit, wide)))
@@ -217,9 +209,9 @@ module _ (units x y : ℕ) (col : List ℕ) (bytes : AreBytes col) (rising : x <
 
   both_other : (k : ℕ) → k ≢ x → k ≢ y → get_or both k 0 ≡ get_or col k 0
   both_other k nx ny =
-      get_or-set_other (set cleared_both r.row (repaired r p q)) s.row k (repaired s p q) 0
+      get_or-set_other (set cleared_both (first_repair units x y).row (repaired (first_repair units x y) p q)) (second_repair units x y).row k (repaired (second_repair units x y) p q) 0
       (subst (λ (i : ℕ). k ≢ i) (sym repairs.other_row) ny)
-      ∙ get_or-set_other cleared_both r.row k (repaired r p q) 0 (subst (λ (i : ℕ). k ≢ i) (sym repairs.row) nx)
+      ∙ get_or-set_other cleared_both (first_repair units x y).row k (repaired (first_repair units x y) p q) 0 (subst (λ (i : ℕ). k ≢ i) (sym repairs.row) nx)
       ∙ get_or-set_other (set col x 0) y k 0 0 ny ∙ get_or-set_other col x k 0 0 nx
 
   two_has : HasData PandQ units (x ∷ y ∷ []) col (take units (decoded units (x ∷ y ∷ []) col))
