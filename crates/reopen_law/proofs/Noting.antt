@@ -12,7 +12,7 @@ use Rattle.server_rules.specs.Laws.{In}
 use Rattle.server_rules.proofs.Members.{in_front, in_behind}
 use Rattle.world_history.specs.Names.{known_note_line}
 use Rattle.world_history.specs.ServerNames.{Server, File, Note, NoteKind, Fenced}
-use Rattle.calm_law.specs.Going.{declared_in}
+use Rattle.calm_law.specs.Going.{taken_out}
 use Rattle.calm_law.specs.Naming.{IsNamedInput}
 use Rattle.calm_law.specs.Sound.{IsSound}
 use Rattle.calm_law.specs.Tags.{fence_note}
@@ -88,8 +88,8 @@ pub step_tells : (s : Server) (chosen : List ℕ) (i : Input) → IsSound s → 
     (f g : File) → file_at s.files n ≡ Some f → file_at (step s chosen i).state.files n ≡ Some g
     → TellsTag n f g (step s chosen i).notes
 step_tells s chosen i sound named none n f g e d =
-    let w : Went (declared_in i) s (step s chosen i) = went s chosen i sound named none in
-    tells_each w.out n f g s.files (step s chosen i).state.files [] (step s chosen i).notes w.each e d
+    let w : Went (taken_out s i) s (step s chosen i) = went s chosen i sound named none in
+    tells_each (taken_out s i) n f g s.files (step s chosen i).state.files [] (step s chosen i).notes w.each e d
 
 -- ---- its line
 
