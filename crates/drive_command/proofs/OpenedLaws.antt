@@ -1,8 +1,10 @@
 -- Why a store isn't made or opened, from what its crate and its disk say.
-use Rattle.std.proofs.Common.{◌≡◌, ℕ, List, [], length, Bool, inl, refl, ◌∙◌, sym, ap, subst, arith}
+use Rattle.std.proofs.Common.{◌≡◌, ℕ, List, [], length, Bool, inl, inr, refl, ◌∙◌, sym, ap, subst, arith}
 use Rattle.std.specs.Prelude.{IsTrue, ◌<◌}
 use Rattle.osd_bytes.specs.Causes.{Rose}
 use Rattle.cluster_text.specs.declared.stop.CommandStop.TheVariants as cause
+use Rattle.osd_disk.specs.Crashes.{Elapses, Narrows, OnlyRead}
+use Rattle.osd_disk.proofs.Moments.{leaves_as_before, nothing_read, read_again, read_more}
 use Rattle.osd_disk.specs.declared.disk.Disk.{Ghosts as DiskGhosts}
 use Rattle.osd_disk.specs.declared.disk.DiskErr.{DiskErr}
 use Rattle.osd_disk.specs.declared.disk.DiskErr.TheVariants as failure
@@ -13,33 +15,40 @@ use Rattle.drive_store.specs.Errors.{HasErrCause, NotAStoreSays, NotEmptySays}
 use Rattle.drive_store.specs.Opening.{IsNoStoreAt}
 use Rattle.drive_command.specs.declared.stored_stop.StoredStop.{StoredStop}
 use Rattle.drive_command.specs.declared.stored_stop.StoredStop.TheVariants.{Command, DiskFault, BadStore}
-use Rattle.drive_command.specs.Opened.{IsRefusedAt, StopsOpening}
+use Rattle.drive_command.specs.Opened.{IsRefusedAt, LeavesOpenable, StopsOpening}
 use Rattle.drive_command.specs.StoredStops.{stop_of_disk, stop_of_store}
 
 module _ {D : Type 0} (s : DiskGhosts D) (first : DriveState) where
   -- a call of the disk failed
-  pub disk_failed : (disk left : D) (e : DiskErr) → (e ≡ failure.Fault → Rose (s.faults disk) (s.faults left)) → StopsOpening s first disk left (stop_of_disk e)
+  pub disk_failed : (disk left : D) (e : DiskErr) → (e ≡ failure.Fault → Rose (s.faults disk) (s.faults left))
+      → StopsOpening s first disk left (stop_of_disk e)
   disk_failed disk left failure.Fault rose = rose refl
   disk_failed disk left failure.Memory rose = tt
 
   -- the store wasn't opened
-  pub not_opened : (disk left : D) (e : StoreErr) → NotAStoreSays (λ at. IsTrue (s.tells disk) → IsNoStoreAt first.keys (s.seen disk) at) e
-      → s.seen left ≡ s.seen disk → HasErrCause (s.faults disk) (s.faults left) e → StopsOpening s first disk left (stop_of_store e)
+  pub not_opened : (disk left : D) (e : StoreErr)
+      → NotAStoreSays (λ at. IsTrue (s.tells disk) → IsNoStoreAt first.keys (s.seen disk) at) e
+      → s.seen left ≡ s.seen disk → HasErrCause (s.faults disk) (s.faults left) e
+      → StopsOpening s first disk left (stop_of_store e)
   not_opened disk left (store.NotEmpty size) says same cause = absurd says
   not_opened disk left store.DiskFault says same cause = cause.failed refl
   not_opened disk left (store.NotAStore at) says same cause = λ told. (same, inl (says told))
   not_opened disk left store.Memory says same cause = tt
 
   -- the store wasn't made, on a disk that has no bytes
-  pub not_made : (disk left : D) (e : StoreErr) → NotEmptySays (λ size. IsTrue (s.tells disk) → (size ≡ length (s.seen disk)) × (0 < size)) e
-      → (IsTrue (s.tells disk) → length (s.seen disk) ≡ 0) → HasErrCause (s.faults disk) (s.faults left) e → StopsOpening s first disk left (stop_of_store e)
-  not_made disk left (store.NotEmpty size) says empty cause = λ told. absurd (omega (arith, (says told).0, (says told).1, empty told))
+  pub not_made : (disk left : D) (e : StoreErr)
+      → NotEmptySays (λ size. IsTrue (s.tells disk) → (size ≡ length (s.seen disk)) × (0 < size)) e
+      → (IsTrue (s.tells disk) → length (s.seen disk) ≡ 0) → HasErrCause (s.faults disk) (s.faults left) e
+      → StopsOpening s first disk left (stop_of_store e)
+  not_made disk left (store.NotEmpty size) says empty cause =
+      λ told. absurd (omega (arith, (says told).0, (says told).1, empty told))
   not_made disk left store.DiskFault says empty cause = cause.failed refl
   not_made disk left (store.NotAStore at) says empty cause = absurd says
   not_made disk left store.Memory says empty cause = tt
 
   -- the disk was only opened and asked for its size before
-  pub since_opened : (disk mid left : D) (stop : StoredStop) → s.tells mid ≡ s.tells disk → s.seen mid ≡ s.seen disk → s.faults mid ≡ s.faults disk
+  pub since_opened : (disk mid left : D) (stop : StoredStop) → s.tells mid ≡ s.tells disk → s.seen mid ≡ s.seen disk
+      → s.faults mid ≡ s.faults disk
       → StopsOpening s first mid left stop → StopsOpening s first disk left stop
   since_opened disk mid left (Command (cause.BadCluster kind)) told seen faults stops = absurd stops
   since_opened disk mid left (Command cause.ReadFault) told seen faults stops = absurd stops
@@ -50,3 +59,36 @@ module _ {D : Type 0} (s : DiskGhosts D) (first : DriveState) where
   since_opened disk mid left DiskFault told seen faults stops = subst (λ (n : ℕ). Rose n (s.faults left)) faults stops
   since_opened disk mid left (BadStore at) told seen faults stops = λ tells.
       subst (λ (c : List ℕ). (s.seen left ≡ c) × IsRefusedAt first c at) seen (stops (subst IsTrue (sym told) tells))
+
+-- ---- what a crash leaves meanwhile
+
+module _ {D : Type 0} (s : DiskGhosts D) where
+  abbrev Read : D → D → Type 0
+  Read disk mid = OnlyRead s.tells s.seen s.may_leave s.moment s.left_since disk mid
+
+  -- the disk was only opened and asked for its size
+  pub asked : (disk named mid : D) → s.tells named ≡ s.tells disk → s.seen named ≡ s.seen disk
+      → Narrows (s.may_leave disk) (s.may_leave named)
+      → Elapses (s.moment disk) (s.moment named) (s.left_since disk) (s.left_since named) (s.may_leave named)
+      → s.tells mid ≡ s.tells named → s.seen mid ≡ s.seen named → Narrows (s.may_leave named) (s.may_leave mid)
+      → Elapses (s.moment named) (s.moment mid) (s.left_since named) (s.left_since mid) (s.may_leave mid) → Read disk mid
+  asked disk named mid told seen narrows time told2 seen2 narrows2 time2 =
+      read_more s.tells s.seen s.may_leave s.moment s.left_since disk named mid
+      (read_more s.tells s.seen s.may_leave s.moment s.left_since disk disk named
+      (nothing_read s.tells s.seen s.may_leave s.moment s.left_since disk) told seen narrows time)
+      told2 seen2 narrows2 time2
+
+  -- a crash leaves what it might have left before
+  pub as_before : ((d : D) (c : List ℕ) → s.left_since d (s.moment d) c → s.may_leave d c) → (disk mid : D) → Read disk mid
+      → LeavesOpenable s disk mid
+  as_before only_now disk mid read =
+      inr
+      (leaves_as_before s.tells s.seen s.may_leave s.moment s.left_since disk mid (s.may_leave disk) read only_now
+      (λ c left. left))
+
+  -- and so it is where more was read
+  pub read_on : ((d : D) (c : List ℕ) → s.left_since d (s.moment d) c → s.may_leave d c) → (disk mid left : D) → Read disk mid
+      → Read mid left
+      → LeavesOpenable s disk left
+  read_on only_now disk mid left read more =
+      as_before only_now disk left (read_again s.tells s.seen s.may_leave s.moment s.left_since disk mid left read more)

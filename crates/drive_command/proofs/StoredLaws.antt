@@ -1,5 +1,5 @@
 -- What a stored drive leaves on its disk, and how its serving ends.
-use Rattle.std.proofs.Common.{◌≡◌, ◌⊎◌, ℕ, List, [], ◌++◌, Option, inl, inr, refl, ◌∙◌, sym, ap, subst, arith}
+use Rattle.std.proofs.Common.{◌≡◌, ◌⊎◌, ⊎_elim, ℕ, List, [], ◌++◌, Option, inl, inr, refl, ◌∙◌, sym, ap, subst, arith}
 use Rattle.std.specs.Prelude.{IsTrue, ◌≤◌, length}
 use Rattle.std.proofs.lemmas.List.{append-nil}
 use Rattle.osd_bytes.specs.Causes.{Rose}
@@ -14,13 +14,14 @@ use Rattle.drive_command.specs.declared.stored_stop.StoredStop.{StoredStop}
 use Rattle.drive_command.specs.declared.stored_stop.StoredStop.TheVariants.{Command, DiskFault, BadStore}
 use Rattle.drive_command.specs.Connections.{Ends, Handled, after_all}
 use Rattle.drive_command.specs.Ends.{Serves}
-use Rattle.drive_command.specs.Kept.{Carries}
-use Rattle.drive_command.specs.Opened.{BeginsWith, StopsOpening}
+use Rattle.drive_command.specs.Kept.{Carries, StandsForSome}
+use Rattle.drive_command.specs.Opened.{BeginsWith, LeavesOpenable, StopsOpening}
 use Rattle.drive_command.specs.StoredServer.{stays}
-use Rattle.drive_command.specs.StoredService.{HasBegun, ServesFrom, StaysSince, StopsFrom, StopsServer, WhyFrom}
+use Rattle.drive_command.specs.StoredService.{HasBegun, LeavesRun, ServesFrom, StaysSince, StopsFrom, StopsServer, WhyFrom}
 
 -- what a crash leaves of a stored drive is what it leaves of its disk
-pub of_disk : {D : Type 0} (moment : D → ℕ) (left_since : D → ℕ → List ℕ → Type 0) (old new : StoredDrive D) (P : List ℕ → Type 0) → LeavesOnly moment left_since (disk_in old) (disk_in new) P
+pub of_disk : {D : Type 0} (moment : D → ℕ) (left_since : D → ℕ → List ℕ → Type 0) (old new : StoredDrive D) (P : List ℕ → Type 0)
+    → LeavesOnly moment left_since (disk_in old) (disk_in new) P
     → LeavesOnly (λ (s : StoredDrive D). moment (disk_in s)) (λ (s : StoredDrive D). left_since (disk_in s)) old new P
 of_disk moment left_since old new P l = record { later = l.later; each = l.each; before = l.before }
 
@@ -35,7 +36,8 @@ module _ {D : Type 0} (s : DiskGhosts D) where
       (λ (x : StoredDrive D). s.left_since (disk_in x)) (λ (d : DriveState) (c : List ℕ). IsStoreOf d c) handled cut_off old new
 
   -- a store that nothing was asked of
-  pub unchanged : ((disk : D) (c : List ℕ) → s.left_since disk (s.moment disk) c → s.may_leave disk c) → (old new : StoredDrive D) → new ≡ old
+  pub unchanged : ((disk : D) (c : List ℕ) → s.left_since disk (s.moment disk) c → s.may_leave disk c)
+      → (old new : StoredDrive D) → new ≡ old
       → Carried [] [] old new
   unchanged only_now old new same = subst (λ (x : StoredDrive D). Carried [] [] old x) (sym same) (record {
     state = refl;
@@ -48,46 +50,76 @@ module _ {D : Type 0} (s : DiskGhosts D) where
     since = λ k c left. stays s.tells s.seen s.may_leave s.moment s.left_since only_now old c k left;
   })
 
-  stays_since : (old new : StoredDrive D) (handled cut_off : List Handled) (left : D) → Carried handled cut_off old new → Kept old → left ≡ disk_in new
+  stays_since : (old new : StoredDrive D) (handled cut_off : List Handled) (left : D) → Carried handled cut_off old new → Kept old
+      → left ≡ disk_in new
       → StaysSince s (core_of old) handled cut_off left
   stays_since old new handled cut_off left x k same =
       subst (λ (d : D). StaysSince s (core_of old) handled cut_off d) (sym same)
       (record { began = s.moment (disk_in old); is_past = (x.crash k).later; stands = x.since k })
 
+  -- a crash at any moment of the run
+  leaves_run : (disk left : D) (old new : StoredDrive D) (handled : List Handled) → left ≡ disk_in new
+      → LeavesOpenable s disk (disk_in old)
+      → LeavesOnly (λ (x : StoredDrive D). s.moment (disk_in x)) (λ (x : StoredDrive D). s.left_since (disk_in x)) old new
+      (StandsForSome IsStoreOf (core_of old) handled)
+      → LeavesRun s disk left (core_of old) handled
+  leaves_run disk left old new handled same (inl empty) leaves = inl empty
+  leaves_run disk left old new handled same (inr opening) leaves =
+      subst (λ (d : D). LeavesRun s disk d (core_of old) handled) (sym same) (inr (record {
+        later = omega (arith, opening.later, leaves.later);
+        each = λ c left. ⊎_elim (λ before. inl (opening.each c before)) inr (leaves.before (s.moment disk) c opening.later left);
+        before =
+            λ t c le left. ⊎_elim (λ earlier. ⊎_elim inl (λ here. inr (inl here)) (opening.before t c le earlier))
+            (λ here. inr (inr here))
+            (leaves.before t c (omega (arith, le, opening.later)) left);
+      }))
+
   module _ (first : DriveState) (connections : ℕ) (before now : Ends) (taken_before taken : Option (List ℕ)) (disk left : D) where
-    pub served_from : (old new : StoredDrive D) (handled : List Handled) → (IsTrue (s.tells disk) → BeginsWith first (s.seen disk) (core_of old))
+    pub served_from : (old new : StoredDrive D) (handled : List Handled)
+        → (IsTrue (s.tells disk) → BeginsWith first (s.seen disk) (core_of old))
         → (IsTrue (s.tells disk) → Kept old) → Serves connections (core_of old) (core_of new) before now taken_before taken
-        → Carried handled [] old new → (Kept old → Kept new) → left ≡ disk_in new → ServesFrom s first connections before now taken_before taken disk left
-    served_from old new handled begins kept serves x keeps same = record {
+        → Carried handled [] old new → (Kept old → Kept new) → left ≡ disk_in new
+        → (IsTrue (s.tells disk) → LeavesOpenable s disk (disk_in old))
+        → s.faults (disk_in new) ≡ s.faults (disk_in old) → s.faults (disk_in old) ≡ s.faults disk
+        → ServesFrom s first connections before now taken_before taken disk left
+    served_from old new handled begins kept serves x keeps same opens still faults = record {
       drive = core_of old;
       begins = begins;
       last = core_of new;
       serves = serves;
       handled = handled;
       all = x.state ∙ ap (λ (hs : List Handled). after_all (core_of old) hs) (append-nil handled);
+      any_moment = λ told. subst (λ (hs : List Handled). LeavesRun s disk left (core_of old) hs) (append-nil handled)
+          (leaves_run disk left old new (handled ++ []) same (opens told) (x.crash (kept told)));
       stays = λ told. stays_since old new handled [] left x (kept told) same;
       stands = λ told. subst (λ (d : D). IsStoreOf (core_of new) (s.seen d)) (sym same)
           (resting.stands s.tells s.seen s.may_leave (core_of new) new.log (keeps (kept told)));
       durable = λ told. subst (λ (d : D). Only (s.seen d) (s.may_leave d)) (sym same) (keeps (kept told)).rest.durable;
+      same = ap (λ (d : D). s.faults d) same ∙ (still ∙ faults);
     }
 
     why_stopped : (drive last : DriveState) (failed_before failed faults : ℕ) (stop : StoredStop)
         → StopsServer connections drive last before now taken_before taken failed_before failed (s.faults disk) faults stop
-        → s.faults left ≡ faults → WhyFrom s first connections drive last before now taken_before taken failed_before failed disk left stop
+        → s.faults left ≡ faults
+        → WhyFrom s first connections drive last before now taken_before taken failed_before failed disk left stop
     why_stopped drive last failed_before failed faults (Command stop) stops same = stops
-    why_stopped drive last failed_before failed faults DiskFault stops same = (inr stops.0, subst (λ (n : ℕ). Rose (s.faults disk) n) (sym same) stops.1)
+    why_stopped drive last failed_before failed faults DiskFault stops same =
+        (inr stops.0, subst (λ (n : ℕ). Rose (s.faults disk) n) (sym same) stops.1)
     why_stopped drive last failed_before failed faults (BadStore at) stops same = absurd stops
 
     pub stopped_from : (old new : StoredDrive D) (handled cut_off : List Handled) (failed_before failed : ℕ) (stop : StoredStop)
-        → (IsTrue (s.tells disk) → BeginsWith first (s.seen disk) (core_of old)) → (IsTrue (s.tells disk) → Kept old) → s.faults (disk_in old) ≡ s.faults disk
-        → StopsServer connections (core_of old) (core_of new) before now taken_before taken failed_before failed (s.faults (disk_in old)) (s.faults (disk_in new)) stop
-        → Carried handled cut_off old new → left ≡ disk_in new
+        → (IsTrue (s.tells disk) → BeginsWith first (s.seen disk) (core_of old)) → (IsTrue (s.tells disk) → Kept old)
+        → s.faults (disk_in old) ≡ s.faults disk
+        → StopsServer connections (core_of old) (core_of new) before now taken_before taken failed_before failed
+        (s.faults (disk_in old)) (s.faults (disk_in new)) stop
+        → Carried handled cut_off old new → left ≡ disk_in new → (IsTrue (s.tells disk) → LeavesOpenable s disk (disk_in old))
         → StopsFrom s first connections before now taken_before taken failed_before failed disk left stop
-    stopped_from old new handled cut_off failed_before failed stop begins kept faults stops x same = record {
+    stopped_from old new handled cut_off failed_before failed stop begins kept faults stops x same opens = record {
       drive = core_of old;
       last = core_of new;
       why = why_stopped (core_of old) (core_of new) failed_before failed (s.faults (disk_in new)) stop
-          (subst (λ (n : ℕ). StopsServer connections (core_of old) (core_of new) before now taken_before taken failed_before failed n (s.faults (disk_in new)) stop) faults stops)
+          (subst (λ (n : ℕ). StopsServer connections (core_of old) (core_of new) before now taken_before taken failed_before
+          failed n (s.faults (disk_in new)) stop) faults stops)
           (ap (λ (d : D). s.faults d) same);
       stays = inr (λ told. record {
         begins = begins told;
@@ -95,16 +127,21 @@ module _ {D : Type 0} (s : DiskGhosts D) where
         cut_off = cut_off;
         few = x.few;
         state = x.state;
+        any_moment = leaves_run disk left old new (handled ++ cut_off) same (opens told) (x.crash (kept told));
         stays = stays_since old new handled cut_off left x (kept told) same;
       });
     }
 
   -- no store was made or opened: nothing was told
-  pub unopened : (first : DriveState) (connections : ℕ) (ends : Ends) (taken : Option (List ℕ)) (failed : ℕ) (disk left : D) (stop : StoredStop)
-      → StopsOpening s first disk left stop → StopsFrom s first connections ends ends taken taken failed failed disk left stop
-  unopened first connections ends taken failed disk left stop stops = record { drive = first; last = first; why = why stop stops; stays = inl refl }
+  pub unopened : (first : DriveState) (connections : ℕ) (ends : Ends) (taken : Option (List ℕ)) (failed : ℕ) (disk left : D)
+      (stop : StoredStop)
+      → StopsOpening s first disk left stop → (IsTrue (s.tells disk) → LeavesOpenable s disk left)
+      → StopsFrom s first connections ends ends taken taken failed failed disk left stop
+  unopened first connections ends taken failed disk left stop stops opens =
+      record { drive = first; last = first; why = why stop stops; stays = inl (refl, opens) }
     where
-      why : (stop : StoredStop) → StopsOpening s first disk left stop → WhyFrom s first connections first first ends ends taken taken failed failed disk left stop
+      why : (stop : StoredStop) → StopsOpening s first disk left stop
+          → WhyFrom s first connections first first ends ends taken taken failed failed disk left stop
       why (Command (cause.BadCluster kind)) stops = absurd stops
       why (Command cause.ReadFault) stops = absurd stops
       why (Command cause.WriteFault) stops = absurd stops

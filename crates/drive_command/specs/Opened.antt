@@ -2,6 +2,7 @@
 use Rattle.std.specs.Prelude.{◌≡◌, ◌⊎◌, ℕ, List, [], IsTrue}
 use Rattle.osd_bytes.specs.Causes.{Rose}
 use Rattle.cluster_text.specs.declared.stop.CommandStop.TheVariants as cause
+use Rattle.osd_disk.specs.Crashes.{LeavesOnly}
 use Rattle.osd_disk.specs.declared.disk.Disk.{Ghosts as DiskGhosts}
 use Rattle.osd_drive.specs.State.{DriveState, new_drive}
 use Rattle.drive_store.specs.Opening.{IsNoStoreAt}
@@ -44,3 +45,8 @@ StopsOpening s first disk left (Command other) = ⊥
 StopsOpening s first disk left DiskFault = Rose (s.faults disk) (s.faults left)
 StopsOpening s first disk left (BadStore at) =
     IsTrue (s.tells disk) → (s.seen left ≡ s.seen disk) × IsRefusedAt first (s.seen disk) at
+
+-- While a store is opened, a crash leaves what it might have left before. While one is made on an empty disk, it may leave
+-- anything.
+abbrev pub LeavesOpenable : {D : Type 0} → DiskGhosts D → (disk left : D) → Type 0
+LeavesOpenable s disk left = (s.seen disk ≡ []) ⊎ LeavesOnly s.moment s.left_since disk left (s.may_leave disk)

@@ -1,7 +1,8 @@
 // The store of a drive on a disk.
 ghost use Rattle.std.specs.Prelude.{◌≡◌, false, IsTrue, IfOk, IfErr};
+ghost use Rattle.osd_disk.specs.Crashes.{OnlyRead};
 ghost use Rattle.osd_drive.specs.State.{DriveState};
-ghost use Rattle.drive_command.specs.Opened.{BeginsWith, IsOwnStore, StopsOpening, first_of};
+ghost use Rattle.drive_command.specs.Opened.{BeginsWith, IsOwnStore, LeavesOpenable, StopsOpening, first_of};
 ghost use Rattle.drive_store.specs.Stores.{IsKept, core_of, disk_in, is_over_in};
 
 use crate::own::keys_with;
@@ -38,6 +39,8 @@ fn opened_store<D: Disk>(
     ensures goes_on { IfOk result (λ store. is_over_in store ≡ false) }
     ensures refused { IfErr result (λ e. (first : DriveState) → first.number ≡ number → first.keys ≡ keys
         → StopsOpening D.Disk first disk e.1 e.0) }
+    ensures read { IfOk result (λ store. OnlyRead D.tells D.seen D.may_leave D.moment D.left_since disk (disk_in store)) }
+    ensures read_back { IfErr result (λ e. OnlyRead D.tells D.seen D.may_leave D.moment D.left_since disk e.1) }
     ensures no_fault { IfOk result (λ store. D.faults (disk_in store) ≡ D.faults disk) }
 {
     match StoredDrive::open(alloc, disk, keys) {
@@ -64,6 +67,8 @@ pub(crate) fn store_on<D: Disk>(
     ensures kept { IfOk result (λ store. IsTrue (D.tells disk) → IsKept D.tells D.seen D.may_leave store) }
     ensures goes_on { IfOk result (λ store. is_over_in store ≡ false) }
     ensures refused { IfErr result (λ e. StopsOpening D.Disk (first_of own) disk e.1 e.0) }
+    ensures leaves { IfOk result (λ store. IsTrue (D.tells disk) → LeavesOpenable D.Disk disk (disk_in store)) }
+    ensures cut_off { IfErr result (λ e. IsTrue (D.tells disk) → LeavesOpenable D.Disk disk e.1) }
     ensures no_fault { IfOk result (λ store. D.faults (disk_in store) ≡ D.faults disk) }
 {
     let mut disk = disk;

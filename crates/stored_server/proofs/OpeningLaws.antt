@@ -1,7 +1,7 @@
 -- What a crash leaves while a journal is opened.
-use Rattle.std.proofs.Common.{◌≡◌, ◌⊎◌, ⊎_elim, inl, inr, ℕ, List, subst}
-use Rattle.osd_disk.specs.Crashes.{Elapses, Narrows, OnlyRead}
-use Rattle.osd_disk.proofs.Moments.{leaves_as_before, nothing_read, read_more}
+use Rattle.std.proofs.Common.{◌⊎◌, ⊎_elim, inl, inr, ℕ, List, subst}
+use Rattle.osd_disk.specs.Crashes.{OnlyRead}
+use Rattle.osd_disk.proofs.Moments.{leaves_as_before}
 use Rattle.osd_disk.specs.declared.disk.Disk.{Ghosts as DiskGhosts}
 use Rattle.server_journal.specs.Opening.{IsOfOpening, LeavesOpening}
 use Rattle.server_journal.proofs.JournalLaws.{on_and_on, weaker}
@@ -10,18 +10,6 @@ use Rattle.stored_server.specs.Opened.{LeavesOpenable}
 module _ {D : Type 0} (s : DiskGhosts D) where
   abbrev Read : D → D → Type 0
   Read disk mid = OnlyRead s.tells s.seen s.may_leave s.moment s.left_since disk mid
-
-  -- the disk was only opened and asked for its size
-  pub asked : (disk named mid : D) → s.tells named ≡ s.tells disk → s.seen named ≡ s.seen disk
-      → Narrows (s.may_leave disk) (s.may_leave named)
-      → Elapses (s.moment disk) (s.moment named) (s.left_since disk) (s.left_since named) (s.may_leave named)
-      → s.tells mid ≡ s.tells named → s.seen mid ≡ s.seen named → Narrows (s.may_leave named) (s.may_leave mid)
-      → Elapses (s.moment named) (s.moment mid) (s.left_since named) (s.left_since mid) (s.may_leave mid) → Read disk mid
-  asked disk named mid told seen narrows time told2 seen2 narrows2 time2 =
-      read_more s.tells s.seen s.may_leave s.moment s.left_since disk named mid
-      (read_more s.tells s.seen s.may_leave s.moment s.left_since disk disk named
-      (nothing_read s.tells s.seen s.may_leave s.moment s.left_since disk) told seen narrows time)
-      told2 seen2 narrows2 time2
 
   -- what an opening may leave
   abbrev Leavable : D → List ℕ → Type 0

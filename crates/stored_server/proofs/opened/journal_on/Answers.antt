@@ -1,6 +1,7 @@
 use Rattle.std.proofs.Common.{◌∙◌, sym, subst}
 use Rattle.std.specs.Prelude.{IsTrue}
-use Rattle.stored_server.proofs.OpeningLaws.{asked, since_asked}
+use Rattle.drive_command.proofs.OpenedLaws.{asked}
+use Rattle.stored_server.proofs.OpeningLaws.{since_asked}
 use Rattle.stored_server.proofs.opened.journal_on.Goals as goal
 
 pub returns-in-Ok-open-clause-leaves : goal.returns-in-Ok-open-clause-leaves
