@@ -1,5 +1,5 @@
 -- What contracts see of a server that keeps its changes.
-use Rattle.std.specs.Prelude.{Bool, List}
+use Rattle.std.specs.Prelude.{Bool}
 use Rattle.server_rules.specs.declared.server.Server.{Server}
 use Rattle.server_entries.specs.declared.record.Record.{Record}
 

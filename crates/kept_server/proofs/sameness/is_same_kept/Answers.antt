@@ -6,8 +6,7 @@ use Rattle.kept_server.proofs.sameness.is_same_kept.Goals as goal
 pub returns-then-is_made_as : goal.returns-then-is_made_as
 returns-then-is_made_as c =
     let a = c.args.a.now in
-    let b = c.args.b.now in
-    (
+    let b = c.args.b.now in (
       λ t. same_kept a b (c.is_made_as.ensures.0 c.if-is_made_as.true) (c.is_alike.ensures.0 t).0 (c.is_alike.ensures.0 t).1,
       λ e. c.is_alike.ensures.1 (far_same a b e, contents_same a b e),
     )
@@ -15,8 +14,7 @@ returns-then-is_made_as c =
 pub returns-else-is_made_as : goal.returns-else-is_made_as
 returns-else-is_made_as c =
     let a = c.args.a.now in
-    let b = c.args.b.now in
-    (
+    let b = c.args.b.now in (
       λ t. absurd (false≢true (sym c.if-is_made_as.false ∙ t)),
       λ e. absurd (false≢true (sym c.if-is_made_as.false ∙ c.is_made_as.ensures.1 (made_same a b e))),
     )
