@@ -14,7 +14,7 @@ use Rattle.kept_server.specs.FileDifferences.{file_entries}
 
 -- as far as the files are gone through: those that are left, and the entries with theirs
 pub record SoFar (old left : Table) (entries all : List Entry) : Type 0 where
-  pub left : AreEntries left
+  pub good : AreEntries left
   pub done : entries ++ files_entries (files_in old) (files_in left) ≡ all
 
 -- one file more
@@ -23,10 +23,10 @@ pub file_more : (old rest : Table) (n : ℕ) (f : FileState) (was : Option FileS
 file_more old rest n f was es more all o so found added =
     let others : List Entry = files_entries (files_in old) (files_in rest) in
     let at : file_at (files_in old) f.kept.number ≡ option_map file_of was =
-    ap (λ (k : ℕ). file_at (files_in old) k) so.left.0.number ∙ file_at-files old n o ∙ ap (option_map file_of) (sym found) in
+    ap (λ (k : ℕ). file_at (files_in old) k) so.good.0.number ∙ file_at-files old n o ∙ ap (option_map file_of) (sym found) in
     let same : more ++ others ≡ es ++ (file_entries (option_map file_of was) f.kept ++ others) =
-    ap (λ (xs : List Entry). xs ++ others) added ∙ append_assoc in
+    ap (λ (xs : List Entry). xs ++ others) added ∙ append_assoc es (file_entries (option_map file_of was) f.kept) others in
     record {
-      left = so.left.1;
+      good = so.good.1;
       done = same ∙ ap (λ (w : Option File). es ++ (file_entries w f.kept ++ others)) (sym at) ∙ so.done;
     }
