@@ -145,7 +145,7 @@ fn failing(alloc: Global, call: u32) -> MemDisk {
 const NEVER: u32 = 1_000_000;
 
 // How a disk is opened.
-#[derive(Clone, Copy, PartialEq, Eq)]
+#[derive(Clone, Copy)]
 enum Opened {
     /// The opening notes and sends this, in words.
     Says(&'static str),

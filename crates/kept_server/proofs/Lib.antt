@@ -1,2 +1,3 @@
 pub mod SameLaws
 pub mod RestoreLaws
+pub mod DifferenceLaws

@@ -1,5 +1,5 @@
 -- What the changes of a call make of what was kept before it.
-use Rattle.std.specs.Prelude.{[], ◌≡◌, ◌≢◌, Bool, false, true, Option, Some}
+use Rattle.std.specs.Prelude.{[], ◌≡◌, ◌≢◌, false, true, Some}
 use Rattle.server_rules.specs.declared.server.Server.{Server}
 use Rattle.server_rules.specs.Openings.{crash}
 use Rattle.layout_server.specs.declared.new_files.FileErr.{FileErr}
@@ -7,7 +7,6 @@ use Rattle.layout_server.specs.declared.new_files.FileErr.TheVariants.{Memory}
 use Rattle.server_state.specs.declared.state.State.{State}
 use Rattle.server_state.specs.States.{server_of, IsReady}
 use Rattle.server_entries.specs.Applying.{applied_all}
-use Rattle.server_entries.specs.Spelling.{RecordWritable}
 use Rattle.kept_server.specs.Views.{Keeping}
 
 -- the changes make what is kept now of what this server keeps

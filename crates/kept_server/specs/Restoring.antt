@@ -1,5 +1,5 @@
 -- A server that is made of records again.
-use Rattle.std.specs.Prelude.{◌≡◌, ◌<◌, ⊤, ℕ, List, [], Bool, false, Option, Some, None, length, take, ◌+◌}
+use Rattle.std.specs.Prelude.{◌≡◌, ◌<◌, ⊤, ℕ, List, [], false, Option, Some, None, length, take, ◌+◌}
 use Rattle.server_rules.specs.declared.server.Server.{Server}
 use Rattle.server_rules.specs.Making.{new_server}
 use Rattle.server_rules.specs.Openings.{reopen}

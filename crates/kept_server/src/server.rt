@@ -1,4 +1,4 @@
-ghost use Rattle.std.specs.Prelude.{Some, ◌≡◌, ◌↔◌, ◌<◌, [], List, ℕ, true, false, is_err, IsTrue, map, option_map, IfOk, IfErr, IsErr, OnOk};
+ghost use Rattle.std.specs.Prelude.{Some, ◌≡◌, ◌≢◌, ◌↔◌, ◌<◌, [], List, ℕ, true, false, is_err, IsTrue, map, option_map, IfOk, IfErr, IsErr, OnOk};
 ghost use Rattle.std.specs.Option.{option_copied};
 ghost use Rattle.layout_ops.specs.declared.orders.OrderKind.TheVariants as order;
 ghost use Rattle.data_map.specs.Check.{HasAlgorithm};
@@ -11,13 +11,14 @@ ghost use Rattle.server_rules.specs.Messages.{counters_have_room, resend};
 ghost use Rattle.server_rules.specs.Openings.{crash};
 ghost use Rattle.server_rules.specs.Orders.{ordered};
 ghost use Rattle.server_requests.specs.Sending.{all_sent};
-ghost use Rattle.server_state.specs.States.{server_of, Did, HasRoom, IsReady};
+ghost use Rattle.server_state.specs.States.{server_of, Did, HasRoom, IsGood, IsReady};
 ghost use Rattle.layout_server.specs.Adding.{IsNew, CanAdd, and_drives, drive_of};
 ghost use Rattle.layout_server.specs.Resending.{waited_of};
 ghost use Rattle.layout_server.specs.Calls.{Makes, IsRefused};
 ghost use Rattle.layout_server.specs.Zones.{is_in_zone, is_known};
 ghost use Rattle.server_entries.specs.Applying.{applied_all};
 ghost use Rattle.server_entries.specs.Spelling.{RecordWritable};
+ghost use Rattle.kept_server.specs.Differences.{differences};
 ghost use Rattle.kept_server.specs.Keeping.{Ends, Follows, GoesOn, IsMirror, IsQuiet, Keeps, SaysNoMore, StaysOver};
 ghost use Rattle.kept_server.specs.Restoring.{Opens};
 
@@ -461,12 +462,15 @@ fn no_changes(alloc: Global) -> Record
 // The entries that make of the mirror, on which no job runs, what the server of a state keeps, and the mirror with them.
 // Want of memory stands also for entries that don't make the one of the other.
 fn changes_to(alloc: Global, mirror: &mut State, state: &State) -> Result<Record, Memory>
-    requires { IsReady mirror.old }
+    requires mirror { IsReady mirror.old }
+    requires state { IsGood state.now }
     ensures ready { IsReady mirror.new }
     ensures writable { IfOk result RecordWritable }
     ensures same { OnOk result (server_of mirror.new ≡ crash (server_of state.now)) }
     ensures follows { IfOk result (λ c. applied_all (server_of mirror.old) c.entries ≡ Some (crash (server_of state.now))) }
     ensures quiet { IfOk result (λ c. server_of mirror.old ≡ crash (server_of state.now) → c.entries ≡ []) }
+    ensures told { IfOk result (λ c. server_of mirror.old ≢ crash (server_of state.now)
+        → c.entries ≡ differences (server_of mirror.old) (server_of state.now)) }
 {
     if is_mirror(mirror, state) {
         return Ok(no_changes(alloc));

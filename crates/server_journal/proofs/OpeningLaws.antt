@@ -160,3 +160,9 @@ module _ {D : Type 0} (k : Ghosts D) where
   read_so_far disk first reader log begun more same =
       subst (λ (d : D). OnlyRead k.tells k.seen k.may_leave k.moment k.left_since disk d) (sym same)
       (read_again k.tells k.seen k.may_leave k.moment k.left_since disk (read_disk first) (read_disk reader) begun more)
+
+  -- and it is where no call was made since
+  pub read_still : (disk read new : D) → new ≡ read → OnlyRead k.tells k.seen k.may_leave k.moment k.left_since disk read
+      → OnlyRead k.tells k.seen k.may_leave k.moment k.left_since disk new
+  read_still disk read new same only_read =
+      subst (λ (d : D). OnlyRead k.tells k.seen k.may_leave k.moment k.left_since disk d) (sym same) only_read

@@ -1,6 +1,6 @@
 -- The opening of a journal, and contents that aren't one.
 use Rattle.std.specs.Prelude.{◌≡◌, ◌⊎◌, ℕ, List, [], ◌∷◌, ◌++◌, length, None}
-use Rattle.osd_disk.specs.Crashes.{LeavesOnly}
+use Rattle.osd_disk.specs.Crashes.{LeavesOnly, OnlyRead}
 use Rattle.osd_disk.specs.declared.disk.Disk.{Ghosts}
 use Rattle.gate_log.specs.Broken.{IsBrokenAt}
 use Rattle.gate_log.specs.declared.reader.LogReader.{LogReader}
@@ -47,6 +47,8 @@ pub record Opened {D : Type 0} (k : Ghosts D) (disk : D) (new : JournaledServer 
   pub kept : IsKept k new
   pub counts : CountsOn before (core_of new)
   pub any_moment : LeavesOpening k disk (disk_in new)
+  -- nothing is written if the step changes nothing that is kept
+  pub idle : before ≡ crash (reopen before).state → OnlyRead k.tells k.seen k.may_leave k.moment k.left_since disk (disk_in new)
 
 -- ---- refusals
 

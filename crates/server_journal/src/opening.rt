@@ -64,6 +64,7 @@ impl<D: Disk> JournaledServer<D> {
         ensures error { IfErr result (λ e. IsOfDisk e.0) }
         ensures cause { IfErr result (λ e. HasErrCause (D.faults (disk_of log)) (D.faults e.1) e.0) }
         ensures no_fault { IfOk result (λ j. D.faults (disk_in j) ≡ D.faults (disk_of log)) }
+        ensures quiet { IfOk result (λ j. kept.changes.entries ≡ [] → disk_in j ≡ disk_of log) }
     {
         let mut server = JournaledServer::of(alloc, kept, log);
         match server.keep() {
@@ -90,6 +91,7 @@ impl<D: Disk> JournaledServer<D> {
         ensures error { IfErr result (λ e. IsOfDisk e.0) }
         ensures cause { IfErr result (λ e. HasErrCause (D.faults (disk_of log)) (D.faults e.1) e.0) }
         ensures no_fault { IfOk result (λ found. D.faults (disk_in found.0) ≡ D.faults (disk_of log)) }
+        ensures idle { IfOk result (λ found. restoration ≡ crash (reopen restoration).state → disk_in found.0 ≡ disk_of log) }
     {
         let (kept, step) = match restoration.open(alloc) {
             Ok(opened) => opened,
@@ -136,7 +138,8 @@ impl<D: Disk> JournaledServer<D> {
     }
 
     /// Opens the journal that stands on a disk: the server to which its records lead, as the rules open it, and what that
-    /// step sends. What the step changes is on the disk at `Ok`. It reads one record at a time.
+    /// step sends. What the step changes is on the disk at `Ok`; if that is nothing, nothing is written. It reads one record at a
+    /// time.
     ///
     /// # Errors
     ///

@@ -14,3 +14,6 @@ returns-in-Err-clause-cut_off g c = rw c.into_disk.ensures (rw (c.of-server.ensu
 pub returns-in-Err-clause-cause : goal.returns-in-Err-clause-cause
 returns-in-Err-clause-cause g c =
     rw c.into_disk.ensures (journal_cause _ _ c.in-Err.e _ (rw c.of-server.ensures.1 at c.in-Err.ensures.cause) refl)
+
+pub returns-in-Ok-clause-quiet : goal.returns-in-Ok-clause-quiet
+returns-in-Ok-clause-quiet g c = rw (c.of-server.ensures.0, c.of-server.ensures.1) at c.keep.ensures.quiet

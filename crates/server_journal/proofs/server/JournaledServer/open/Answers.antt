@@ -3,7 +3,7 @@ use Rattle.osd_disk.proofs.Moments.{read_again}
 use Rattle.gate_log.specs.Standing.{header_of, read_disk}
 use Rattle.server_rules.specs.declared.server.Server.{Server}
 use Rattle.server_journal.specs.Opening.{HasTaken}
-use Rattle.server_journal.proofs.OpeningLaws.{no_place, opening_leaves, other_header_at, read_leaves, read_so_far, stood_for, taken_first, taken_kept}
+use Rattle.server_journal.proofs.OpeningLaws.{no_place, opening_leaves, other_header_at, read_leaves, read_so_far, read_still, stood_for, taken_first, taken_kept}
 use Rattle.server_journal.proofs.server.JournaledServer.open.Goals as goal
 
 pub returns-in-Err-clause-cut_off : goal.returns-in-Err-clause-cut_off
@@ -43,6 +43,7 @@ returns-in-Ok-reopen-clause-opened g c told =
       counts = c.in-Ok-reopen.ensures.counts;
       any_moment = opening_leaves g.D.Disk g.met.D.Disk.only_now c.args.disk _ c.take_records.new.restoration c.into_log.result read kept
           (c.in-Ok-reopen.ensures.any_moment kept);
+      idle = λ is. read_still g.D.Disk c.args.disk _ _ (c.in-Ok-reopen.ensures.idle is) read;
     }
 
 pub returns-in-Err-reopen-clause-cut_off : goal.returns-in-Err-reopen-clause-cut_off

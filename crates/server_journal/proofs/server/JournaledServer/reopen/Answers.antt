@@ -1,4 +1,4 @@
-use Rattle.std.proofs.Common.{sym, subst}
+use Rattle.std.proofs.Common.{◌∙◌, ap, sym, subst}
 use Rattle.gate_log.specs.Standing.{disk_of}
 use Rattle.server_rules.specs.declared.server.Server.{Server}
 use Rattle.server_rules.specs.Openings.{crash, reopen}
@@ -33,3 +33,7 @@ pub returns-in-Err-begin-clause-cut_off : goal.returns-in-Err-begin-clause-cut_o
 returns-in-Err-begin-clause-cut_off g c kept =
     subst (λ (s : Server). LeavesEither g.D.Disk (disk_of c.args.log) c.in-Err-begin.refusal.1 c.args.restoration (crash s)) c.in-Ok.ensures.did.state
     (c.in-Err-begin.ensures.cut_off c.args.restoration c.in-Ok.ensures.follows kept)
+
+pub returns-in-Ok-begin-clause-idle : goal.returns-in-Ok-begin-clause-idle
+returns-in-Ok-begin-clause-idle g c is =
+    c.in-Ok-begin.ensures.quiet (c.in-Ok.ensures.quiet (is ∙ ap (λ (s : Server). crash s) (sym c.in-Ok.ensures.did.state)))

@@ -1,0 +1,9 @@
+use Rattle.std.specs.Prelude.{◌++◌}
+use Rattle.server_state.specs.Tables.{files_in}
+use Rattle.kept_server.specs.Differences.{files_entries}
+use Rattle.kept_server.proofs.DifferenceLaws.{SoFar}
+use Rattle.kept_server.proofs.differences.add_files.Given as goal
+
+abbrev pub invariant-loop-number : goal.invariant-loop-number
+invariant-loop-number l =
+    SoFar l.fn.old.entries l.number-iterator l.entries (l.fn.entries ++ files_entries (files_in l.fn.old.entries) (files_in l.fn.files.entries))
