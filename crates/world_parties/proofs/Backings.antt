@@ -1,5 +1,5 @@
 -- What a crash, an opening and a command leave of what has a drive's objects.
-use Rattle.std.proofs.Common.{◌≡◌, ◌⊎◌, inl, inr, ℕ, List, [], ◌∷◌, length, Bool, true, false, refl, sym, ap, ◌∙◌, subst, arith}
+use Rattle.std.proofs.Common.{◌≡◌, ◌⊎◌, inl, inr, ℕ, List, [], ◌∷◌, true, false, refl, sym, ap, ◌∙◌, subst, arith}
 use Rattle.osd_disk.specs.Medium.{Medium, bytes_of, fresh, may_hold}
 use Rattle.osd_drive.specs.declared.keys.DriveKey.{DriveKey}
 use Rattle.osd_drive.specs.State.{DriveState}

@@ -5,7 +5,7 @@ use Rattle.std.proofs.lemmas.Nat.{from_be_bytes-to_be_bytes_4}
 use Rattle.std.proofs.lemmas.Bool.Decides.{nat_tests}
 use Rattle.std.specs.Int.{w32, to_be_bytes, from_be_bytes}
 use Rattle.gate_log.specs.declared.header.TheConstants.{HEADER_SIZE}
-use Rattle.gate_log.specs.Logs.{Gated, records_of, IsRecord, AreRecords, bodies_of, IsFront}
+use Rattle.gate_log.specs.Logs.{Gated, records_of, AreRecords, bodies_of, IsFront}
 use Rattle.osd_drive.specs.declared.keys.DriveKey.{DriveKey}
 use Rattle.osd_drive.specs.State.{DriveState, new_drive}
 use Rattle.drive_store.specs.Records.{replayed}

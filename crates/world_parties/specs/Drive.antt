@@ -1,5 +1,5 @@
 -- One drive: what no command changes of it, and what it makes of bytes.
-use Rattle.std.specs.Prelude.{ℕ, List, [], ◌∷◌, ◌≡◌, ◌≤◌, ◌⊎◌, true, Result}
+use Rattle.std.specs.Prelude.{ℕ, [], ◌∷◌, ◌≡◌, ◌≤◌, ◌⊎◌, true, Result}
 use Rattle.osd_commands.specs.declared.commands.Command.{Command}
 use Rattle.osd_commands.specs.declared.commands.CommandErr.{CommandErr}
 use Rattle.osd_drive.specs.declared.limits.TheConstants.{FIRST_FORMAT}
