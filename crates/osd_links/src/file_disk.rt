@@ -4,6 +4,7 @@ ghost use Rattle.osd_bytes.specs.Causes.{Rose};
 
 use crate::file_causes::FileCause;
 use crate::read_ahead::ReadAhead;
+use crate::write_ahead::WriteAhead;
 use osd_disk::{Disk, DiskErr};
 use std::alloc::AllocGlobal;
 use std::fs::{File, OpenOptions, TryLockError};
@@ -27,12 +28,15 @@ const STANDARD_ERROR: i32 = 2;
 /// After a call that failed each call fails, since what a failed sync left behind isn't known. The
 /// file is locked against other processes as long as the disk is open.
 ///
-/// What is read is read ahead: reads that follow one another, as those of a log, cost few calls of the system.
+/// What is read is read ahead: reads that follow one another, as those of a log, cost few calls of the system. Behind a short
+/// write that ends with the file it writes zeros, so that syncs of a file that grows cost less. They stay in the file: [`Disk::size`]
+/// and [`Disk::read`] tell of them, and so does an opening later. What stands on it has to end by its own bytes, as a log does.
 #[derive(Drop)]
 pub struct FileDisk<R> {
     runtime: R,
     file: Option<File>,
     ahead: ReadAhead,
+    room: WriteAhead,
     // Nothing was written since the last sync.
     is_synced: bool,
     faults: u64,
@@ -43,10 +47,12 @@ impl<R: AllocGlobal> FileDisk<R> {
     /// A disk whose file isn't opened yet, by a handle of the runtime.
     pub fn new(runtime: R) -> Self {
         let ahead = ReadAhead::new(runtime.alloc());
+        let room = WriteAhead::new(runtime.alloc());
         FileDisk {
             runtime,
             file: None,
             ahead,
+            room,
             is_synced: false,
             faults: 0,
             last: None,
@@ -162,8 +168,13 @@ fn read_some(
     }
 }
 
-// Writes all bytes to a file.
-fn write_whole(file: &Option<File>, at: u64, bytes: &[u8]) -> Result<(), FileCause>
+// Writes all bytes to a file, and zeros behind them where they are to be.
+fn write_whole(
+    file: &Option<File>,
+    room: &mut WriteAhead,
+    at: u64,
+    bytes: &[u8],
+) -> Result<(), FileCause>
     ensures { IfOk result (λ _. at + length bytes.now < 2 ^ 63) }
 {
     let Some(file) = file else {
@@ -173,7 +184,10 @@ fn write_whole(file: &Option<File>, at: u64, bytes: &[u8]) -> Result<(), FileCau
         return Err(FileCause::TooLong);
     }
     match file.write_all_at(bytes, at) {
-        Ok(()) => Ok(()),
+        Ok(()) => {
+            room.follow(file, at, bytes.len());
+            Ok(())
+        }
         Err(e) => Err(FileCause::of(e)),
     }
 }
@@ -216,6 +230,7 @@ impl<R: Files<File = File> + Drop> Disk for FileDisk<R> {
             Ok(file) => {
                 self.file = Some(file);
                 self.ahead.forget();
+                self.room.forget();
                 self.is_synced = true;
                 Ok(())
             }
@@ -240,7 +255,7 @@ impl<R: Files<File = File> + Drop> Disk for FileDisk<R> {
     fn write_at(&mut self, at: u64, bytes: &[u8]) -> Result<(), DiskErr> {
         self.ahead.forget();
         self.is_synced = false;
-        match write_whole(&self.file, at, bytes) {
+        match write_whole(&self.file, &mut self.room, at, bytes) {
             Ok(()) => Ok(()),
             Err(cause) => Err(self.fail(cause)),
         }

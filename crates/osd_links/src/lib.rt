@@ -16,6 +16,7 @@ mod stopwatch;
 mod streams;
 mod tcp;
 mod timed;
+mod write_ahead;
 
 pub use clock::SystemClock;
 pub use faults::{Cause, LinkFault, Party};
