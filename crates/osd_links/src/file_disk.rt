@@ -29,8 +29,8 @@ const STANDARD_ERROR: i32 = 2;
 /// file is locked against other processes as long as the disk is open.
 ///
 /// What is read is read ahead: reads that follow one another, as those of a log, cost few calls of the system. Behind a short
-/// write that ends with the file it writes zeros, so that syncs of a file that grows cost less. They stay in the file: [`Disk::size`]
-/// and [`Disk::read`] tell of them, and so does an opening later. What stands on it has to end by its own bytes, as a log does.
+/// write with which the file ends it writes zeros, so that syncs of a file that grows cost less. They stay in the file: [`Disk::size`]
+/// and [`Disk::read`] tell of them. So what stands on it has to end by its own bytes, as a log does.
 #[derive(Drop)]
 pub struct FileDisk<R> {
     runtime: R,
