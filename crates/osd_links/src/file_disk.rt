@@ -28,9 +28,10 @@ const STANDARD_ERROR: i32 = 2;
 /// After a call that failed each call fails, since what a failed sync left behind isn't known. The
 /// file is locked against other processes as long as the disk is open.
 ///
-/// What is read is read ahead: reads that follow one another, as those of a log, cost few calls of the system. Behind a short
-/// write with which the file ends it writes zeros, so that syncs of a file that grows cost less. They stay in the file: [`Disk::size`]
-/// and [`Disk::read`] tell of them. So what stands on it has to end by its own bytes, as a log does.
+/// What is read is read ahead: reads that follow one another, as those of a log, cost few calls of the system.
+///
+/// Behind a short write with which the file ends it writes zeros, so that syncs of a file that grows cost less. They stay in the
+/// file, and [`Disk::size`] and [`Disk::read`] tell of them. So what stands on it has to end by its own bytes, as a log does.
 #[derive(Drop)]
 pub struct FileDisk<R> {
     runtime: R,
