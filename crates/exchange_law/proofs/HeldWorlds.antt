@@ -116,7 +116,7 @@ none_held file h e = cc e
 
 -- ---- a move
 
-pub next_moment : (w : World) (h : List Line) (k : IsMoment w h) (m : Move) → due (plan_at k) w ≡ Some m.action
+unfoldable pub next_moment : (w : World) (h : List Line) (k : IsMoment w h) (m : Move) → due (plan_at k) w ≡ Some m.action
     → IsMoment (move w m).world (h ++ lines_in w m)
 next_moment w h k m d =
     let here : due (plan_after (plan_of k.before k.event) k.moves) (world_after k.before k.moves) ≡ Some m.action =

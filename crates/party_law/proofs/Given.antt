@@ -12,6 +12,7 @@ use Rattle.layout_ops.specs.declared.results.Results.TheVariants as results
 use Rattle.layout_ops.specs.declared.messages.Answer.{Answer}
 use Rattle.client_rules.specs.Layouts.{taken, all_listed}
 use Rattle.client_rules.specs.Results.{layouts_in}
+use Rattle.server_rules.specs.Commands.{key_at}
 use Rattle.server_rules.specs.Layouts.{capability_for, granted, layout_for, segment_for}
 use Rattle.world_history.specs.ClientNames.{CallOp, Credential, Held, Listed}
 use Rattle.world_history.specs.ServerNames.{Component, Drive, Grant, Kept}
@@ -20,55 +21,59 @@ use Rattle.history_law.proofs.Exact.{same_ok, one_of, body_read}
 use Rattle.exchange_law.proofs.PlaceTaken.{IsTaken, is_taken}
 use Rattle.exchange_law.specs.Held.{credential_of, listed_at, listed_from}
 use Rattle.exchange_law.specs.HeldTaken.{OnDrives}
-use Rattle.party_law.specs.Listed.{IsCredentialFor, IsOffline, ListsComponent, ListsComponents}
+use Rattle.party_law.specs.Listed.{IsCredentialFor, IsKnown, IsOffline, ListsComponent, ListsComponents}
 use Rattle.party_law.proofs.Listing.{listed_all}
 use Rattle.party_law.proofs.Keeping.{IsAlike, IsLost}
 
 -- ---- what is listed
 
 module _ (ds : List Drive) (f : Kept) (g : Grant) where
-  one_listed : (at : Component) (k : ℕ) (b : Bool) → at.missing ≡ b → (l : Listed)
+  one_listed : (at : Component) (k : ℕ) (b : Bool) → IsKnown ds at.drive → at.missing ≡ b → (l : Listed)
       → record { id = (listed_at ds f g at k).id; credential = if b then None else Some (credential_of ds f g at k) } ≡ l
       → ListsComponent ds f g at k l
-  one_listed at k true e l is =
+  one_listed at k true known e l is =
       subst (ListsComponent ds f g at k) is
       (record { object = refl; credential = λ c x. absurd (cc x); missing = λ x. e; gone = λ c x m. absurd (cc x) })
-  one_listed at k false e l is =
+  one_listed at k false known e l is =
       subst (ListsComponent ds f g at k) is
       (record {
         object = refl;
         credential = λ c x.
             let same : credential_of ds f g at k ≡ c = cc x in
-            subst (IsCredentialFor f g at k) same (record { drive = refl; capability = refl });
+            subst (IsCredentialFor ds f g at k) same (record { drive = refl; capability = refl; known = known; key = refl });
         missing = λ x. absurd (cc x);
         gone = λ c x m. absurd (cc (sym e ∙ m));
       })
 
-  each_listed : (cs : List Component) (k i : ℕ) (at : Component) (l : Listed) → slice_get cs i ≡ Some at
+  -- the server knows the drive of each of these
+  abbrev pub AreKnown : List Component → Type 0
+  AreKnown cs = (i : ℕ) (at : Component) → slice_get cs i ≡ Some at → IsKnown ds at.drive
+
+  each_listed : (cs : List Component) (k i : ℕ) (at : Component) (l : Listed) → AreKnown cs → slice_get cs i ≡ Some at
       → slice_get (listed_from ds f g cs k) i ≡ Some l → ListsComponent ds f g at (k + i) l
   unfolding listed_from
-  each_listed [] k i at l found is = absurd (cc found)
-  each_listed (a ∷ cs) k zero at l found is =
+  each_listed [] k i at l known found is = absurd (cc found)
+  each_listed (a ∷ cs) k zero at l known found is =
       let same : a ≡ at = cc found in
       let it : listed_at ds f g a k ≡ l = cc is in
       let here : k ≡ k + 0 = omega arith in
       subst (λ (n : ℕ). ListsComponent ds f g at n l) here
-      (subst (λ (b : Component). ListsComponent ds f g b k l) same (one_listed a k a.missing refl l it))
-  each_listed (a ∷ cs) k (suc i) at l found is =
+      (subst (λ (b : Component). ListsComponent ds f g b k l) same (one_listed a k a.missing (known 0 a refl) refl l it))
+  each_listed (a ∷ cs) k (suc i) at l known found is =
       let next : k + 1 + i ≡ k + suc i = omega arith in
-      subst (λ (n : ℕ). ListsComponent ds f g at n l) next (each_listed cs (k + 1) i at l found is)
+      subst (λ (n : ℕ). ListsComponent ds f g at n l) next (each_listed cs (k + 1) i at l (λ j. known (suc j)) found is)
 
   length_listed : (cs : List Component) (k : ℕ) → length (listed_from ds f g cs k) ≡ length cs
   unfolding listed_from
   length_listed [] k = refl
   length_listed (a ∷ cs) k = ap suc (length_listed cs (k + 1))
 
-  lists_given : ListsComponents ds f g (listed_from ds f g f.components 0)
-  lists_given = record {
+  lists_given : AreKnown f.components → ListsComponents ds f g (listed_from ds f g f.components 0)
+  lists_given known = record {
     count = length_listed f.components 0;
     each = λ k at l found is.
         let same : 0 + k ≡ k = omega arith in
-        subst (λ (n : ℕ). ListsComponent ds f g at n l) same (each_listed f.components 0 k at l found is);
+        subst (λ (n : ℕ). ListsComponent ds f g at n l) same (each_listed f.components 0 k at l known found is);
   }
 
 -- ---- what is taken
@@ -98,9 +103,9 @@ taken_gives a op h e =
     let t : IsTaken a op h = is_taken a op h e in (t.given, gives_ok a.results t.given t.gives)
 
 pub taken_lists : (ds : List Drive) (f : Kept) (g : Grant) (a : Answer) (op : CallOp) (h : Held)
-    → a.results ≡ results.LayoutGet (get.Granted (granted ds f g)) → OnDrives f → NumbersFit ds f g → taken a op ≡ Ok h
-    → ListsComponents ds f g h.components
-taken_lists ds f g a op h gives near fits e =
+    → a.results ≡ results.LayoutGet (get.Granted (granted ds f g)) → OnDrives f → AreKnown ds f g f.components → NumbersFit ds f g
+    → taken a op ≡ Ok h → ListsComponents ds f g h.components
+taken_lists ds f g a op h gives near known fits e =
     let t : IsTaken a op h = is_taken a op h e in
     let ok : t.given ≡ granted ds f g = given_is a.results t.given (granted ds f g) t.gives gives in
     let segment : t.segment ≡ segment_for ds f g =
@@ -114,20 +119,28 @@ taken_lists ds f g a op h gives near fits e =
     (near i at found, subst (λ (n : ℕ). Fits (capability_for f g at n)) same (fits.capabilities i at found))))
     ∙ ap (λ (y : Layout). all_listed y.olo_components) (sym layout) ∙ t.components in
     let same : listed_from ds f g f.components 0 ≡ h.components = cc all in
-    subst (ListsComponents ds f g) same (lists_given ds f g)
+    subst (ListsComponents ds f g) same (lists_given ds f g known)
 
 -- ---- while the grant is live
 
-module _ (ds es : List Drive) (on : (n : ℕ) → IsOffline ds n → IsOffline es n) (f k : Kept) (g : Grant) where
+-- drives that are known stay so, with their keys
+abbrev pub KeepKeys : List Drive → List Drive → Type 0
+KeepKeys ds es = (n : ℕ) → IsKnown ds n → IsKnown es n × (key_at es n ≡ key_at ds n)
+
+module _ (ds es : List Drive) (on : (n : ℕ) → IsOffline ds n → IsOffline es n) (keep : KeepKeys ds es) (f k : Kept)
+    (g : Grant) where
   component_on : (a b : Component) (n : ℕ) (l : Listed) → k.map ≡ f.map → k.format ≡ f.format → k.tag ≡ f.tag
       → IsLost (IsOffline es) a b → ListsComponent ds f g a n l → ListsComponent es k g b n l
   component_on a b n l map format tag lost x = record {
     object = rw (lost.drive, lost.object) x.object;
     credential = λ c e.
         let it = x.credential c e in
+        let same = keep a.drive it.known in
         record {
           drive = it.drive ∙ sym lost.drive;
           capability = rw (map, format, tag, lost.drive, lost.object) it.capability;
+          known = rw lost.drive same.0;
+          key = rw (map, format, tag, lost.drive, lost.object, same.1) it.key;
         };
     missing = λ e. lost.missing (x.missing e);
     gone = λ c e m. by c e (lost.gone m);

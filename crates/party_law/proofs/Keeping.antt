@@ -95,6 +95,7 @@ module _ (Off : ℕ → Type 0) where
     pub map : k.map ≡ f.map
     pub format : k.format ≡ f.format
     pub tag : k.tag ≡ f.tag
+    pub phase : k.phase ≡ f.phase
     pub components : OnlyLose f.components k.components
 
   -- the file goes on with its number, and with no other grants; where one is live, all but losses is as it was
@@ -104,13 +105,20 @@ module _ (Off : ℕ → Type 0) where
         → (grant_of f.grants client ≡ Some g) × IsAlike f k
 
   alike_itself : (f : Kept) → IsAlike f f
-  alike_itself f = record { map = refl; format = refl; tag = refl; components = same_lose f.components f.components refl }
+  alike_itself f = record {
+    map = refl;
+    format = refl;
+    tag = refl;
+    phase = refl;
+    components = same_lose f.components f.components refl;
+  }
 
   pub alike_then : (f k l : Kept) → IsAlike f k → IsAlike k l → IsAlike f l
   alike_then f k l a b = record {
     map = b.map ∙ a.map;
     format = b.format ∙ a.format;
     tag = b.tag ∙ a.tag;
+    phase = b.phase ∙ a.phase;
     components = lose_then f.components k.components l.components a.components b.components;
   }
 
@@ -119,6 +127,7 @@ module _ (Off : ℕ → Type 0) where
     map = refl;
     format = refl;
     tag = refl;
+    phase = refl;
     components = same_lose f.components f.components refl;
   }
 
@@ -159,7 +168,7 @@ module _ (Off : ℕ → Type 0) where
       → Fewer go.file.kept (if b then with_components go (lose_on drive go.file.kept.components) else go).file.kept
   lost_fewer go drive true off =
       same_grants go.file.kept (record go.file.kept { components = lose_on drive go.file.kept.components }) refl refl
-      (record { map = refl; format = refl; tag = refl; components = on_lose drive go.file.kept.components off })
+      (record { map = refl; format = refl; tag = refl; phase = refl; components = on_lose drive go.file.kept.components off })
   lost_fewer go drive false off = fewer_itself go.file.kept
 
   declares_at : (go : Going) (drive : ℕ) (j : Option Job) → go.file.job ≡ j → IsSafe go.file → Off drive
@@ -184,6 +193,7 @@ module _ (Off : ℕ → Type 0) where
         map = refl;
         format = refl;
         tag = refl;
+        phase = refl;
         components = same_lose go.file.kept.components go.file.kept.components refl;
       })
   ready_fewer go (c ∷ cs) = fewer_itself go.file.kept
@@ -224,6 +234,7 @@ module _ (Off : ℕ → Type 0) where
         map = refl;
         format = refl;
         tag = refl;
+        phase = refl;
         components = same_lose go.file.kept.components go.file.kept.components refl;
       })
 
@@ -263,6 +274,7 @@ module _ (Off : ℕ → Type 0) where
         map = refl;
         format = refl;
         tag = refl;
+        phase = refl;
         components = same_lose go.file.kept.components go.file.kept.components refl;
       },
     );

@@ -149,6 +149,31 @@ module _ (w : World) (h : List Line) (k : IsMoment w h) where
   goes chosen (TimesOut c component) ls s a = stayed w _ h _ (acts_stay w chosen (TimesOut c component) tt) a
   goes chosen (Pends c) ls s a = stayed w _ h _ (acts_stay w chosen (Pends c) tt) a
 
+-- keys that the server knows stay
+module _ (w : World) (h : List Line) (k : IsMoment w h) (a : AreKnown w h) (q : ℕ) (keys : List DriveKey)
+    (has : known_keys w.server.drives q ≡ Some keys) where
+  beside_new : (d : ℕ) (key : List ℕ) (capacity : ℕ) (stored : Bool) → at_number w.drives d ≡ None
+      → known_keys (adds_drive w d key capacity stored).world.server.drives q ≡ Some keys
+  unfolding gives
+  beside_new d key capacity stored new =
+      let none : known_keys w.server.drives d ≡ None = sym (a.same d) ∙ ap keys_of new in
+      rw (not_known w.server.drives d none)
+      (added_other w.server.drives (known_drive d key capacity) q
+      (λ it. absurd (cc (sym none ∙ ap (λ (n : ℕ). known_keys w.server.drives n) it ∙ has))) ∙ has)
+
+  pub keys_stay : (chosen : List ℕ) (action : Action) → due (plan_at k) w ≡ Some action
+      → known_keys (acts w chosen action).world.server.drives q ≡ Some keys
+  unfolding begins
+  keys_stay chosen (Opens (event.Drive d key capacity)) s =
+      beside_new d key capacity false
+      (new_by k.before w k.event k.moves d key capacity false k.world_is k.allowed s)
+  keys_stay chosen (Opens (event.Disk d key capacity)) s =
+      beside_new d key capacity true (new_by k.before w k.event k.moves d key capacity true k.world_is k.allowed s)
+  keys_stay chosen (Opens e) s = (acts_stay w chosen (Opens e) tt).known q ∙ has
+  keys_stay chosen (Delivers number) s = (acts_stay w chosen (Delivers number) tt).known q ∙ has
+  keys_stay chosen (TimesOut c component) s = (acts_stay w chosen (TimesOut c component) tt).known q ∙ has
+  keys_stay chosen (Pends c) s = (acts_stay w chosen (Pends c) tt).known q ∙ has
+
 pub moved : (w : World) (h : List Line) (k : IsMoment w h) (m : Move) → due (plan_at k) w ≡ Some m.action → AreKnown w h
     → AreKnown (move w m).world (h ++ lines_in w m)
 moved w h k m s a =

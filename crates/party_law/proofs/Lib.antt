@@ -6,7 +6,7 @@ pub mod Sealing
 mod Fewer
 mod SizeSteps
 mod SizeServing
-mod Server
+pub mod Server
 mod Kept
 mod Client
 pub mod Answering
@@ -15,6 +15,7 @@ pub mod SizeMoments
 pub mod Listing
 pub mod Keeping
 pub mod Offline
+pub mod DrivesKnown
 pub mod ListedSteps
 pub mod ListedServing
 pub mod Given

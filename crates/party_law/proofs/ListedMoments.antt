@@ -29,6 +29,7 @@ use Rattle.world_history.specs.Sending.{Move, move}
 use Rattle.world_history.specs.Spelled.{spelled}
 use Rattle.world_history.specs.State.{World, ClientAt, at_number, empty_world}
 use Rattle.history_law.specs.Grants.{GrantsAreSafe}
+use Rattle.history_law.specs.Parties.{AllPartiesRun}
 use Rattle.history_law.specs.BookMoments.{IsMoment, lines_in, plan_at}
 use Rattle.exchange_law.specs.Doing.{IsHeardByServer, IsHeardByClient, OthersGo, ServerGoes, ClientGoes, ClientStops, ClientComes, Goes, Others, AServer, AClient, Stops, Comes}
 use Rattle.exchange_law.specs.InStep.{state_of}
@@ -50,6 +51,10 @@ use Rattle.exchange_law.proofs.HeldMoving.{IsSame}
 use Rattle.exchange_law.proofs.HeldStepping.{IsGoodInput, step_fine}
 use Rattle.exchange_law.proofs.HeldWorlds.{reads_fit, next_moment, readable_fronts, readable_there, reached}
 use Rattle.party_law.specs.Listed.{ListsComponents, ComponentsAgree}
+use Rattle.party_law.proofs.DrivesKnown.{AllKnown, all_known}
+use Rattle.party_law.proofs.Given.{KeepKeys}
+use Rattle.party_law.proofs.Keys.{are_known}
+use Rattle.party_law.proofs.Sealing.{keys_kept}
 use Rattle.party_law.proofs.Stepping.{ListsAt, AreListed, AllFitting, Lists, step_lists}
 
 same_lists : (s : Server) (c n : ℕ) (h k : Held) → IsSame h k → ListsAt s c n h → ListsAt s c n k
@@ -120,7 +125,7 @@ Stands w = (c : ℕ) → Lists w.server c (state w c).held
 abbrev Stand : World → List Line → Type 0
 Stand w h = IsReadableThrough h → Stands w
 
-module _ (kept : SlotsAreKept) (more : OneEventMore) (safe : GrantsAreSafe) (own : AnswersAreOwn)
+module _ (kept : SlotsAreKept) (more : OneEventMore) (run : AllPartiesRun) (safe : GrantsAreSafe) (own : AnswersAreOwn)
     (agree : ClientsAgree) where
   -- ---- a client's step
 
@@ -264,10 +269,14 @@ module _ (kept : SlotsAreKept) (more : OneEventMore) (safe : GrantsAreSafe) (own
     server_steps g c =
         let readable = readable_there v (h ++ lines_in w m) (next_moment w h k m d) t in
         let fit : AllFitting (step w.server m.chosen g.input).state = subst AllFitting g.server readable.files in
+        let know : AllKnown (step w.server m.chosen g.input).state =
+        subst AllKnown g.server (all_known run v (reached v (h ++ lines_in w m) (next_moment w h k m d))) in
+        let keep : KeepKeys w.server.drives (step w.server m.chosen g.input).state.drives =
+        subst (λ (x : Server). KeepKeys w.server.drives x.drives) g.server (keys_kept w h k m d (are_known more w h k)) in
         let same : state v c ≡ state w c = ap (λ (xs : _). state_of c (at_number xs c)) g.clients in
         subst (λ (x : Server). Lists x c (state v c).held) (sym g.server)
         (subst (λ (x : Client). Lists (step w.server m.chosen g.input).state c x.held) (sym same)
-        (step_lists w.server m.chosen g.input c (state w c) (safe w (reached w h k)) fit
+        (step_lists w.server m.chosen g.input c (state w c) (safe w (reached w h k)) fit know keep
         (own_request w h k t_before c g.input g.heard) (agree w h k t_before c) (s c)))
 
     by_goes : Goes w m.chosen m.action a → Stands v

@@ -1,6 +1,6 @@
 -- A drive that has one key opens what is sealed with it.
 use Rattle.std.specs.Cmp.Lexicographic.{pointwise}
-use Rattle.std.proofs.Common.{◌≡◌, ◌==◌, ℕ, ◌++◌, [], ◌∷◌, List, Bool, true, false, not, nat_eq, Option, Some, None, is_none, find, refl, sym, ap, subst, ◌∙◌}
+use Rattle.std.proofs.Common.{◌≡◌, ◌==◌, ℕ, ◌++◌, [], ◌∷◌, List, Bool, true, false, not, nat_eq, Option, Some, None, is_none, find, is_some, refl, sym, ap, subst, ◌∙◌}
 use Rattle.std.proofs.lemmas.Bool.{eq-eqb}
 use Rattle.osd_capability.specs.Keys.{key_of, check_of}
 use Rattle.osd_commands.specs.Commands.{head, fields}
@@ -14,12 +14,17 @@ use Rattle.world_history.specs.ServerNames.{Awaited, Drive}
 use Rattle.world_history.specs.Drives.{first_key}
 use Rattle.world_history.specs.State.{World, DriveAt, at_number}
 use Rattle.world_history.specs.History.{OneEventMore}
+use Rattle.world_history.specs.Plans.{due}
+use Rattle.world_history.specs.Sending.{Move, move}
+use Rattle.history_law.specs.BookMoments.{IsMoment, plan_at}
 use Rattle.party_law.specs.Keys.{HasItsKey, KeysAreKnown}
 use Rattle.party_law.proofs.Servers.{keys_for, known_keys}
 use Rattle.party_law.proofs.Moves.{keys_of}
-use Rattle.party_law.proofs.Keys.{Made, AreKnown, are_known}
+use Rattle.party_law.proofs.Keys.{Made, AreKnown, are_known, keys_stay}
+use Rattle.party_law.proofs.DrivesKnown.{known_same}
+use Rattle.party_law.proofs.Given.{KeepKeys}
 
-same_bytes : (xs : List ℕ) → pointwise nat_eq xs xs ≡ true
+pub same_bytes : (xs : List ℕ) → pointwise nat_eq xs xs ≡ true
 same_bytes [] = refl
 same_bytes (x ∷ xs) = rw (eq-eqb x x refl) (same_bytes xs)
 
@@ -56,6 +61,23 @@ key_known : (ds : List Drive) (d : ℕ) (key : List ℕ) → Some (first_key key
     → key_at ds d ≡ key
 unfolding key_at
 key_known ds d key e = known_as (find (λ (x : Drive). x.number == d) ds) key e
+
+-- so keys stay as the server has them
+found_keys : (o : Option Drive) → is_some o ≡ true → keys_for o ≡ Some (first_key (key_in o) ∷ [])
+found_keys None e = absurd (cc e)
+found_keys (Some x) e = refl
+
+pub keys_kept : (w : World) (h : List Line) (k : IsMoment w h) (m : Move) → due (plan_at k) w ≡ Some m.action
+    → AreKnown w h → KeepKeys w.server.drives (move w m).world.server.drives
+unfolding key_at
+keys_kept w h k m d a n e =
+    let has : known_keys w.server.drives n ≡ Some (first_key (key_at w.server.drives n) ∷ []) =
+    found_keys (find (λ (x : Drive). x.number == n) w.server.drives) e in
+    let then : known_keys (move w m).world.server.drives n ≡ Some (first_key (key_at w.server.drives n) ∷ []) =
+    keys_stay w h k a n (first_key (key_at w.server.drives n) ∷ []) has m.chosen m.action d in (
+      known_same w.server.drives (move w m).world.server.drives n (then ∙ sym has) e,
+      key_known (move w m).world.server.drives n (key_at w.server.drives n) (sym then),
+    )
 
 has_its_key : (w : World) (h : List Line) (d : ℕ) (a : DriveAt) → at_number w.drives d ≡ Some a → AreKnown w h
     → HasItsKey w h d a

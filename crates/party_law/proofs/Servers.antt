@@ -73,7 +73,7 @@ pick : (x y : Drive) (b : Bool) (o p : Option Drive) → x.key ≡ y.key → key
 pick x y true o p e f = ap (λ (k : List ℕ). Some (first_key k ∷ [])) e
 pick x y false o p e f = f
 
-offline_keys : (ds : List Drive) (drive d : ℕ) → known_keys (offline ds drive) d ≡ known_keys ds d
+pub offline_keys : (ds : List Drive) (drive d : ℕ) → known_keys (offline ds drive) d ≡ known_keys ds d
 unfolding offline
 offline_keys [] drive d = refl
 offline_keys (x ∷ ds) drive d = elim (cases_Bool (x.number == drive)) [
@@ -81,7 +81,7 @@ offline_keys (x ∷ ds) drive d = elim (cases_Bool (x.number == drive)) [
   | inr z ↦ rw z (pick _ x (x.number == d) _ _ refl (offline_keys ds drive d))
 ]
 
-zoned_keys : (ds : List Drive) (n z d : ℕ) → known_keys (put_in_zone ds n z) d ≡ known_keys ds d
+pub zoned_keys : (ds : List Drive) (n z d : ℕ) → known_keys (put_in_zone ds n z) d ≡ known_keys ds d
 unfolding put_in_zone
 zoned_keys [] n z d = refl
 zoned_keys (x ∷ ds) n z d = elim (cases_Bool (x.number == n)) [

@@ -29,12 +29,14 @@ use Rattle.exchange_law.specs.Meeting.{KeptGood, IsMet, IsFitting, Reads}
 use Rattle.exchange_law.proofs.HeldAsking.{IsOwn, IsItsGet, call_or_not, no_get_asked, none_told, found_last}
 use Rattle.exchange_law.proofs.HeldTelling.{gets_tells}
 use Rattle.party_law.specs.Listed.{IsOffline, ListsComponents}
-use Rattle.party_law.proofs.Given.{lists_on, taken_gives, taken_lists}
+use Rattle.party_law.proofs.DrivesKnown.{AllKnown, StandKnown, stands_known}
+use Rattle.party_law.proofs.Given.{KeepKeys, lists_on, taken_gives, taken_lists}
 use Rattle.party_law.proofs.Keeping.{IsAlike}
 use Rattle.party_law.proofs.Offline.{step_knows}
 use Rattle.party_law.proofs.ListedServing.{MayGive, serves_may}
 use Rattle.party_law.proofs.ListedSteps.{FewerAt, AllFewer, Did, step_did}
 use Rattle.move_law.specs.Files.{Quiet, Asked}
+use Rattle.move_law.proofs.Files.{in_at}
 
 -- where the server has a grant of client c on the file, these are its components
 abbrev pub ListsAt : Server → (c : ℕ) → (file : ℕ) → Held → Type 0
@@ -66,14 +68,14 @@ pub record Lists (s : Server) (c : ℕ) (hs : List Held) : Type 0 where
 abbrev StaysOut : Server → Server → Type 0
 StaysOut s t = (n : ℕ) → IsOffline s.drives n → IsOffline t.drives n
 
-fewer_lists : (s t : Server) (c file : ℕ) (h : Held) → StaysOut s t → AllFewer (IsOffline t.drives) s.files t.files
-    → ListsAt s c file h → ListsAt t c file h
-fewer_lists s t c file h stays all lists f g at has = by (all file f at)
+fewer_lists : (s t : Server) (c file : ℕ) (h : Held) → StaysOut s t → KeepKeys s.drives t.drives
+    → AllFewer (IsOffline t.drives) s.files t.files → ListsAt s c file h → ListsAt t c file h
+fewer_lists s t c file h stays keep all lists f g at has = by (all file f at)
   where
     by : FewerAt (IsOffline t.drives) s.files file f → ListsComponents t.drives f.kept g h.components
     by (inl (e, there, fewer)) =
         let x = fewer.grants c g has in
-        lists_on s.drives t.drives stays e.kept f.kept g h.components x.1 (lists e g there x.0)
+        lists_on s.drives t.drives stays keep e.kept f.kept g h.components x.1 (lists e g there x.0)
     by (inr none) = absurd (cc (ap (λ (gs : List Grant). grant_of gs c) (sym none) ∙ has))
 
 over : (s t : Server) (c : ℕ) (hs : List Held) → slot_of t.slots c ≡ slot_of s.slots c
@@ -83,11 +85,11 @@ over s t c hs same on k = record {
   helds = λ file h e. on file h (k.helds file h e);
 }
 
-quiet_lists : (s t : Server) (c : ℕ) (hs : List Held) → StaysOut s t
+quiet_lists : (s t : Server) (c : ℕ) (hs : List Held) → StaysOut s t → KeepKeys s.drives t.drives
     → AllFewer (IsOffline t.drives) s.files t.files → t.slots ≡ s.slots → Lists s c hs
     → Lists t c hs
-quiet_lists s t c hs stays all same k =
-    over s t c hs (ap (λ (ss : List Slot). slot_of ss c) same) (λ file h. fewer_lists s t c file h stays all) k
+quiet_lists s t c hs stays keep all same k =
+    over s t c hs (ap (λ (ss : List Slot). slot_of ss c) same) (λ file h. fewer_lists s t c file h stays keep all) k
 
 -- ---- what gives no layout
 
@@ -169,30 +171,33 @@ module _ (s : Server) (now : ℕ) (chosen : List ℕ) (q : ClientRequest) where
         old : q.file ≡ file → ((grant_of f.kept.grants c ≡ Some g) × IsAlike (IsOffline s.drives) f.kept v.going.file.kept)
             ⊎ ((c ≡ q.client) × (v.told.grant ≡ Some g)) → ListsComponents s.drives v.going.file.kept g h.components
         old same (inl has) =
-            lists_on s.drives s.drives (λ n o. o) f.kept v.going.file.kept g h.components has.1
+            lists_on s.drives s.drives (λ n o. o) (λ n e. (e, refl)) f.kept v.going.file.kept g h.components has.1
             (lists f g (subst (λ (n : ℕ). file_at s.files n ≡ Some f) same at) has.0)
         old same (inr new) = absurd (none same new.0 g new.1)
 
     -- its answer
-    told_lists : (o : Option Grant) → v.told.grant ≡ o → AllFitting t → (op : CallOp) (h : Held) → (a : Answer)
+    told_lists : (o : Option Grant) → v.told.grant ≡ o → AllFitting t → AllKnown t → (op : CallOp) (h : Held) → (a : Answer)
         → a.results ≡ result_with s.drives v.going.file.kept q.args v.told.status o → taken a op ≡ Ok h
         → ListsAt t q.client q.file h
-    told_lists None told fit op h a is took =
+    told_lists None told fit know op h a is took =
         let ok = taken_gives a op h took in
         absurd (none_given q.args v.told.status ok.0 (sym is ∙ ok.1))
-    told_lists (Some g) told fit op h a is took = λ e g2 found grant.
+    told_lists (Some g) told fit know op h a is took = λ e g2 found grant.
         let it : v.going.file ≡ e = is_it e found in
         let has = told_found (at_file s chosen f) s.next_grant s.format now q.client q.args g told in
         let mine : grant_of v.going.file.kept.grants q.client ≡ Some g2 =
         ap (λ (y : File). grant_of y.kept.grants q.client) it ∙ grant in
         let same : g ≡ g2 = cc (sym has ∙ mine) in
         let its = fit q.file v.going.file there in
+        let on : StandKnown s.drives v.going.file.kept.components =
+        (know v.going.file (in_at t.files q.file v.going.file there)).0 in
         subst (λ (y : Grant). ListsComponents s.drives e.kept y h.components) same
         (subst (λ (y : File). ListsComponents s.drives y.kept g h.components) it
-        (taken_lists s.drives v.going.file.kept g a op h is its.drives (its.fits q.client g has) took))
+        (taken_lists s.drives v.going.file.kept g a op h is its.drives
+        (stands_known s.drives v.going.file.kept.components on) (its.fits q.client g has) took))
 
-    answer_lists : AllFitting t → AnswerLists t q.client (answer_with s q v)
-    answer_lists fit op h took = told_lists v.told.grant refl fit op h (answer_with s q v) refl took
+    answer_lists : AllFitting t → AllKnown t → AnswerLists t q.client (answer_with s q v)
+    answer_lists fit know op h took = told_lists v.told.grant refl fit know op h (answer_with s q v) refl took
 
   -- ---- the client's own
 
@@ -229,18 +234,19 @@ module _ (s : Server) (now : ℕ) (chosen : List ℕ) (q : ClientRequest) where
         absurd (none_given q.args (no_file q.args) ok.0 ok.1)
 
     own_lists : (o : Option File) → file_at s.files q.file ≡ o → AllFitting (carries_out s now chosen q o).state
-        → Lists s q.client x.held → Lists (carries_out s now chosen q o).state q.client x.held
-    own_lists None at fit l = record {
+        → AllKnown (carries_out s now chosen q o).state → Lists s q.client x.held
+        → Lists (carries_out s now chosen q o).state q.client x.held
+    own_lists None at fit know l = record {
       slot = λ slot has.
           subst (AnswerLists (keeps s (answer_without q)) q.client)
           (kept_is (keeps s (answer_without q)) (answer_without q) refl slot has)
           (without_lists (keeps s (answer_without q)));
       helds = λ file h e. l.helds file h e;
     }
-    own_lists (Some f) at fit l = record {
+    own_lists (Some f) at fit know l = record {
       slot = λ slot has.
           subst (AnswerLists (t f at) q.client) (kept_is (t f at) (answer_with s q (v f at)) refl slot has)
-          (answer_lists f at fit);
+          (answer_lists f at fit know);
       helds = λ file h e.
           on_lists f at q.client file h (λ same mine g told. not_given f file h g same e told) (l.helds file h e);
     }
@@ -266,33 +272,37 @@ module _ (s : Server) (now : ℕ) (chosen : List ℕ) (q : ClientRequest) where
 
 admitted : (s : Server) (now : ℕ) (chosen : List ℕ) (q : ClientRequest) (a : Admit) (c : ℕ) (x : Client)
     → admit (slot_of s.slots q.client) q.sequence ≡ a → IsMet s c x → AllFitting (by_admit s now chosen q a).state
+    → AllKnown (by_admit s now chosen q a).state
     → (q.client ≡ c → admit (slot_of s.slots c) q.sequence ≡ New → (r : Request) × (x.outstanding ≡ Some r) × Reads q r)
     → Lists s c x.held → Lists (by_admit s now chosen q a).state c x.held
-admitted s now chosen q (Again kept) c x e k fit own l = l
-admitted s now chosen q (Misordered expected) c x e k fit own l = l
-admitted s now chosen q New c x e k fit own l = elim (cases_eq q.client c) [
+admitted s now chosen q (Again kept) c x e k fit know own l = l
+admitted s now chosen q (Misordered expected) c x e k fit know own l = l
+admitted s now chosen q New c x e k fit know own l = elim (cases_eq q.client c) [
   | inl same ↦
       let mine = own same (subst (λ (n : ℕ). admit (slot_of s.slots n) q.sequence ≡ New) same e) in
       subst (λ (n : ℕ). Lists (carries_out s now chosen q (file_at s.files q.file)).state n x.held) same
       (own_lists s now chosen q x mine.0 mine.1 mine.2 (subst (λ (n : ℕ). IsMet s n x) (sym same) k)
-      (file_at s.files q.file) refl fit (subst (λ (n : ℕ). Lists s n x.held) (sym same) l))
+      (file_at s.files q.file) refl fit know (subst (λ (n : ℕ). Lists s n x.held) (sym same) l))
   | inr other ↦
       others_lists s now chosen q c x.held (ne_eqb q.client c other) (file_at s.files q.file) refl l
 ]
 
 did_lists : (s : Server) (chosen : List ℕ) (i : Input) (c : ℕ) (x : Client) → Did s chosen i (step s chosen i)
-    → AllFitting (step s chosen i).state → IsOwn s c x i → IsMet s c x → Lists s c x.held
+    → AllFitting (step s chosen i).state → AllKnown (step s chosen i).state
+    → KeepKeys s.drives (step s chosen i).state.drives → IsOwn s c x i → IsMet s c x → Lists s c x.held
     → Lists (step s chosen i).state c x.held
 unfolding on_request
-did_lists s chosen i c x (Quiet all same) fit own k l = quiet_lists s (step s chosen i).state c x.held (step_knows s chosen i) all same l
-did_lists s chosen i c x (Asked now q is done) fit own k l =
+did_lists s chosen i c x (Quiet all same) fit know keep own k l =
+    quiet_lists s (step s chosen i).state c x.held (step_knows s chosen i) keep all same l
+did_lists s chosen i c x (Asked now q is done) fit know keep own k l =
     subst (λ (t : _). Lists t.state c x.held) (sym done)
     (admitted s now chosen q (admit (slot_of s.slots q.client) q.sequence) c x refl k
-    (subst (λ (t : _). AllFitting t.state) done fit)
+    (subst (λ (t : _). AllFitting t.state) done fit) (subst (λ (t : _). AllKnown t.state) done know)
     (λ same new. own now q (is.is ∙ ap (λ (n : ℕ). Hears now (FromClient n) (Asks q)) same) same
     (subst (λ (n : ℕ). n ≤ MAX_CLIENT) same is.named) new) l)
 
 pub step_lists : (s : Server) (chosen : List ℕ) (i : Input) (c : ℕ) (x : Client) → AreSafe s.files
-    → AllFitting (step s chosen i).state → IsOwn s c x i → IsMet s c x → Lists s c x.held
+    → AllFitting (step s chosen i).state → AllKnown (step s chosen i).state
+    → KeepKeys s.drives (step s chosen i).state.drives → IsOwn s c x i → IsMet s c x → Lists s c x.held
     → Lists (step s chosen i).state c x.held
-step_lists s chosen i c x safe fit own k l = did_lists s chosen i c x (step_did s chosen i safe) fit own k l
+step_lists s chosen i c x safe fit know keep own k l = did_lists s chosen i c x (step_did s chosen i safe) fit know keep own k l

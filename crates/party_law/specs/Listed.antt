@@ -1,10 +1,12 @@
 -- What a client lists, beside the components that the server has now.
-use Rattle.std.specs.Prelude.{◌≡◌, ◌==◌, ◌&&◌, not, ℕ, Bool, true, false, if◌then◌else◌, List, [], ◌∷◌, length, slice_get, Some, None}
+use Rattle.std.specs.Prelude.{◌≡◌, ◌==◌, ◌&&◌, not, ℕ, Bool, true, false, if◌then◌else◌, List, [], ◌∷◌, length, slice_get, find, is_some, Some, None}
+use Rattle.osd_capability.specs.Keys.{key_of}
 use Rattle.scenario_text.specs.declared.line.Line.{Line}
 use Rattle.world_history.specs.ClientNames.{Credential, Listed, Held}
 use Rattle.world_history.specs.ServerNames.{Component, Drive, File, Grant, Kept}
 use Rattle.world_history.specs.State.{World, at_number}
 use Rattle.client_rules.specs.Grants.{held_of}
+use Rattle.server_rules.specs.Commands.{key_at}
 use Rattle.server_rules.specs.Files.{file_at}
 use Rattle.server_rules.specs.Grants.{grant_of}
 use Rattle.server_rules.specs.Layouts.{capability_for, object_of}
@@ -12,10 +14,18 @@ use Rattle.history_law.specs.BookMoments.{IsMoment}
 use Rattle.exchange_law.specs.InStep.{state_of}
 use Rattle.exchange_law.specs.Meeting.{IsReadableThrough}
 
--- the credential is for component k of the file under the grant
-pub record IsCredentialFor (f : Kept) (g : Grant) (at : Component) (k : ℕ) (c : Credential) : Type 0 where
-  pub drive : c.drive ≡ at.drive
-  pub capability : c.capability ≡ capability_for f g at k
+-- the server knows a drive with this number
+abbrev pub IsKnown : List Drive → (drive : ℕ) → Type 0
+IsKnown ds n = is_some (find (λ (d : Drive). d.number == n) ds) ≡ true
+
+-- The credential is for component k of the file under the grant. Its key is the one that the server makes of the key of the
+-- component's drive, which it knows.
+pub record IsCredentialFor (ds : List Drive) (f : Kept) (g : Grant) (at : Component) (k : ℕ) (c : Credential) : Type 0
+  where
+    pub drive : c.drive ≡ at.drive
+    pub capability : c.capability ≡ capability_for f g at k
+    pub known : IsKnown ds at.drive
+    pub key : c.key ≡ key_of (key_at ds at.drive) (capability_for f g at k)
 
 -- a drive with this number is offline
 unfoldable pub is_offline : (drive : ℕ) → List Drive → Bool
@@ -29,7 +39,7 @@ IsOffline ds n = is_offline n ds ≡ true
 -- missing, its drive is offline
 pub record ListsComponent (ds : List Drive) (f : Kept) (g : Grant) (at : Component) (k : ℕ) (l : Listed) : Type 0 where
   pub object : l.id ≡ object_of at
-  pub credential : (c : Credential) → l.credential ≡ Some c → IsCredentialFor f g at k c
+  pub credential : (c : Credential) → l.credential ≡ Some c → IsCredentialFor ds f g at k c
   pub missing : l.credential ≡ None → at.missing ≡ true
   pub gone : (c : Credential) → l.credential ≡ Some c → at.missing ≡ true → IsOffline ds at.drive
 

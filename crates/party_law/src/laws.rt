@@ -38,14 +38,15 @@ pub fn sizes_agree()
 }
 
 /// At each moment of a history in which what is said between clients and the server fits its places: where a client
-/// holds a file and the server has a grant of it there, the client lists each component with the drive, the object and
-/// the capability that the server has for it now, and lists none without a credential but those that are missing. One
-/// that is missing now, and was listed with a credential, stands on a drive that the server has offline.
+/// holds a file and the server has a grant of it there, the client lists each component with the drive, the object, the
+/// capability and the key that the server has for it now, and lists none without a credential but those that are missing.
+/// One that is missing now, and was listed with a credential, stands on a drive that the server has offline.
 pub fn components_agree()
     ensures { ComponentsAgree }
 {
     slots_are_kept();
     one_event_more();
+    parties_run();
     grants_are_safe();
     answers_are_own();
     clients_agree();

@@ -20,9 +20,9 @@ use Rattle.file_simulation.specs.EventLists.{where_so}
 use Rattle.file_simulation.specs.Phases.{OutstandingIs, IsStill, IsEnded, IsFencing, IsRepairing, PhaseIs, AreBelowHigh}
 use Rattle.file_simulation.specs.ServerEvents.{begins_fence, fences}
 use Rattle.relation_law.specs.KeptSteps.{core, IsSoFar, IsKeptAt}
-use Rattle.relation_law.specs.KeptWalk.{IsWalked}
+use Rattle.sent_law.specs.KeptWalk.{IsWalked}
 use Rattle.relation_law.proofs.KeptHigh.{high_after}
-use Rattle.relation_law.proofs.KeptJobs.{ends_fence}
+use Rattle.sent_law.proofs.KeptJobs.{ends_fence}
 
 -- ---- in and out of a step
 

@@ -27,8 +27,8 @@ use Rattle.data_map.specs.declared.ranges.TheConstants.{MAX_FILE_SIZE}
 use Rattle.relation_law.proofs.KeptOpens.{none_shows}
 use Rattle.relation_law.specs.KeptGets.{GetsAs, Refused, Given_}
 use Rattle.relation_law.specs.KeptSteps.{notes_events, behind_notes, IsSoFar, IsKeptAt, IsDone}
-use Rattle.relation_law.specs.KeptWalk.{IsWalked, FileFits, JobFits}
-use Rattle.relation_law.proofs.KeptJobs.{fence_by}
+use Rattle.sent_law.specs.KeptWalk.{IsWalked, FileFits, JobFits}
+use Rattle.sent_law.proofs.KeptJobs.{fence_by}
 use Rattle.relation_law.proofs.KeptNotes.{AreSupplied, IsBehind, walked}
 use Rattle.relation_law.proofs.KeptEnds.{so_far_from, begins_so_far, fence_shows}
 use Rattle.relation_law.proofs.KeptRounds.{begun, done}

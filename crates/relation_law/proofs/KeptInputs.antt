@@ -30,12 +30,13 @@ use Rattle.fence_law.proofs.Safe.{Safe, safe_all}
 use Rattle.file_simulation.specs.EventLists.{where_so}
 use Rattle.file_simulation.specs.ServerEvents.{begins_fence, fences, declared_from}
 use Rattle.relation_law.specs.KeptSteps.{AllLight, notes_events, IsSoFar, IsKeptAt, GoesAs, IsDone, first_of, HearsNoOrder}
-use Rattle.relation_law.specs.KeptWalk.{FileFits}
-use Rattle.relation_law.proofs.KeptJobs.{ends_making}
+use Rattle.sent_law.specs.KeptWalk.{FileFits}
+use Rattle.sent_law.proofs.KeptJobs.{ends_making}
 use Rattle.relation_law.proofs.KeptNotes.{AreSupplied, IsBehind, walked}
 use Rattle.relation_law.proofs.KeptEnds.{so_far_from, kept_from, begins_so_far}
 use Rattle.relation_law.proofs.KeptRounds.{Quiet, quiet_walked, begun, done, goes_as}
-use Rattle.relation_law.proofs.KeptOpens.{IsIdle, has_to_fence, ends_opens, opening_fences, opening_shows, opened_round}
+use Rattle.sent_law.proofs.KeptOpening.{IsIdle, has_to_fence, ends_opens}
+use Rattle.relation_law.proofs.KeptOpens.{opening_fences, opening_shows, opened_round}
 use Rattle.relation_law.proofs.KeptServer.{IsReady, light_first, HasNumber, number_walked, Makes_, quiet_goes, stays_goes, answered_goes, starts_goes, recalls_goes, known_goes}
 
 -- what isn't a client's request

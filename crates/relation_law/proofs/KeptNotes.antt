@@ -17,7 +17,7 @@ use Rattle.file_simulation.specs.EventLists.{where_so}
 use Rattle.file_simulation.specs.Phases.{IsFencing, IsRepairing, PhaseIs, IsEndedAt, AreBelowHigh}
 use Rattle.file_simulation.specs.ServerEvents.{noted, noted_here, lacks_space, reported, asker}
 use Rattle.relation_law.specs.KeptSteps.{AllLight, notes_events, behind_notes, core, IsSoFar}
-use Rattle.relation_law.specs.KeptWalk.{is_plain, noted_of, IsWalked}
+use Rattle.sent_law.specs.KeptWalk.{is_plain, noted_of, IsWalked}
 use Rattle.relation_law.proofs.KeptHigh.{high_after}
 use Rattle.relation_law.proofs.KeptLight.{so_far_light, so_far_alike}
 

@@ -1,32 +1,26 @@
 -- The opening of a server: what the machine of one file has behind it.
 -- Towards `KeptGoesOn` (`specs/Steps.antt`).
-use Rattle.std.proofs.Common.{◌≡◌, ◌==◌, ◌&&◌, ◌||◌, ℕ, Bool, true, false, not, nat_lt, length, List, [], ◌∷◌, Some, None, refl, sym, ap, subst, ◌∙◌, inl, inr}
-use Rattle.std.proofs.lemmas.Bool.{true≢false, cases_Bool, eqb-true, eq-eqb, eqb-false}
+use Rattle.std.proofs.Common.{◌≡◌, ◌==◌, ◌&&◌, ◌||◌, ℕ, Bool, true, false, not, List, [], ◌∷◌, Some, refl, sym, ap, subst, ◌∙◌, inl, inr, nat_lt, length}
+use Rattle.std.proofs.lemmas.Bool.{cases_Bool, eqb-true, eq-eqb, eqb-false, true≢false}
 use Rattle.std.proofs.lemmas.List.{append-nil}
 use Rattle.server_rules.specs.declared.limits.TheConstants.{GREATEST_TAG}
 use Rattle.sent_law.specs.Tagged.{is_fence, fence_open}
 use Rattle.server_rules.specs.Files.{file_at}
 use Rattle.server_rules.specs.Going.{Going}
 use Rattle.server_rules.specs.History.{Input}
-use Rattle.server_rules.specs.Jobs.{ending}
 use Rattle.server_rules.specs.Openings.{is_unsettled, opens_made, opens_fenced, opens, opens_each}
 use Rattle.calm_law.specs.Words.{Each}
 use Rattle.calm_law.specs.Performing.{AreDistinct}
-use Rattle.world_history.specs.ServerNames.{File, Kept, Phase, Still, Fencing, Repairing, FencingAgain, Note, Spent, Effects, Drive, Revoking}
+use Rattle.world_history.specs.ServerNames.{File, Kept, Still, Note, Effects, Drive, Revoking, Phase, Fencing, Repairing, FencingAgain}
 use Rattle.world_history.specs.State.{World}
 use Rattle.fence_law.specs.State.{State, Event}
 use Rattle.file_simulation.specs.ServerEvents.{begins_fence}
 use Rattle.relation_law.specs.KeptSteps.{notes_events}
-use Rattle.relation_law.specs.KeptWalk.{IsWalked}
-use Rattle.relation_law.proofs.KeptJobs.{Own, End, ends_fence, ends_opened}
+use Rattle.sent_law.specs.KeptWalk.{IsWalked}
+use Rattle.sent_law.proofs.KeptJobs.{ends_opened}
 use Rattle.relation_law.proofs.KeptEnds.{fence_shows}
 use Rattle.relation_law.proofs.KeptRounds.{IsFrom, Quiet, quiet_walked, AllOther, HasGone, AddsNone, front_is, behind_is}
-
--- ---- a file is opened
-
--- no job of it runs, as behind a crash
-abbrev pub IsIdle : File → Type 0
-IsIdle x = x.job ≡ None
+use Rattle.sent_law.proofs.KeptOpening.{IsIdle, has_to_fence, ends_opens}
 
 -- what has nothing to fence is still
 settled : (k : Kept) (p : Phase) → k.phase ≡ p → is_unsettled k ≡ false → k.phase ≡ Still
@@ -46,26 +40,6 @@ settled k FencingAgain is u = absurd (flag (nat_lt 0 (length k.grants)) (rw is a
     flag : (b : Bool) → (b || true) ≡ false → ⊥
     flag true e = true≢false e
     flag false e = true≢false e
-
--- it has something to fence, and its tag isn't spent
-abbrev pub has_to_fence : Kept → Bool
-has_to_fence k = is_unsettled k && not (k.tag == GREATEST_TAG)
-
-module _ (Q : Kept → List Note → Type 0) (w : IsWalked Q) where
-  -- Q has to last where no fence begins, and where grants are ended.
-  pub ends_opens : (format : ℕ) (g : Going) → g.file.job ≡ None → (has_to_fence g.file.kept ≡ false → Own Q w g)
-      → (has_to_fence g.file.kept ≡ true → Q (ending g.file.kept format) g.effects.notes) → End Q w (opens format g)
-  unfolding opens opens_fenced
-  ends_opens format g idle h fences = elim (cases_Bool (is_unsettled g.file.kept)) [
-    | inl u ↦ elim (cases_Bool (g.file.kept.tag == GREATEST_TAG)) [
-      | inl e ↦
-          rw (u, e) (w.plain g.file.kept g.effects.notes Spent refl (h (rw (u, e) refl)), rw idle (λ s. absurd (true≢false s)))
-      | inr e ↦ rw (u, e) (ends_fence Q w Revoking format g (fences (rw (u, e) refl)))
-    ]
-    | inr u ↦
-        rw u (ends_opened Q w g g.file.kept.ready
-        (settled g.file.kept g.file.kept.phase refl u, h (rw u refl)))
-  ]
 
 module _ (w : World) (f : File) (i : Input) where
   module _ (t : State) (base : List Note) (es : List Event) (format : ℕ) (ds : List Drive) where

@@ -30,10 +30,10 @@ use Rattle.sent_law.proofs.StandRuns.{IsAt, starts}
 use Rattle.fence_law.specs.State.{State}
 use Rattle.file_simulation.specs.ServerEvents.{is_served}
 use Rattle.relation_law.specs.KeptAsked.{AsksRightly}
-use Rattle.relation_law.specs.KeptWalk.{FileFits}
-use Rattle.relation_law.proofs.KeptFits.{FitsBy, fits_run}
+use Rattle.sent_law.specs.KeptWalk.{FileFits}
+use Rattle.sent_law.proofs.KeptFits.{FitsBy, fits_run}
 use Rattle.relation_law.proofs.KeptInputs.{IsIdleAt, FitsAt}
-use Rattle.relation_law.proofs.KeptOpens.{IsIdle}
+use Rattle.sent_law.proofs.KeptOpening.{IsIdle}
 use Rattle.relation_law.proofs.KeptOrders.{no_order_is_heard}
 use Rattle.relation_law.proofs.KeptWhole.{IsServed}
 

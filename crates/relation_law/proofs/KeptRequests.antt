@@ -31,8 +31,8 @@ use Rattle.file_simulation.specs.Events.{joined}
 use Rattle.file_simulation.specs.ServerEvents.{answer_of, served_here, is_served, answered_here, answered_to, sends_all, notes_all, at_first, server_goes}
 use Rattle.relation_law.specs.KeptAsked.{AsksAs, AsksRightly}
 use Rattle.relation_law.specs.KeptSteps.{AllLight, notes_events, behind_notes, IsKeptAt}
-use Rattle.relation_law.specs.KeptWalk.{IsWalked, FileFits}
-use Rattle.relation_law.proofs.KeptJobs.{ends_fence}
+use Rattle.sent_law.specs.KeptWalk.{IsWalked, FileFits}
+use Rattle.sent_law.proofs.KeptJobs.{ends_fence}
 use Rattle.relation_law.proofs.KeptNotes.{AreSupplied, lawful_supplies, after_both, lawful_front, lawful_back}
 use Rattle.relation_law.proofs.KeptLines.{drives_none, recalls_none, answer_alone, notes_joined}
 use Rattle.relation_law.proofs.KeptMoves.{later_kept}

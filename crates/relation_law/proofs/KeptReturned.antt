@@ -30,8 +30,8 @@ use Rattle.file_simulation.specs.EventLists.{where_so, entry_of}
 use Rattle.file_simulation.specs.ServerEvents.{fences, returned, answered_here, noted, noted_here, reported, asker, lacks_space, cells_made}
 use Rattle.relation_law.specs.KeptAsked.{AsksAs, ReturnIs, IsClean, IsNothing, IsBroken, IsReport}
 use Rattle.relation_law.specs.KeptSteps.{AllLight, notes_events, behind_notes, IsSoFar, IsKeptAt, IsDone}
-use Rattle.relation_law.specs.KeptWalk.{AreAlike, is_plain, noted_of}
-use Rattle.relation_law.proofs.KeptJobs.{ends_fence}
+use Rattle.sent_law.specs.KeptWalk.{AreAlike, is_plain, noted_of}
+use Rattle.sent_law.proofs.KeptJobs.{ends_fence}
 use Rattle.relation_law.proofs.KeptHigh.{high_after}
 use Rattle.relation_law.proofs.KeptLight.{so_far_light}
 use Rattle.relation_law.proofs.KeptNotes.{AreSupplied, IsBehind, walked, events_more, after_both, lawful_front, lawful_back}

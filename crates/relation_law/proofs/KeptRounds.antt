@@ -16,8 +16,8 @@ use Rattle.fence_law.specs.State.{State, Event}
 use Rattle.fence_law.specs.Machine.{Lawful, after_all}
 use Rattle.file_simulation.specs.ServerEvents.{noted}
 use Rattle.relation_law.specs.KeptSteps.{notes_events, behind_notes, IsSoFar, IsKeptAt, GoesAs, IsDone}
-use Rattle.relation_law.specs.KeptWalk.{noted_of, IsWalked, FileFits}
-use Rattle.relation_law.proofs.KeptJobs.{ends_declares}
+use Rattle.sent_law.specs.KeptWalk.{noted_of, IsWalked, FileFits}
+use Rattle.sent_law.proofs.KeptJobs.{ends_declares}
 use Rattle.relation_law.proofs.KeptNotes.{events_more, AreSupplied, IsBehind}
 use Rattle.relation_law.proofs.KeptEnds.{kept_from}
 

@@ -29,8 +29,8 @@ use Rattle.fence_law.proofs.Safe.{Safe, safe_all}
 use Rattle.file_simulation.specs.EventLists.{where_so}
 use Rattle.file_simulation.specs.ServerEvents.{begins_fence, fences, declared_from, noted_here}
 use Rattle.relation_law.specs.KeptSteps.{AllLight, notes_events, IsKeptAt, GoesAs, IsDone, first_of}
-use Rattle.relation_law.specs.KeptWalk.{IsWalked, FileFits}
-use Rattle.relation_law.proofs.KeptJobs.{ends_hears, ends_declares, ends_fence}
+use Rattle.sent_law.specs.KeptWalk.{IsWalked, FileFits}
+use Rattle.sent_law.proofs.KeptJobs.{ends_hears, ends_declares, ends_fence}
 use Rattle.relation_law.proofs.KeptLight.{so_far_light}
 use Rattle.relation_law.proofs.KeptNotes.{AreSupplied, IsBehind, walked, both_light, where_light}
 use Rattle.relation_law.proofs.KeptEnds.{so_far_from, kept_from, begins_so_far, fence_shows}

@@ -48,7 +48,6 @@ pub mod RequestsLawful
 pub mod RequestsMay
 pub mod RequestsServing
 pub mod KeptHigh
-pub mod KeptJobs
 pub mod KeptEnds
 pub mod KeptLight
 pub mod KeptNotes
@@ -60,7 +59,6 @@ pub mod KeptReturns
 pub mod KeptServer
 pub mod KeptAsked
 pub mod KeptCommitted
-pub mod KeptFits
 pub mod KeptInputs
 pub mod KeptLines
 pub mod KeptMoves

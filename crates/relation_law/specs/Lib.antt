@@ -2,7 +2,6 @@ pub mod Steps
 pub mod Pending
 pub mod DriveHearing
 pub mod Frames
-pub mod KeptWalk
 pub mod KeptHigh
 pub mod KeptSteps
 pub mod CallsFrames

@@ -39,8 +39,8 @@ use Rattle.file_simulation.specs.Claim.{IsOfScenario}
 use Rattle.file_simulation.specs.Components.{has_failed, is_lost_in, AreComponents}
 use Rattle.file_simulation.specs.Jobs.{AreOwned}
 use Rattle.file_simulation.specs.Messages.{HasCommanded}
-use Rattle.relation_law.specs.KeptWalk.{WorkFits, JobFits}
-use Rattle.relation_law.proofs.KeptFits.{FitsBy}
+use Rattle.sent_law.specs.KeptWalk.{WorkFits, JobFits}
+use Rattle.sent_law.proofs.KeptFits.{FitsBy}
 use Rattle.relation_law.proofs.KeptReady.{IsFit, fit_at}
 use Rattle.repair_law.specs.Awaiting.{FitsIn}
 use Rattle.repair_law.specs.Hearing.{TellsOfWrite}

@@ -53,7 +53,7 @@ use Rattle.file_simulation.specs.Claim.{IsOfScenario}
 use Rattle.file_simulation.specs.Components.{has_failed, AreComponents}
 use Rattle.file_simulation.specs.Jobs.{IsFresh, AreOwned, IsInPiece, IsOfPhase, IsOfJob, IsOfWork}
 use Rattle.file_simulation.specs.Messages.{HasCommanded}
-use Rattle.relation_law.specs.KeptWalk.{WorkFits}
+use Rattle.sent_law.specs.KeptWalk.{WorkFits}
 use Rattle.relation_law.specs.Steps.{FollowsWhole, whole_behind}
 use Rattle.relation_law.proofs.ComponentsRaised.{behind_file}
 use Rattle.relation_law.proofs.ComponentsWorld.{laid_out}

@@ -15,7 +15,7 @@ use Rattle.server_rules.specs.Numbers.{among}
 use Rattle.job_law.specs.Names.{File, Phase, Still, Fencing, Repairing, FencingAgain, Component, Awaited, Heard, Piece, Target, Job, JobKind, Revoking, Work, Creates, Fences, Fetches, Stores, Targets, Gathers, Fills, Lengths, Checks}
 use Rattle.sent_law.specs.Objects.{target_in, target_of}
 use Rattle.sent_law.specs.Tagged.{is_fence}
-use Rattle.relation_law.specs.KeptWalk.{WorkFits}
+use Rattle.sent_law.specs.KeptWalk.{WorkFits}
 use Rattle.file_simulation.specs.Jobs.{IsInPiece, IsOfWork, IsOfJob, IsOfPhase}
 use Rattle.repair_law.specs.Owning.{Coming, IsOld, AreOfPhase, IsReady}
 use Rattle.repair_law.proofs.Walk.{AtFence, place_behind, lost_place, broken, waits_for, walk_fence, walk_making, walk_waits, walk_loses}

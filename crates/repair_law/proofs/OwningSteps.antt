@@ -24,7 +24,7 @@ use Rattle.job_law.specs.Names.{Server, File, Still, Repairing, Component, Await
 use Rattle.job_law.proofs.Asking.{in_lost_on}
 use Rattle.job_law.proofs.Hearing.{found_in}
 use Rattle.sent_law.specs.Objects.{target_in, target_of}
-use Rattle.relation_law.specs.KeptWalk.{WorkFits}
+use Rattle.sent_law.specs.KeptWalk.{WorkFits}
 use Rattle.relation_law.proofs.DriveMoves.{got_in}
 use Rattle.file_simulation.specs.Jobs.{IsInPiece, IsOfWork, IsOfPhase}
 use Rattle.repair_law.specs.Awaiting.{IsStore, IsAskedIn, FitsIn}

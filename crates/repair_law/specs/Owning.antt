@@ -12,7 +12,7 @@ use Rattle.calm_law.specs.Performing.{AreDistinct}
 use Rattle.sent_law.specs.Objects.{target_of}
 use Rattle.job_law.specs.Numbered.{Awaits, IsOf}
 use Rattle.world_history.specs.ServerNames.{Server, File, Component, Awaited, Target, Job, Note, Fenced, ToDrive}
-use Rattle.relation_law.specs.KeptWalk.{WorkFits}
+use Rattle.sent_law.specs.KeptWalk.{WorkFits}
 use Rattle.file_simulation.specs.Jobs.{IsOfPhase}
 use Rattle.repair_law.specs.Awaiting.{FitsIn}
 

@@ -29,3 +29,6 @@ pub mod BirthEvery
 pub mod BirthRuns
 pub mod Doing
 pub mod Moments
+pub mod KeptJobs
+pub mod KeptOpening
+pub mod KeptFits

@@ -26,9 +26,9 @@ use Rattle.move_law.proofs.Files.{put_each, add_each, crashed_each, declared_eac
 use Rattle.world_history.specs.ServerNames.{Server, File, Kept, Grant, Note, Job, Revoking, Component, Reported, ClientRequest, RequestArgs, Get as Gets, Commit as Commits_, Return as Returns}
 use Rattle.sent_law.specs.Turns.{in_turn, AreInTurn, down_after}
 use Rattle.sent_law.proofs.StandRuns.{IsAt, goes_on, room_before}
-use Rattle.relation_law.specs.KeptWalk.{IsWalked, FileFits}
-use Rattle.relation_law.proofs.KeptJobs.{ends_hears, ends_declares, ends_fence, ends_making}
-use Rattle.relation_law.proofs.KeptOpens.{IsIdle, ends_opens}
+use Rattle.sent_law.specs.KeptWalk.{IsWalked, FileFits}
+use Rattle.sent_law.proofs.KeptJobs.{ends_hears, ends_declares, ends_fence, ends_making}
+use Rattle.sent_law.proofs.KeptOpening.{IsIdle, ends_opens}
 
 -- ---- nothing is asked but that
 

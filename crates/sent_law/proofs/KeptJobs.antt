@@ -15,7 +15,7 @@ use Rattle.server_rules.specs.Standing.{lose_from, lose_on, any_on}
 use Rattle.server_rules.specs.Columns.{end_of}
 use Rattle.std.specs.Prelude.{replicate}
 use Rattle.world_history.specs.ServerNames.{Kept, Phase, Still, Fencing, Repairing, FencingAgain, Note, NoteKind, Ready, Fenced, NoDrive, NoSpace, Rebuilt, Job, JobKind, Making, Revoking, Rebuilding, Auditing, Work, Creates, Fences, Fetches, Stores, Targets, Gathers, Fills, Lengths, Checks, Awaited, Heard, Piece, Target, Tally, Component, Reply}
-use Rattle.relation_law.specs.KeptWalk.{WorkFits, JobFits, FileFits, is_plain, IsWalked}
+use Rattle.sent_law.specs.KeptWalk.{WorkFits, JobFits, FileFits, is_plain, IsWalked}
 
 module _ (Q : Bool → Kept → List Note → Type 0) (w : (spent : Bool) → IsWalked (Q spent)) where
   -- in the middle of a step
