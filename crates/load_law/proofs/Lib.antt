@@ -1,0 +1,8 @@
+mod Lists
+mod Columns
+mod Cut
+mod Plans
+mod Asking
+mod Probes
+mod Writes
+mod Runs

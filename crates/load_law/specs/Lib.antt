@@ -1,0 +1,2 @@
+pub mod ClientState
+pub mod Load
