@@ -55,3 +55,5 @@ mod Watching
 mod MoveNotes
 pub mod MoveFacts
 mod Giving
+pub mod MadeLines
+pub mod OnDrives

@@ -20,3 +20,4 @@ pub mod Sightings
 pub mod Steps
 pub mod Moving
 pub mod Watching
+pub mod OnDrives

@@ -18,6 +18,7 @@ ghost use Rattle.calm_law.specs.Steps.{StepsTell};
 ghost use Rattle.calm_law.specs.Told.{LossesAreTold};
 ghost use Rattle.calm_law.specs.Moving.{EventFollows, MoveFollows, MovesGive};
 ghost use Rattle.calm_law.specs.Watching.{WatchesEvent, WatchesNothing};
+ghost use Rattle.calm_law.specs.OnDrives.{ComponentsStandApart};
 
 use history_law::{book_is_read, drives_are_read, parties_run, server_moves, step_is_read};
 use server_rules::files_are_put;
@@ -131,6 +132,15 @@ pub fn each_step_is_apart()
 pub fn components_apart()
     ensures { ComponentsApart }
 {}
+
+/// At each moment of a lawful history whose events lines can name, the components of each file, present or missing,
+/// stand on different drives, and where a rebuild makes one anew it does so on a further drive.
+pub fn components_stand_apart()
+    ensures { ComponentsStandApart }
+{
+    each_step_is_sound();
+    each_step_is_apart();
+}
 
 /// At each moment, where a step of the server sends an answer that takes a loss, the lines of its messages say so: the
 /// answer is for a client that a line can name, and is read from its bytes as one that takes a loss.

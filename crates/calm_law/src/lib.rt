@@ -11,7 +11,8 @@
 mod laws;
 
 pub use laws::{
-    begin_is_seen, calm_is_followed, calm_is_kept, components_apart, declared_have_failed,
+    begin_is_seen, calm_is_followed, calm_is_kept, components_apart,
+    components_stand_apart, declared_have_failed,
     each_step_is_apart, each_step_is_sound, each_step_raises_tags, each_step_tells,
     each_step_tells_tags, files_are_kept, log_is_kept, losses_are_told, marks_are_kept,
     moves_follow, moves_give, moves_show_files, pending_is_read, seen_is_sound,
