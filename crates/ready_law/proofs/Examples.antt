@@ -11,10 +11,11 @@ use Rattle.stripe_plan.specs.Touched.{stripes, own, touches, columns, columns_be
 use Rattle.stripe_plan.specs.Asks.{own_columns, changed, without, without_each, asks_each, asks_place, asks_stripe, asks}
 use Rattle.client_rules.specs.Grants.{held_of, covers, is_for, covers_read}
 use Rattle.world_history.specs.ClientNames.{CallOp, Write, Read}
-use Rattle.world_history.specs.ServerNames.{File, Kept, Component}
+use Rattle.world_history.specs.ServerNames.{File, Kept, Component, Grant}
 use Rattle.world_history.specs.State.{DriveAt, ClientAt}
-use Rattle.ready_law.specs.Ready.{Scene, IsReady, IsReadable, IsWritable, IsInTime, IsLowestListed, held_by, lost_from, touched, write_end, greatest_end}
-use Rattle.ready_law.specs.Examples.{component, file_with, drive_where, client_with, reading, apart, held_before, asks_the_lost, asks_another, mirrored, writes_alone, writes_beside, writes_whole, ExamplesAreMet}
+use Rattle.ready_law.specs.Ready.{Scene, IsReady, IsReadable, IsWritable, IsInTime, IsLowestListed, Yields, held_by, lost_from, touched, write_end, greatest_end}
+use Rattle.ready_law.specs.Examples.{component, file_with, drive_where, client_with, reading, apart, held_before, asks_the_lost, asks_another, mirrored, writes_alone, writes_beside, writes_whole, held_to_read, reader, granted, recalls, write, ExamplesAreMet}
+use Rattle.ready_law.proofs.ExamplesUnready.{changed_are_unready}
 
 -- ---- a read of no byte
 
@@ -39,6 +40,7 @@ in_time : (s : Scene) (f : Kept) (failed : Bool) (d : ℕ) (x : DriveAt) → gra
 in_time s f failed d x none first e =
     let same : drive_where failed d ≡ x = cc e in
     subst (IsInTime s f 0) same (record {
+      up = refl;
       lease = omega arith;
       own = λ g o. absurd (cc (sym none ∙ o));
       format = omega (arith, first);
@@ -54,6 +56,7 @@ another_first : IsReady asks_another 0 (Read 0 0 1)
 unfolding file_at held_of stripes lost_from positions_out out_from source source_from asked
 another_first = record {
   unguessed = refl;
+  up = refl;
   caller = client_with [] 0;
   there = refl;
   idle = record { alive = refl; free = refl; answered = refl };
@@ -63,7 +66,7 @@ another_first = record {
   quiet = refl;
   same = refl;
   yielding = λ g i. absurd i;
-  drives = λ k at d there stands.
+  drives = λ k at d there whole stands.
       in_time asks_another (file_with apart 0 (component 0 true ∷ component 1 false ∷ []) []).kept true at.drive d refl refl
       stands;
   unspent = inr refl;
@@ -103,6 +106,7 @@ alone_ready : IsReady writes_alone 0 (Write 0 0 (7 ∷ []))
 unfolding file_at held_of stripes lost_from positions_out out_from source source_from asked is_short
 alone_ready = record {
   unguessed = refl;
+  up = refl;
   caller = client_with [] 0;
   there = refl;
   idle = record { alive = refl; free = refl; answered = refl };
@@ -112,7 +116,7 @@ alone_ready = record {
   quiet = refl;
   same = refl;
   yielding = λ g i. absurd i;
-  drives = λ k at d there stands.
+  drives = λ k at d there whole stands.
       in_time writes_alone (file_with mirrored 8 both []).kept true at.drive d refl refl stands;
   unspent = inr refl;
   enough = λ n i. subst (λ (j : ℕ). is_short mirrored (0 ∷ []) j ≡ false) (sym (first_stripe n i)) refl;
@@ -131,6 +135,7 @@ whole_ready : IsReady writes_whole 0 (Write 0 0 (7 ∷ []))
 unfolding file_at held_of conflicts overlaps stripes lost_from positions_out out_from source source_from asked is_short
 whole_ready = record {
   unguessed = refl;
+  up = refl;
   caller = client_with [] 0;
   there = refl;
   idle = record { alive = refl; free = refl; answered = refl };
@@ -140,7 +145,7 @@ whole_ready = record {
   quiet = refl;
   same = refl;
   yielding = λ g i. absurd i;
-  drives = λ k at d there stands.
+  drives = λ k at d there whole stands.
       in_time writes_whole (file_with mirrored 8 both (reading 1 1 ∷ [])).kept false at.drive d refl refl stands;
   unspent = inr refl;
   enough = λ n i. subst (λ (j : ℕ). is_short mirrored [] j ≡ false) (sym (first_stripe n i)) refl;
@@ -155,6 +160,50 @@ whole_ready = record {
         ≤ free_of x.state.store) same (omega (arith, here));
   };
 }
+
+-- ---- a write where another client reads
+
+recalled_ready : IsReady recalls 0 write
+unfolding file_at held_of conflicts overlaps stripes lost_from positions_out out_from source source_from asked is_short
+recalled_ready = record {
+  unguessed = refl;
+  up = refl;
+  caller = reader 0;
+  there = refl;
+  idle = record { alive = refl; free = refl; answered = refl };
+  range = refl;
+  file = granted (reading 1 0 ∷ []);
+  found = refl;
+  quiet = refl;
+  same = refl;
+  yielding = λ g i. subst (Yields recalls 0) (sym (only g i)) (record {
+    unexpired = refl;
+    client = reader 1;
+    there = refl;
+    idle = record { alive = refl; free = refl; answered = refl };
+    held = held_to_read;
+    holds = refl;
+    same = refl;
+  });
+  drives = λ k at d there whole stands.
+      in_time recalls (granted (reading 1 0 ∷ [])).kept false at.drive d refl refl stands;
+  unspent = inr refl;
+  enough = λ n i. subst (λ (j : ℕ). is_short mirrored [] j ≡ false) (sym (first_stripe n i)) refl;
+  reads = λ w. absurd (true≢false w);
+  writes = λ w. record {
+    sole = λ k touched gone listed g i. absurd (cc gone);
+    room = λ k at a touched there lost stands.
+        let same : drive_where false at.drive ≡ a = cc stands in
+        let here = room_for k at there in
+        subst (λ (x : DriveAt).
+        write_end (granted (reading 1 0 ∷ [])).kept op k - length (bytes_at x.state.store at.object)
+        ≤ free_of x.state.store) same (omega (arith, here));
+  };
+}
+  where
+    only : (g : Grant) → In g (reading 1 0 ∷ []) → g ≡ reading 1 0
+    only g (inl e) = e
+    only g (inr i) = absurd i
 
 beside_unready : IsReady writes_beside 0 (Write 0 0 (7 ∷ [])) → ⊥
 unfolding file_at held_of stripes lost_from
@@ -176,4 +225,6 @@ examples_are_met = record {
   alone = alone_ready;
   whole = whole_ready;
   beside = beside_unready;
+  recalled = recalled_ready;
+  changed = changed_are_unready;
 }

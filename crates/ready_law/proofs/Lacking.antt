@@ -117,7 +117,7 @@ module _ (m : RawMap) (cs : List Component) (lost : List ℕ) (ch : IsChecked m)
       let more : g + 1 ≤ groups m = omega (arith, less) in
       omega (arith, l, add-mul g 1 (group_width m), mul-le-mul_right (group_width m) more, whole_groups m ch)
 
-  not_beyond : (g : ℕ) → g < groups m → length (positions_out m lost g) ≤ parities m → is_beyond m cs g ≡ false
+  pub not_beyond : (g : ℕ) → g < groups m → length (positions_out m lost g) ≤ parities m → is_beyond m cs g ≡ false
   unfolding lacking positions_out
   not_beyond g less few =
       le-ltb (parities m) _ (omega (
@@ -126,7 +126,7 @@ module _ (m : RawMap) (cs : List Component) (lost : List ℕ) (ch : IsChecked m)
         fewer_lacking (g * group_width m) (group_width m) (λ i l. position_below g i less l),
       ))
 
-  group_below : (k : ℕ) → k < m.comps → group_with m k < groups m
+  pub group_below : (k : ℕ) → k < m.comps → group_with m k < groups m
   group_below k l =
       let position : k / replicas m < positions m =
       below_product k (positions m) (replicas m) (omega (arith, l, whole_positions m ch)) in

@@ -1,5 +1,5 @@
--- What is to be shown of ready calls: each whose event is over ends in ok, within a bound of messages; and what a ready read
--- gives. These are statements: no law has them yet.
+-- What becomes of ready calls: each whose event is over ends in ok, within a bound of messages. What a ready read is to give is
+-- stated here, and no law has it yet.
 use Rattle.std.specs.Prelude.{◌≡◌, ℕ, ◌+◌, ◌*◌, ◌≤◌, Bool, false, true, ◌==◌, max, List, [], ◌∷◌, ◌++◌, length}
 use Rattle.std.specs.List.{list_any, sum_by}
 use Rattle.file_log.specs.Judge.{IsRange}
@@ -26,6 +26,7 @@ use Rattle.history_law.specs.Read.{AreWritten}
 use Rattle.exchange_law.specs.Text.{AreOfText, AreFew}
 use Rattle.ready_law.specs.Ready.{Scene, IsReady, held_by, opposed, touched}
 use Rattle.outcome_law.specs.ReadClients.{client_after}
+use Rattle.pending_law.specs.Down.{is_down}
 use Rattle.ready_law.specs.Events.{IsOver}
 
 -- the scene that is read off the lines of a history
@@ -33,6 +34,7 @@ abbrev pub scene_in : List Line → Scene
 scene_in h = record {
   server = (server_seen h).server;
   clock = (server_seen h).clock;
+  down = is_down h;
   drive = λ d. drive_after h d;
   client = λ c. client_after h c;
   unguessed = unguessed h;
@@ -74,7 +76,7 @@ stripes_touched f op = max 1 (length (touched f op))
 
 -- how many messages a call on the file may take, where n grants conflict with the one that it asks for
 abbrev pub messages_at_most : Kept → (n : ℕ) → CallOp → ℕ
-messages_at_most f n op = 16 + 4 * n + 12 * f.map.comps * (stripes_touched f op + 1)
+messages_at_most f n op = 16 + 4 * n + 12 * f.map.comps * (length (touched f op) + 1)
 
 -- so many may a ready call take
 abbrev pub message_bound : (s : Scene) (c : ℕ) (op : CallOp) → IsReady s c op → ℕ

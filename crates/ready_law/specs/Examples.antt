@@ -1,14 +1,16 @@
--- Examples of scenes: three in which a call is ready, and two in which it isn't.
+-- Examples of scenes: four in which a call is ready, and one for each thing without which it isn't.
 use Rattle.std.specs.Prelude.{◌+◌, ℕ, Bool, false, true, ◌==◌, if◌then◌else◌, List, [], ◌∷◌, Some, None}
 use Rattle.data_map.specs.declared.check.RawMap.{RawMap}
 use Rattle.osd_drive.specs.State.{new_drive}
 use Rattle.osd_drive.specs.declared.limits.TheConstants.{FIRST_FORMAT}
+use Rattle.data_map.specs.declared.ranges.TheConstants.{MAX_FILE_SIZE}
 use Rattle.client_rules.specs.Commands.{no_credential}
+use Rattle.client_rules.specs.Requests.{get_args}
 use Rattle.client_rules.specs.Steps.{new_client}
 use Rattle.server_rules.specs.Layouts.{object_of}
 use Rattle.server_rules.specs.Making.{new_server}
-use Rattle.world_history.specs.ClientNames.{Write, Read, Held}
-use Rattle.world_history.specs.ServerNames.{File, Component, Grant, Still}
+use Rattle.world_history.specs.ClientNames.{CallOp, Write, Read, Held, Client, Starts, Request}
+use Rattle.world_history.specs.ServerNames.{File, Component, Grant, Still, Job, Auditing, Fences}
 use Rattle.world_history.specs.State.{DriveAt, ClientAt}
 use Rattle.ready_law.specs.Ready.{Scene, IsReady}
 
@@ -59,6 +61,7 @@ abbrev pub scene_with : File → (failed : Bool) → List Held → Scene
 scene_with f failed hs = record {
   server = record (new_server []) { files = f ∷ [] };
   clock = 0;
+  down = false;
   drive = λ d. Some (drive_where failed d);
   client = λ c. Some (client_with hs c);
   unguessed = true;
@@ -124,6 +127,83 @@ writes_beside = scene_with (file_with mirrored 8 (component 0 false ∷ componen
 abbrev pub writes_whole : Scene
 writes_whole = scene_with (file_with mirrored 8 (component 0 false ∷ component 1 false ∷ []) (reading 1 1 ∷ [])) false []
 
+-- ---- a write where another client reads
+
+-- grant 1, for reading the first stripe
+abbrev pub held_to_read : Held
+held_to_read = record held_before { size = 8; map = mirrored }
+
+-- client 1 holds it, and client 0 nothing
+abbrev pub reader : (number : ℕ) → ClientAt
+reader c = client_with (if c == 1 then held_to_read ∷ [] else []) c
+
+-- the file with two replicas and these grants
+abbrev pub granted : List Grant → File
+granted gs = file_with mirrored 8 (component 0 false ∷ component 1 false ∷ []) gs
+
+-- Client 0 writes where client 1 reads, who gives its grant back.
+abbrev pub recalls : Scene
+recalls = record (scene_with (granted (reading 1 0 ∷ [])) false []) { client = λ c. Some (reader c) }
+
+-- that write
+abbrev pub write : CallOp
+write = Write 0 0 (7 ∷ [])
+
+-- the same scene with another file, with another client, or with other drives
+abbrev pub with_file : File → Scene
+with_file f = record recalls { server = record (new_server []) { files = f ∷ [] } }
+
+abbrev pub with_client : (number : ℕ) → ClientAt → Scene
+with_client n a = record recalls { client = λ c. Some (if c == n then a else reader c) }
+
+abbrev pub with_drives : (DriveAt → DriveAt) → Scene
+with_drives becomes = record recalls { drive = λ d. Some (becomes (drive_where false d)) }
+
+-- client 0 in this state
+abbrev pub caller : Client → ClientAt
+caller c = record { state = c; stopped = false; wrote = false }
+
+-- a job of the file, and a request of client 0
+abbrev pub audit : Job
+audit = record { kind = Auditing; work = Fences; awaited = []; heard = [] }
+
+abbrev pub request : Request
+request = record { client = 0; sequence = 1; file = 0; args = get_args write }
+
+-- The call isn't ready any more where just one thing is changed.
+pub record ChangedAreUnready : Type 0 where
+  pub guessed : IsReady (record recalls { unguessed = false }) 0 write → ⊥
+  pub down : IsReady (record recalls { down = true }) 0 write → ⊥
+  -- the caller isn't there, was stopped, has a call, or waits for an answer
+  pub absent : IsReady (record recalls { client = λ c. None }) 0 write → ⊥
+  pub stopped : IsReady (with_client 0 (record (reader 0) { stopped = true })) 0 write → ⊥
+  pub busy :
+      IsReady (with_client 0 (caller (record (new_client 0 1) { call = Some (record { op = write; phase = Starts }) }))) 0 write
+      → ⊥
+  pub asking : IsReady (with_client 0 (caller (record (new_client 0 1) { outstanding = Some request }))) 0 write → ⊥
+  -- the range passes the greatest size of a file; there is no such file, or a job runs on it
+  pub range : IsReady recalls 0 (Write 0 MAX_FILE_SIZE (7 ∷ [])) → ⊥
+  pub file : IsReady recalls 0 (Write 1 0 (7 ∷ [])) → ⊥
+  pub job : IsReady (with_file (record (granted (reading 1 0 ∷ [])) { job = Some audit })) 0 write → ⊥
+  -- the caller holds a grant that the server doesn't have, or the other way round
+  pub held : IsReady (with_client 0 (client_with (held_to_read ∷ []) 0)) 0 write → ⊥
+  pub given : IsReady (with_file (granted (reading 1 0 ∷ record (reading 0 1) { number = 2 } ∷ []))) 0 write → ⊥
+  -- the reader was stopped, doesn't hold its grant any more, or let it expire
+  pub mute : IsReady (with_client 1 (record (reader 1) { stopped = true })) 0 write → ⊥
+  pub returned : IsReady (with_client 1 (client_with [] 1)) 0 write → ⊥
+  pub expired : IsReady (record recalls { clock = 91 }) 0 write → ⊥
+  -- the drives are down, their clocks are late, they take no commands of the file's format, or they are full
+  pub crashed : IsReady (with_drives (λ d. record d { down = true })) 0 write → ⊥
+  pub late : IsReady (with_drives (λ d. record d { clock = 91 })) 0 write → ⊥
+  pub refusing : IsReady (with_drives (λ d. record d { state = record d.state { least = 2 } })) 0 write → ⊥
+  pub full : IsReady (with_drives (λ d. record d { state = new_drive d.state.number [] 0 })) 0 write → ⊥
+  -- no further grant of the file can be given
+  pub spent : IsReady (with_file (record (granted (reading 1 0 ∷ [])) { spent = true })) 0 write → ⊥
+  -- where nobody reads, both replicas are lost; or all components are missing that a read of no byte could ask
+  pub short : IsReady (record writes_alone { drive = λ d. Some (record (drive_where true d) { failed = true }) }) 0 write → ⊥
+  pub missing :
+      IsReady (scene_with (file_with apart 0 (component 0 true ∷ component 1 true ∷ []) []) true []) 0 (Read 0 0 1) → ⊥
+
 -- ---- which are ready
 
 -- in which of the scenes the call is ready, and in which it isn't
@@ -133,3 +213,5 @@ pub record ExamplesAreMet : Type 0 where
   pub alone : IsReady writes_alone 0 (Write 0 0 (7 ∷ []))
   pub whole : IsReady writes_whole 0 (Write 0 0 (7 ∷ []))
   pub beside : IsReady writes_beside 0 (Write 0 0 (7 ∷ [])) → ⊥
+  pub recalled : IsReady recalls 0 write
+  pub changed : ChangedAreUnready

@@ -6,3 +6,9 @@ pub mod Answered
 pub mod Examples
 pub mod Offline
 pub mod Worlds
+pub mod Fair
+pub mod Carried
+pub mod Load
+pub mod Reacting
+pub mod Stepping
+pub mod Losses

@@ -26,10 +26,11 @@ use Rattle.ready_law.specs.Clear.{HasRoomTo}
 
 -- ---- the parties where a call begins
 
--- the server and its clock, the drives and the clients by number, and whether nothing was guessed so far
+-- the server, its clock and whether it is down, the drives and the clients by number, and whether nothing was guessed so far
 pub record Scene : Type 0 where
   pub server : Server
   pub clock : ℕ
+  pub down : Bool
   pub drive : (number : ℕ) → Option DriveAt
   pub client : (number : ℕ) → Option ClientAt
   pub unguessed : Bool
@@ -39,6 +40,7 @@ abbrev pub scene_of : World → List Line → Scene
 scene_of w h = record {
   server = w.server;
   clock = w.clock;
+  down = w.down;
   drive = λ d. at_number w.drives d;
   client = λ c. at_number w.clients c;
   unguessed = unguessed h;
@@ -142,8 +144,9 @@ write_end f op k = greatest_end k (asks aim.Scatters f.map (span_of op) [] [] (t
 
 -- ---- drives
 
--- The drive's clock isn't past the client's grant, nor past one that would be given, and it takes the file's format.
+-- The drive isn't down, its clock isn't past the client's grant, nor past one that would be given, and it takes the file's format.
 pub record IsInTime (s : Scene) (f : Kept) (client : ℕ) (d : DriveAt) : Type 0 where
+  pub up : d.down ≡ false
   pub lease : d.clock ≤ min (s.clock + LEASE) NO_EXPIRY
   pub own : (g : Grant) → grant_of f.grants client ≡ Some g → d.clock ≤ g.expiry
   pub format : d.state.least ≤ f.format
@@ -171,6 +174,7 @@ pub record IsWritable (s : Scene) (f : Kept) (client : ℕ) (o : Option Held) (o
 -- a client's call is ready in a scene
 pub record IsReady (s : Scene) (client : ℕ) (op : CallOp) : Type 0 where
   pub unguessed : s.unguessed ≡ true
+  pub up : s.down ≡ false
   pub caller : ClientAt
   pub there : s.client client ≡ Some caller
   pub idle : IsIdle caller
@@ -185,9 +189,9 @@ pub record IsReady (s : Scene) (client : ℕ) (op : CallOp) : Type 0 where
   -- each grant that conflicts with the one that it would ask for is given back
   pub yielding : (g : Grant) → In g (opposed s file.kept client (held_by caller (file_of op)) op) →
       Yields s (file_of op) g
-  -- no drive of the file refuses the call's commands by their time or format
+  -- no drive of a component that isn't lost is down, or refuses the call's commands by their time or format
   pub drives : (k : ℕ) (at : Component) (d : DriveAt) → slice_get file.kept.components k ≡ Some at →
-      s.drive at.drive ≡ Some d → IsInTime s file.kept client d
+      is_lost s at ≡ false → s.drive at.drive ≡ Some d → IsInTime s file.kept client d
   -- a further grant can be given, where one is needed
   pub unspent : (is_covered (held_by caller (file_of op)) op ≡ true) ⊎ (file.spent ≡ false)
   -- no touched stripe has more positions lost than its parity brings back
