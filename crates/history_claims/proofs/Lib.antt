@@ -1,5 +1,3 @@
-pub mod Making
-pub mod Standing
 mod Spreading
 pub mod Creates
 pub mod Texts

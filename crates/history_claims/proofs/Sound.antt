@@ -1,14 +1,19 @@
 -- Each lawful history is sound.
-use Rattle.std.proofs.Common.{subst}
+use Rattle.std.proofs.Common.{◌≡◌, List, Option, Some, None, subst}
+use Rattle.scenario_text.specs.declared.line.Line.{Line}
+use Rattle.world_history.specs.Book.{book_of}
+use Rattle.world_history.specs.ServerNames.{File}
 use Rattle.world_history.specs.History.{Lawful, FrontsAreLawful}
 use Rattle.history_law.specs.Answered.{VerdictsAreAnswered}
-use Rattle.history_law.specs.Safe.{HistoriesAreSafe}
+use Rattle.history_law.specs.Safe.{AtEachMoment, HistoriesAreSafe}
 use Rattle.history_law.specs.Issued.{CommandsAreIssued}
 use Rattle.history_law.specs.Unforged.{UnforgedAreIssued, UnguessedAreUnforged}
 use Rattle.history_law.specs.Ranges.{RangesAreApart}
 use Rattle.fencing_law.specs.Holder.{EachHolderIsOwn}
 use Rattle.fencing_law.specs.Fences.{UnforgedAreFenced}
-use Rattle.history_claims.specs.Components.{ComponentsStandApart}
+use Rattle.calm_law.specs.Apart.{AreApart}
+use Rattle.calm_law.specs.Naming.{AreNamed}
+use Rattle.calm_law.specs.OnDrives.{StandApart, ComponentsStandApart}
 use Rattle.history_claims.specs.Spread.{ComponentsStandSpread}
 use Rattle.history_claims.specs.Created.{EachFileIsCreated}
 use Rattle.history_claims.specs.Sound.{HistoriesAreSound}
@@ -40,9 +45,24 @@ use Rattle.outcome_law.specs.Pending.{EachCallIsLeftSo}
 use Rattle.outcome_law.specs.Read.{AnswersAreOfReplies}
 use Rattle.outcome_law.specs.ReadBytes.{EachByteHasItsCause}
 use Rattle.pending_law.specs.Unanswered.{PendingCallsAreUnanswered}
+use Rattle.ready_law.specs.Answered.{ReadyIsAnswered}
+use Rattle.ready_law.specs.Losses.{FilesBearLosses, LossesAreBorne}
 use Rattle.tag_law.specs.Tags.{EachTagIsItsFiles}
 use Rattle.history_claims.proofs.Texts.{events_make_text}
 use Rattle.history_claims.proofs.Cutting.{cuts_go_on}
+
+-- ---- losses
+
+-- the components of a file of the book stand on different drives
+of_book : (o : Option File) (f : File) → o ≡ Some f → StandApart o → AreApart f.kept.components
+of_book None f e x = absurd (cc e)
+of_book (Some g) f e x = let same : g ≡ f = cc e in subst (λ (y : File). AreApart y.kept.components) same x.0
+
+losses_at : ComponentsStandApart → LossesAreBorne → (h : List Line) → Lawful h → AreNamed h → AtEachMoment FilesBearLosses h
+losses_at apart borne h l named before after is =
+    borne before (λ file f found. of_book (book_of before file) f found (apart h l named before after is file))
+
+-- ---- all of them
 
 pub histories_are_sound : HistoriesAreSafe → VerdictsAreAnswered → CommandsAreIssued → UnforgedAreIssued
     → UnguessedAreUnforged → RangesAreApart → FrontsAreLawful → ComponentsStandApart → ComponentsStandSpread
@@ -53,11 +73,11 @@ pub histories_are_sound : HistoriesAreSafe → VerdictsAreAnswered → CommandsA
     → EachByteHasItsCause → EachTagIsItsFiles → EachRequestIsAnswered → EachMessageIsCaused → EachGrantHasItsCauses
     → EachComponentHasItsCauses → EachLossHasItsCause → EachTagHasItsCause → EachAwaitedHasItsCauses → EachAwaitedHasItsEnd
     → EachAwaitedWasSent → EachCrashBars → EachGrantIsNamedOnce → EachObjectIsOwn → EachEndIsSaid
-    → EachCallIsLeftSo → PendingCallsAreUnanswered → WithinTheLimitAreFew
+    → EachCallIsLeftSo → PendingCallsAreUnanswered → LossesAreBorne → ReadyIsAnswered → WithinTheLimitAreFew
     → HistoriesAreSound
 histories_are_sound safe answered issued listed fair ranges fronts apart spread created own fenced live given older barred exact
     allowed lanes lanes_own judged awaited low ends outcomes read bytes tags caused told changed gone lost raised waits until sent
-    barred_by named objects said left unanswered few = record {
+    barred_by named objects said left unanswered borne ready few = record {
       sound = λ h l. record {
         safe = safe h l;
         answered = λ w s. answered w h s;
@@ -101,6 +121,8 @@ histories_are_sound safe answered issued listed fair ranges fronts apart spread 
         said = λ w g k m rest d is. said w g k m d;
         left = λ w g k m rest d is. left w g k m d;
         unanswered = unanswered h l;
+        losses = λ names. losses_at apart borne h l names;
+        ready = λ written text few. ready h l written text few;
       };
       text = events_make_text;
       few = few;

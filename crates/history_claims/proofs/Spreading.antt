@@ -21,7 +21,7 @@ use Rattle.zone_law.specs.Zoned.{Stands, Gives, ZonesGoOn, EachStepZones}
 use Rattle.zone_law.specs.Failing.{OneZoneIsBorne}
 use Rattle.zone_law.proofs.Zones.{different_zones}
 use Rattle.history_claims.specs.Spread.{StandSpread, ComponentsStandSpread}
-use Rattle.history_claims.proofs.Standing.{IsTold, stands_at}
+use Rattle.calm_law.proofs.OnDrives.{IsTold, stands_at}
 
 -- each zone of a drive was given by one of these lines
 abbrev pub AreGiven : List Line → Server → Type 0

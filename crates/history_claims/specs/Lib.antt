@@ -1,5 +1,4 @@
 pub mod Lanes
-pub mod Components
 pub mod Spread
 pub mod Created
 pub mod Texts

@@ -13,7 +13,7 @@ use Rattle.history_law.specs.Read.{AreWritten}
 use Rattle.calm_law.specs.Naming.{AreNamed}
 use Rattle.fencing_law.specs.Fenced.{FencesLast}
 use Rattle.fencing_law.specs.Holder.{OwnUnlessForged}
-use Rattle.history_claims.specs.Components.{AreComponentsApart}
+use Rattle.calm_law.specs.OnDrives.{AreComponentsApart}
 use Rattle.history_claims.specs.Spread.{AreComponentsSpread}
 use Rattle.history_claims.specs.Created.{FilesAreCreated}
 use Rattle.history_claims.specs.Lanes.{HaveFairLanes, HaveOwnLanes}
@@ -41,6 +41,8 @@ use Rattle.outcome_law.specs.Pending.{CallsAreLeft}
 use Rattle.outcome_law.specs.Read.{AnswersAt}
 use Rattle.outcome_law.specs.ReadBytes.{BytesAt}
 use Rattle.pending_law.specs.Unanswered.{UnansweredAt}
+use Rattle.ready_law.specs.Answered.{EachReadyIsAnswered}
+use Rattle.ready_law.specs.Losses.{FilesBearLosses}
 use Rattle.reopen_law.specs.Numbers.{GrantsAreNamedOnce, ObjectsAreOwnAt}
 use Rattle.reopen_law.specs.Reopened.{CrashesBarAt}
 use Rattle.tag_law.specs.Tags.{HaveTagsAt}
@@ -162,6 +164,13 @@ pub record IsSound (h : List Line) : Type 0 where
   -- so it is only if the request that its client waits for was outstanding already when the event began, or the server was
   -- down then: a server that is up answers in the event what is sent to it in the event
   pub unanswered : AtEachLine UnansweredAt h
+  -- at each moment, as far as lines can name the drives and files that events make: if the missing components of a file are on
+  -- drives that have failed, and fewer of its drives failed than one position more than its code brings back has replicas, no
+  -- stripe of it has more positions lost than that
+  pub losses : AreNamed h → AtEachMoment FilesBearLosses h
+  -- in a history of a scenario's text with few messages each call that is ready where its event begins, and whose event is over,
+  -- ended in ok, which one line of the event tells, and within its bound of messages
+  pub ready : AreWritten h → AreOfText h → AreFew h → EachReadyIsAnswered h
 
 -- Each lawful history is sound, whatever its events name. Where a text may have the events, it is one of a scenario's text;
 -- and where a world that stands for it is within the limit of kept bytes, it has few messages. A history that is cut at that

@@ -1,10 +1,9 @@
 // What holds of every history, for the crates above.
-ghost use Rattle.history_claims.specs.Components.{ComponentsStandApart};
 ghost use Rattle.history_claims.specs.Created.{EachFileIsCreated};
 ghost use Rattle.history_claims.specs.Sound.{HistoriesAreSound};
 ghost use Rattle.history_claims.specs.Spread.{ComponentsStandSpread};
 
-use calm_law::{each_step_is_apart, each_step_is_sound};
+use calm_law::{components_stand_apart, each_step_is_apart, each_step_is_sound};
 use cause_law::{
     awaited_have_causes, awaited_have_ends, awaited_were_sent, components_have_causes,
     ends_are_said, grants_have_causes, losses_have_causes, messages_are_caused,
@@ -25,6 +24,7 @@ use outcome_law::{
     answers_are_of_replies, calls_are_left, each_byte_has_its_cause, ends_are_caused,
 };
 use pending_law::pending_calls_are_unanswered;
+use ready_law::{losses_are_borne, ready_calls_end_in_ok};
 use reopen_law::{crashes_bar, grants_are_named_once, objects_are_own};
 use server_rules::files_are_put;
 use tag_law::{
@@ -33,18 +33,9 @@ use tag_law::{
 use world_history::{fronts_are_lawful, one_event_more, reading_goes_on};
 use zone_law::{each_step_spreads, each_step_zones, one_zone_is_borne};
 
-/// At each moment of a lawful history whose events lines can name, the components of each file, present or missing,
-/// stand on different drives, and where a rebuild makes one anew it does so on a further drive.
-pub fn components_stand_apart()
-    ensures { ComponentsStandApart }
-{
-    each_step_is_sound();
-    each_step_is_apart();
-}
-
-/// So the components of each zoned file are spread over zones: no zone has more of a group than the code brings back, each
-/// counted, present or missing, on the drive on which it stands or last stood. If all lost ones were of one zone, each
-/// stripe can be read and written.
+/// At each moment of a lawful history whose events lines can name, the components of each zoned file are spread over
+/// zones: no zone has more of a group than the code brings back, each counted, present or missing, on the drive on which
+/// it stands or last stood. If all lost ones were of one zone, each stripe can be read and written.
 pub fn components_stand_spread()
     ensures { ComponentsStandSpread }
 {
@@ -86,7 +77,8 @@ pub fn files_are_created()
 /// misordered, and nothing else makes a grant live or ends one but a fence. There a file's tag changes exactly with the
 /// note that a fence of it is over, its components as notes and declarations say, and what its job awaits was sent and
 /// isn't answered. A crash of the server bars each file that had a grant or a fence, until a fence of it is over, and no
-/// grant and no object number comes twice. A history that is cut at the limit of kept bytes goes on being of a text.
+/// grant and no object number comes twice. Each call that is ready ends in ok if its event is over, within its bound of
+/// messages, and as long as few drives fail no stripe is beyond its code. A history that is cut at the limit of kept bytes goes on being of a text.
 pub fn histories_are_sound()
     ensures { HistoriesAreSound }
 {
@@ -133,5 +125,7 @@ pub fn histories_are_sound()
     ends_are_said();
     calls_are_left();
     pending_calls_are_unanswered();
+    losses_are_borne();
+    ready_calls_end_in_ok();
     within_the_limit_are_few();
 }

@@ -1,12 +1,10 @@
 //! What holds of every lawful history, as one record in the words of its lines.
 //!
 //! The parts are laws of the crates below: `history_law`, `fencing_law`, `exchange_law`, `ending_law`, `tag_law` and
-//! `calm_law`. Here are two more: at each moment the components of a file stand on different drives, and if a file is
+//! `calm_law`. Here are two more: at each moment the components of a zoned file are spread over zones, and if a file is
 //! made, its CREATEs go to its components' drives.
 #![tactic(auto)]
 
 mod laws;
 
-pub use laws::{
-    components_stand_apart, components_stand_spread, files_are_created, histories_are_sound,
-};
+pub use laws::{components_stand_spread, files_are_created, histories_are_sound};
