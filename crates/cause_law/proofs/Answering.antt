@@ -27,10 +27,10 @@ use Rattle.history_law.specs.BookMoments.{IsMoment, with_event, plan_at, lines_i
 use Rattle.history_law.specs.Doing.{ServerMoves}
 use Rattle.history_law.specs.Grants.{GrantsAreSafe}
 use Rattle.history_law.specs.Read.{BookIsRead, StepIsRead}
-use Rattle.fencing_law.proofs.Ending.{next_moment}
+use Rattle.history_law.proofs.Ending.{next_moment}
 use Rattle.cause_law.specs.Answers.{IsCaused, IsNew, answer_line, IsAnswered, AnswersIt, EachRequestIsAnswered}
 use Rattle.cause_law.proofs.Causing.{Answered, request_answered}
-use Rattle.cause_law.proofs.Inputs.{IsMoved, IsShown, at_inputs}
+use Rattle.cause_law.proofs.CauseInputs.{IsMoved, IsShown, at_inputs}
 
 -- ---- the last line
 

@@ -12,9 +12,9 @@ use Rattle.server_rules.specs.Replies.{answers, hearing, hears, heard_by, heard_
 use Rattle.server_rules.proofs.FileLaws.{number_at}
 use Rattle.server_rules.proofs.Members.{in_filtered}
 use Rattle.world_history.specs.ServerNames.{Server, File, Job, Awaited, Reply}
-use Rattle.move_law.proofs.Files.{in_at}
-use Rattle.job_law.specs.Numbered.{Awaits}
-use Rattle.job_law.proofs.Hearing.{found_in, goes_hears, left_hears}
+use Rattle.history_law.proofs.Files.{in_at}
+use Rattle.history_law.specs.Numbered.{Awaits}
+use Rattle.history_law.proofs.Hearing.{found_in, goes_hears, left_hears}
 use Rattle.cause_law.specs.Awaiting.{Answers}
 use Rattle.cause_law.proofs.AwaitedSteps.{AreBelow}
 

@@ -21,14 +21,14 @@ use Rattle.server_rules.proofs.FileLaws.{number_at, not_there}
 use Rattle.server_rules.proofs.Members.{in_map, in_filter}
 use Rattle.world_history.specs.ServerNames.{Server, File, Drive, Job, JobKind, Revoking, Rebuilding, Auditing, Awaited, Reply, OrderKind, ToRecall, ToRevoke, ToDeclare, ToRebuild, ToAudit, ClientRequest, RequestArgs, RawMap, Refusal, Effects}
 use Rattle.world_history.specs.Book.{awaited_in}
-use Rattle.move_law.proofs.Files.{in_at, safe_in}
-use Rattle.move_law.proofs.Steps.{each_request}
-use Rattle.job_law.proofs.Files.{found_file, put_there}
-use Rattle.job_law.proofs.Fences.{handled_fence}
-use Rattle.job_law.proofs.Hearing.{found_in, goes_hears}
-use Rattle.job_law.proofs.Asking.{handled_served, handled_declares}
-use Rattle.calm_law.specs.Going.{declared_by, declared_in, if_known, taken_out}
-use Rattle.calm_law.specs.Performing.{AreDistinct}
+use Rattle.history_law.proofs.Files.{in_at, safe_in}
+use Rattle.history_law.proofs.Steps.{each_request}
+use Rattle.history_law.proofs.JobFiles.{found_file, put_there}
+use Rattle.history_law.proofs.Fences.{handled_fence}
+use Rattle.history_law.proofs.Hearing.{found_in, goes_hears}
+use Rattle.history_law.proofs.Asking.{handled_served, handled_declares}
+use Rattle.component_law.specs.Going.{declared_by, declared_in, if_known, taken_out}
+use Rattle.component_law.specs.Performing.{AreDistinct}
 use Rattle.cause_law.specs.Awaiting.{Answers}
 use Rattle.cause_law.specs.AwaitedEnds.{Ends, Answered, Filled, Declared, Stopped, waits_for_all, begins_again, Without}
 use Rattle.cause_law.proofs.Changing.{at_place}

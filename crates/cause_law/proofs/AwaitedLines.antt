@@ -22,24 +22,24 @@ use Rattle.world_history.specs.Reading.{is_head}
 use Rattle.world_history.specs.Book.{placed_in, step_by, server_behind, server_after, awaited_in}
 use Rattle.world_history.specs.History.{OneEventMore}
 use Rattle.world_history.specs.Laws.{ServerGoesOn}
-use Rattle.move_law.proofs.Files.{in_at}
-use Rattle.move_law.proofs.Moments.{always}
-use Rattle.job_law.specs.Numbered.{NumbersOn}
-use Rattle.job_law.proofs.Steps.{step_numbers}
+use Rattle.history_law.proofs.Files.{in_at}
+use Rattle.history_law.proofs.Moments.{always}
+use Rattle.history_law.specs.Numbered.{NumbersOn}
+use Rattle.history_law.proofs.JobSteps.{step_numbers}
 use Rattle.history_law.specs.BookMoments.{IsMoment, lines_in}
 use Rattle.history_law.specs.Doing.{input_in, ServerMoves}
 use Rattle.history_law.specs.Grants.{GrantsAreSafe}
 use Rattle.history_law.specs.Read.{BookIsRead, StepIsRead}
 use Rattle.history_law.proofs.Staying.{written_front}
-use Rattle.fencing_law.proofs.Numbers.{Numbers, numbers_move, numbers_first}
-use Rattle.fencing_law.proofs.Ending.{next_moment}
-use Rattle.calm_law.specs.Sound.{IsSound}
-use Rattle.calm_law.specs.Seeing.{SeenIsSound}
+use Rattle.history_law.proofs.Numbers.{Numbers, numbers_move, numbers_first}
+use Rattle.history_law.proofs.Ending.{next_moment}
+use Rattle.component_law.specs.Sound.{IsSound}
+use Rattle.component_law.specs.Seeing.{SeenIsSound}
 use Rattle.cause_law.specs.Awaiting.{IsSent, Begins, Before, Sends, AwaitedGo, EachAwaitedHasItsCauses}
 use Rattle.cause_law.specs.AwaitedEnds.{Ends, AwaitedEnd, EachAwaitedHasItsEnd}
 use Rattle.cause_law.proofs.Answering.{safe_at}
 use Rattle.cause_law.proofs.Reading.{AllHeads, all_heads}
-use Rattle.cause_law.proofs.Inputs.{IsMoved, IsShown, at_inputs}
+use Rattle.cause_law.proofs.CauseInputs.{IsMoved, IsShown, at_inputs}
 use Rattle.cause_law.proofs.Grants.{sound_at}
 use Rattle.cause_law.proofs.Changing.{at_place}
 use Rattle.cause_law.proofs.Telling.{sent_there}

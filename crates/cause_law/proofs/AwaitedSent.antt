@@ -18,10 +18,10 @@ use Rattle.world_history.specs.Moves.{acts}
 use Rattle.world_history.specs.Sending.{Move, move}
 use Rattle.world_history.specs.Book.{ServerSeen, step_by, server_behind, server_after, awaited_in}
 use Rattle.world_history.specs.History.{OneEventMore}
-use Rattle.move_law.proofs.Files.{in_at}
-use Rattle.move_law.proofs.Moments.{always}
-use Rattle.job_law.specs.Numbered.{Awaits}
-use Rattle.job_law.proofs.Steps.{step_numbers}
+use Rattle.history_law.proofs.Files.{in_at}
+use Rattle.history_law.proofs.Moments.{always}
+use Rattle.history_law.specs.Numbered.{Awaits}
+use Rattle.history_law.proofs.JobSteps.{step_numbers}
 use Rattle.history_law.specs.BookMoments.{IsMoment, lines_in}
 use Rattle.history_law.specs.Doing.{input_in, did_in, ServerMoves}
 use Rattle.history_law.specs.Read.{BookIsRead}

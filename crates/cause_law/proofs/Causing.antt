@@ -10,9 +10,9 @@ use Rattle.server_rules.specs.Requests.{serves, answer_with, answer_without, car
 use Rattle.server_rules.specs.Served.{Served}
 use Rattle.server_rules.specs.Slots.{New, slot_of, admit}
 use Rattle.server_rules.proofs.FileLaws.{safe_at}
-use Rattle.job_law.proofs.Asking.{handled_served}
-use Rattle.job_law.proofs.Files.{found_file}
-use Rattle.move_law.proofs.Steps.{each_request}
+use Rattle.history_law.proofs.Asking.{handled_served}
+use Rattle.history_law.proofs.JobFiles.{found_file}
+use Rattle.history_law.proofs.Steps.{each_request}
 use Rattle.world_history.specs.ServerNames.{Server, File, Kept, Drive, Grant, Answer, ClientRequest, RequestArgs, Get, Commit, Return, Outgoing, Answers}
 use Rattle.cause_law.specs.Gets as rows
 use Rattle.cause_law.specs.Gets.{Row, detail_of, result_of}

@@ -21,17 +21,17 @@ use Rattle.server_rules.proofs.FileLaws.{number_at}
 use Rattle.server_rules.proofs.HandlerLaws.{ran_hears}
 use Rattle.server_rules.proofs.Runs.{ran_fences, ran_declares, ran_making}
 use Rattle.world_history.specs.ServerNames.{Server, File, Kept, Awaited, JobKind, Fences, Revoking, Repairing, Fenced as FenceOver, ClientRequest, Order, OrderKind, RawMap, FileExists}
-use Rattle.move_law.specs.Steps.{IsOrder, Here, Sent, IsAsked, Answering, IsAnswering, answered_file, new_file, StepCases}
-use Rattle.move_law.proofs.Files as Files
-use Rattle.move_law.proofs.Files.{in_at, put_each, add_each, declared_each, crashed_each, safe_in}
-use Rattle.move_law.proofs.Steps.{each_request, each_step}
-use Rattle.job_law.specs.Fencing.{is_fencing}
-use Rattle.job_law.proofs.Asking.{handled_served}
-use Rattle.job_law.proofs.Quiet.{quiet_repair}
-use Rattle.calm_law.specs.Going.{IsMaking}
-use Rattle.calm_law.specs.Performing.{AreDistinct}
-use Rattle.calm_law.specs.Sound.{IsSound}
-use Rattle.calm_law.specs.Words.{Each}
+use Rattle.history_law.specs.Steps.{IsOrder, Here, Sent, IsAsked, Answering, IsAnswering, answered_file, new_file, StepCases}
+use Rattle.history_law.proofs.Files as Files
+use Rattle.history_law.proofs.Files.{in_at, put_each, add_each, declared_each, crashed_each, safe_in}
+use Rattle.history_law.proofs.Steps.{each_request, each_step}
+use Rattle.history_law.specs.Fencing.{is_fencing}
+use Rattle.history_law.proofs.Asking.{handled_served}
+use Rattle.history_law.proofs.Quiet.{quiet_repair}
+use Rattle.component_law.specs.Going.{IsMaking}
+use Rattle.component_law.specs.Performing.{AreDistinct}
+use Rattle.component_law.specs.Sound.{IsSound}
+use Rattle.component_law.specs.Words.{Each}
 use Rattle.cause_law.specs.Answers.{IsNew}
 use Rattle.cause_law.specs.Changes as changes
 use Rattle.cause_law.specs.Changes.{FenceBegan, BeginsFence, ByOrder, ByOpening, IsAskedOf, Changes}

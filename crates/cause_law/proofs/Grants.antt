@@ -10,10 +10,10 @@ use Rattle.world_history.specs.Book.{ServerSeen, placed_in, server_after}
 use Rattle.world_history.specs.Calm.{first_seen}
 use Rattle.world_history.specs.History.{OneEventMore}
 use Rattle.world_history.specs.Laws.{ServerGoesOn}
-use Rattle.calm_law.specs.Seeing.{SeenIsSound}
-use Rattle.calm_law.specs.Sound.{IsSound}
-use Rattle.calm_law.specs.Tags.{EachStepRaisesTags}
-use Rattle.calm_law.proofs.MoveFacts.{are_named, seen_server}
+use Rattle.component_law.specs.Seeing.{SeenIsSound}
+use Rattle.component_law.specs.Sound.{IsSound}
+use Rattle.component_law.specs.Tags.{EachStepRaisesTags}
+use Rattle.component_law.proofs.MoveFacts.{are_named, seen_server}
 use Rattle.history_law.specs.BookMoments.{IsMoment, lines_in}
 use Rattle.history_law.specs.Doing.{ServerMoves}
 use Rattle.history_law.specs.Grants.{GrantsAreSafe}
@@ -22,7 +22,7 @@ use Rattle.history_law.proofs.Staying.{written_front}
 use Rattle.cause_law.specs.Changes.{Changes, ChangesFiles, EachGrantHasItsCauses}
 use Rattle.cause_law.proofs.Answering.{safe_at}
 use Rattle.cause_law.proofs.Ordering.{changes_so}
-use Rattle.cause_law.proofs.Inputs.{IsShown, at_inputs}
+use Rattle.cause_law.proofs.CauseInputs.{IsShown, at_inputs}
 
 -- the server of a moment is sound
 pub sound_at : SeenIsSound → BookIsRead → (w : World) (h : List Line) → IsMoment w h → AreWritten h → IsSound w.server

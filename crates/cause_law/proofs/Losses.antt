@@ -12,9 +12,9 @@ use Rattle.server_rules.specs.Standing.{lose_on, lose_from}
 use Rattle.world_history.specs.ServerNames.{Server, File, Component}
 use Rattle.world_history.specs.Book.{server_after, book_of}
 use Rattle.world_history.specs.Calm.{noted}
-use Rattle.calm_law.specs.Components.{Paired, StandAlike, is_lacking, told_by, told_in, without_drive}
-use Rattle.calm_law.specs.Going.{taken_out, Goes}
-use Rattle.calm_law.proofs.Components.{stood, stands_is}
+use Rattle.component_law.specs.Components.{Paired, StandAlike, is_lacking, told_by, told_in, without_drive}
+use Rattle.component_law.specs.Going.{taken_out, Goes}
+use Rattle.component_law.proofs.Components.{stood, stands_is}
 use Rattle.cause_law.specs.Components.{EachComponentHasItsCauses}
 use Rattle.cause_law.specs.Losses.{IsLoss, IsLost, ByNote, ByDrive, EachLossHasItsCause}
 

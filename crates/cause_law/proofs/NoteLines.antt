@@ -29,13 +29,13 @@ use Rattle.world_history.specs.Moves.{Act, Action, Opens, Delivers, TimesOut, Pe
 use Rattle.world_history.specs.Sending.{Move, move, sent_line, sent_lines}
 use Rattle.world_history.specs.Reading.{is_head}
 use Rattle.world_history.specs.Book.{made_of, step_by}
-use Rattle.move_law.specs.Moves.{number_in, given_in, IsForServer, front_of, IsFileRefusal, IsQuiet, AreQuiet}
-use Rattle.move_law.specs.Said.{IsDelivered}
-use Rattle.move_law.proofs.Moves.{each_act}
+use Rattle.history_law.specs.Moves.{number_in, given_in, IsForServer, front_of, IsFileRefusal, IsQuiet, AreQuiet}
+use Rattle.history_law.specs.Said.{IsDelivered}
+use Rattle.history_law.proofs.Moves.{each_act}
 use Rattle.history_law.specs.BookMoments.{with_event, lines_in}
 use Rattle.history_law.specs.Doing.{brought, input_in, did_in, ServerMoves}
 use Rattle.cause_law.proofs.Reading.{AllHeads, all_heads}
-use Rattle.cause_law.proofs.Inputs.{IsMoved}
+use Rattle.cause_law.proofs.CauseInputs.{IsMoved}
 
 -- ---- what comes to the server in a move
 

@@ -13,10 +13,10 @@ use Rattle.server_rules.specs.Orders.{begins_job, starts, recalls_on, declares_k
 use Rattle.server_rules.proofs.FileLaws.{number_at, put_other}
 use Rattle.server_rules.proofs.Runs.{ran_declares}
 use Rattle.world_history.specs.ServerNames.{Server, File, Drive, Job, JobKind, Revoking, Rebuilding, Auditing, Order, OrderKind, ToRecall, ToRevoke, ToDeclare, ToRebuild, ToAudit}
-use Rattle.move_law.specs.Steps.{IsOrder, Here, Sent}
-use Rattle.move_law.proofs.Files.{declared_each, opened_each, safe_in}
-use Rattle.calm_law.specs.Sound.{IsSound}
-use Rattle.calm_law.specs.Tags.{EachStepRaisesTags}
+use Rattle.history_law.specs.Steps.{IsOrder, Here, Sent}
+use Rattle.history_law.proofs.Files.{declared_each, opened_each, safe_in}
+use Rattle.component_law.specs.Sound.{IsSound}
+use Rattle.component_law.specs.Tags.{EachStepRaisesTags}
 use Rattle.cause_law.specs.Changes as changes
 use Rattle.cause_law.specs.Changes.{IsFencing, TakesOrder, BeginsFence, ByOrder, ByOpening, Changes}
 use Rattle.cause_law.proofs.Changing.{is_plain, same_order, no_opening, same, number, Goes, GoesSame, Was, goes_fenced, spent, goes_opened, each_was, later, goes_as, all_change, all_stay}

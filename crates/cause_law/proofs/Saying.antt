@@ -37,11 +37,11 @@ use Rattle.world_history.specs.Names.{where_known, is_tellable, is_tellable_note
 use Rattle.world_history.specs.Handed.{Post, end_line, ended_by, op_in, for_client, handed}
 use Rattle.world_history.specs.Moves.{Act, Action, Opens, Delivers, TimesOut, Pends, told_delivered, marked, delivers, begins, acts}
 use Rattle.world_history.specs.Sending.{sent_lines}
-use Rattle.move_law.specs.Moments.{IsReached, with_event, lines_in}
-use Rattle.move_law.specs.Moves.{IsQuiet, AreQuiet, IsForClient, number_in, front_of}
-use Rattle.move_law.specs.Turns.{IsAnswered}
-use Rattle.move_law.proofs.Moves.{front_cases, each_act}
-use Rattle.move_law.proofs.Reached.{always_by}
+use Rattle.history_law.specs.Moments.{IsReached, with_event, lines_in}
+use Rattle.history_law.specs.Moves.{IsQuiet, AreQuiet, IsForClient, number_in, front_of}
+use Rattle.history_law.specs.Turns.{IsAnswered}
+use Rattle.history_law.proofs.Moves.{front_cases, each_act}
+use Rattle.history_law.proofs.Reached.{always_by}
 use Rattle.exchange_law.proofs.Each.{put_same, put_other}
 use Rattle.cause_law.specs.Ends.{Says, SaysNoFile, SaysSpent, SaysDegraded, SaysOther, SaysWrong, IsOfAnswers, TakesAnswer as IsTaking, WasSaid, IsUnder, EachEndIsSaid}
 use Rattle.cause_law.proofs.Dealing.{IsOwn, CallOwn, EndOwn}

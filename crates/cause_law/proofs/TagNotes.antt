@@ -15,22 +15,22 @@ use Rattle.world_history.specs.Sending.{Move}
 use Rattle.world_history.specs.Book.{placed_in, server_seen, server_after}
 use Rattle.world_history.specs.History.{OneEventMore}
 use Rattle.world_history.specs.Laws.{ServerGoesOn}
-use Rattle.move_law.specs.Moves.{IsFileRefusal}
+use Rattle.history_law.specs.Moves.{IsFileRefusal}
 use Rattle.history_law.specs.BookMoments.{lines_in}
 use Rattle.history_law.specs.Doing.{ServerMoves}
 use Rattle.history_law.specs.Read.{AreWritten, BookIsRead, StepIsRead}
 use Rattle.history_law.proofs.Staying.{written_front}
-use Rattle.calm_law.specs.Sound.{IsSound}
-use Rattle.calm_law.specs.FenceTags.{tag_told, tags_told, Rise, TagRises, EachStepTellsTags}
-use Rattle.calm_law.specs.Naming.{IsNamed}
-use Rattle.calm_law.specs.Seeing.{SeenIsSound}
-use Rattle.calm_law.proofs.FileFacts.{named_input}
-use Rattle.calm_law.proofs.MoveFacts.{named_line}
+use Rattle.component_law.specs.Sound.{IsSound}
+use Rattle.component_law.specs.FenceTags.{tag_told, tags_told, Rise, TagRises, EachStepTellsTags}
+use Rattle.component_law.specs.Naming.{IsNamed}
+use Rattle.component_law.specs.Seeing.{SeenIsSound}
+use Rattle.component_law.proofs.FileFacts.{named_input}
+use Rattle.component_law.proofs.MoveFacts.{named_line}
 use Rattle.cause_law.specs.FenceTags as tags
 use Rattle.cause_law.specs.FenceTags.{TagGoes, TagsGo, EachTagHasItsCause}
 use Rattle.cause_law.proofs.NoteLines.{is_note, IsOfNotes, rest_tells}
 use Rattle.cause_law.proofs.Noting.{written_there}
-use Rattle.cause_law.proofs.Inputs.{IsMoved, IsShown, at_inputs}
+use Rattle.cause_law.proofs.CauseInputs.{IsMoved, IsShown, at_inputs}
 use Rattle.cause_law.proofs.Grants.{sound_at}
 use Rattle.cause_law.proofs.TagSteps.{Near, stays_near}
 

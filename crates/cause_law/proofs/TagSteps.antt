@@ -12,15 +12,15 @@ use Rattle.server_rules.specs.Replies.{hearing}
 use Rattle.server_rules.specs.Requests.{serves, on_request}
 use Rattle.server_rules.proofs.FileLaws.{number_at, not_there}
 use Rattle.world_history.specs.ServerNames.{Server, File, Job, ClientRequest}
-use Rattle.move_law.specs.Steps.{Answering, IsAnswering, answered_file, new_file, IsAsked, StepCases}
-use Rattle.move_law.proofs.Files as Files
-use Rattle.move_law.proofs.Files.{in_at, put_each, add_each, declared_each, opened_each, crashed_each}
-use Rattle.move_law.proofs.Steps.{each_request, each_step}
-use Rattle.job_law.specs.Fencing.{Reached}
-use Rattle.job_law.proofs.Fences.{GoesFrom, handled_fence, handled_making}
-use Rattle.job_law.proofs.Hearing.{found_in, goes_hears}
-use Rattle.job_law.proofs.Asking.{handled_served, handled_declares, handled_opened}
-use Rattle.calm_law.specs.Sound.{IsSound}
+use Rattle.history_law.specs.Steps.{Answering, IsAnswering, answered_file, new_file, IsAsked, StepCases}
+use Rattle.history_law.proofs.Files as Files
+use Rattle.history_law.proofs.Files.{in_at, put_each, add_each, declared_each, opened_each, crashed_each}
+use Rattle.history_law.proofs.Steps.{each_request, each_step}
+use Rattle.history_law.specs.Fencing.{Reached}
+use Rattle.history_law.proofs.Fences.{GoesFrom, handled_fence, handled_making}
+use Rattle.history_law.proofs.Hearing.{found_in, goes_hears}
+use Rattle.history_law.proofs.Asking.{handled_served, handled_declares, handled_opened}
+use Rattle.component_law.specs.Sound.{IsSound}
 use Rattle.cause_law.proofs.Changing.{at_place}
 
 -- the same file, with its tag or the next one

@@ -30,29 +30,29 @@ use Rattle.world_history.specs.Book.{ServerSeen, server_after}
 use Rattle.world_history.specs.History.{OneEventMore}
 use Rattle.world_history.specs.Laws.{shown}
 use Rattle.world_history.proofs.Parties.{party_server, party_client}
-use Rattle.move_law.specs.Answers.{AnswersOnly, Never, ServerDid, Quiet, Asked}
-use Rattle.move_law.specs.Moments.{IsMoment, with_event, plan_at, lines_in}
-use Rattle.move_law.specs.Moves.{IsForServer}
-use Rattle.move_law.specs.Steps.{IsAsked}
-use Rattle.move_law.proofs.Answers.{step_did}
-use Rattle.move_law.proofs.Moments.{always}
-use Rattle.move_law.proofs.Moves.{each_act}
-use Rattle.move_law.proofs.Steps.{each_request}
+use Rattle.history_law.specs.Answers.{AnswersOnly, Never, ServerDid, Quiet, Asked}
+use Rattle.history_law.specs.Moments.{IsMoment, with_event, plan_at, lines_in}
+use Rattle.history_law.specs.Moves.{IsForServer}
+use Rattle.history_law.specs.Steps.{IsAsked}
+use Rattle.history_law.proofs.Answers.{step_did}
+use Rattle.history_law.proofs.Moments.{always}
+use Rattle.history_law.proofs.Moves.{each_act}
+use Rattle.history_law.proofs.Steps.{each_request}
 use Rattle.history_law.specs.Grants.{GrantsAreSafe}
 use Rattle.history_law.specs.Read.{AreWritten, BookIsRead}
 use Rattle.history_law.proofs.DriveLines.{sent_read}
 use Rattle.history_law.proofs.IssuingMoves.{acts_known}
 use Rattle.history_law.proofs.IssueLines.{IsKnown, all_known}
 use Rattle.history_law.proofs.Staying.{written_front}
-use Rattle.fencing_law.proofs.Ending.{next_moment}
-use Rattle.fencing_law.proofs.Moves.{Acts, Others, Serves, each_acts}
+use Rattle.history_law.proofs.Ending.{next_moment}
+use Rattle.history_law.proofs.FencingMoves.{Acts, Others, Serves, each_acts}
 use Rattle.exchange_law.specs.InStep.{ClientsAreInStep}
 use Rattle.exchange_law.specs.Made.{answer_to}
 use Rattle.exchange_law.proofs.Admitting.{is_last}
 use Rattle.exchange_law.proofs.CountMoments.{at_moment}
 use Rattle.exchange_law.proofs.SlotServing.{Comes, request_comes}
-use Rattle.tag_law.proofs.Saying.{only_in, found_slot, kept_sent}
-use Rattle.tag_law.proofs.Telling.{in_sent as in_sent_lines, not_silent, behind_event as behind_event_line}
+use Rattle.component_law.proofs.Saying.{only_in, found_slot, kept_sent}
+use Rattle.component_law.proofs.Telling.{in_sent as in_sent_lines, not_silent, behind_event as behind_event_line}
 use Rattle.cause_law.specs.Answers.{IsCaused, answer_line}
 use Rattle.cause_law.specs.Told.{WasSent, Answers as AnswersIt, ToNew, Repeats, Refuses, IsToRequest, IsTold, TellsRecall, TellsAnswer, TellsCaused, EachMessageIsCaused}
 use Rattle.cause_law.proofs.Answering.{safe_at}

@@ -8,8 +8,8 @@ use Rattle.client_rules.specs.History.{Input, step}
 use Rattle.client_rules.specs.Messages.{Step, finished, on_phase, on_call}
 use Rattle.client_rules.specs.Replies.{replied, timed_out}
 use Rattle.world_history.specs.ClientNames.{Client, CallOp, Call, Held, Due, Need, First, Get, Phase, Starts, Needs, Waits, Reads, Probes, Gathers, Scatters, Outcome, Done, Request}
-use Rattle.move_law.specs.Turns.{IsAnswered, with_start, TurnCases}
-use Rattle.move_law.proofs.Turns.{each_turn}
+use Rattle.history_law.specs.Turns.{IsAnswered, with_start, TurnCases}
+use Rattle.history_law.proofs.Turns.{each_turn}
 use Rattle.cause_law.specs.Ends.{Says}
 use Rattle.cause_law.proofs.Dealing.{IsOwn, NeedOwn, PhaseOwn, CallOwn, EndOwn, DoneOwn, replied_own, timed_out_own, begins_own, moved_own, need_own}
 

@@ -10,7 +10,7 @@ use Rattle.world_history.specs.Book.{server_after, book_of, awaited_in}
 use Rattle.world_history.specs.State.{World}
 use Rattle.world_history.specs.History.{StandsFor}
 use Rattle.history_law.specs.Read.{AreWritten}
-use Rattle.calm_law.specs.Going.{taken_out}
+use Rattle.component_law.specs.Going.{taken_out}
 use Rattle.cause_law.specs.Steps.{AtInputs}
 use Rattle.cause_law.specs.Awaiting.{Answers}
 

@@ -9,9 +9,9 @@ use Rattle.world_history.specs.ServerNames.{Server, File, OrderKind, ToRevoke, T
 use Rattle.world_history.specs.Book.{server_after, book_of}
 use Rattle.world_history.specs.State.{World}
 use Rattle.world_history.specs.History.{StandsFor}
-use Rattle.move_law.specs.Steps.{IsOrder}
-use Rattle.job_law.specs.Fencing.{is_fencing}
-use Rattle.calm_law.specs.Going.{IsMaking}
+use Rattle.history_law.specs.Steps.{IsOrder}
+use Rattle.history_law.specs.Fencing.{is_fencing}
+use Rattle.component_law.specs.Going.{IsMaking}
 use Rattle.history_law.specs.Read.{AreWritten}
 use Rattle.cause_law.specs.Answers.{IsNew}
 use Rattle.cause_law.specs.Steps.{AtInputs}

@@ -5,7 +5,7 @@ use Rattle.scenario_text.specs.declared.line.Line.{Line}
 use Rattle.world_history.specs.Book.{server_after, book_of}
 use Rattle.world_history.specs.State.{World}
 use Rattle.world_history.specs.History.{StandsFor}
-use Rattle.calm_law.specs.Going.{taken_out, Goes}
+use Rattle.component_law.specs.Going.{taken_out, Goes}
 use Rattle.history_law.specs.Read.{AreWritten}
 use Rattle.cause_law.specs.Steps.{AtInputs}
 

@@ -20,9 +20,9 @@ use Rattle.world_history.specs.Told.{kind_of, told_outcome}
 use Rattle.world_history.specs.Moves.{Action}
 use Rattle.world_history.specs.Sending.{Move}
 use Rattle.world_history.specs.Plans.{due}
-use Rattle.move_law.specs.Moments.{IsMoment, plan_at, lines_in}
-use Rattle.move_law.specs.Moves.{IsForClient}
-use Rattle.move_law.specs.Turns.{IsAnswered}
+use Rattle.history_law.specs.Moments.{IsMoment, plan_at, lines_in}
+use Rattle.history_law.specs.Moves.{IsForClient}
+use Rattle.history_law.specs.Turns.{IsAnswered}
 
 -- ---- what an answer says
 

@@ -7,7 +7,7 @@ use Rattle.world_history.specs.Book.{book_of}
 use Rattle.world_history.specs.State.{World}
 use Rattle.world_history.specs.History.{StandsFor}
 use Rattle.history_law.specs.Read.{AreWritten}
-use Rattle.calm_law.specs.FenceTags.{tags_told, IsMakingWith}
+use Rattle.component_law.specs.FenceTags.{tags_told, IsMakingWith}
 use Rattle.cause_law.specs.Steps.{AtInputs}
 
 -- How the tag of a file goes on in a step with these lines: there is no such file; it is made, with the tag that it is to have;

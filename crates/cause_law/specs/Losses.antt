@@ -11,8 +11,8 @@ use Rattle.world_history.specs.Book.{server_after, book_of}
 use Rattle.world_history.specs.State.{World}
 use Rattle.world_history.specs.History.{StandsFor}
 use Rattle.history_law.specs.Read.{AreWritten}
-use Rattle.calm_law.specs.Components.{is_lacking}
-use Rattle.calm_law.specs.Going.{taken_out}
+use Rattle.component_law.specs.Components.{is_lacking}
+use Rattle.component_law.specs.Going.{taken_out}
 use Rattle.cause_law.specs.Steps.{AtInputs}
 
 -- the note tells that component k is missing

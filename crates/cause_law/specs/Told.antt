@@ -21,8 +21,8 @@ use Rattle.world_history.specs.State.{World}
 use Rattle.world_history.specs.Moves.{Action}
 use Rattle.world_history.specs.Sending.{Move}
 use Rattle.world_history.specs.Plans.{due}
-use Rattle.move_law.specs.Moments.{IsMoment, plan_at, lines_in}
-use Rattle.move_law.specs.Moves.{IsForServer}
+use Rattle.history_law.specs.Moments.{IsMoment, plan_at, lines_in}
+use Rattle.history_law.specs.Moves.{IsForServer}
 use Rattle.history_law.specs.Read.{AreWritten}
 use Rattle.cause_law.specs.Answers.{IsCaused, answer_line}
 

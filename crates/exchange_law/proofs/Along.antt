@@ -18,8 +18,8 @@ use Rattle.world_history.proofs.Runs.{world_more}
 use Rattle.history_law.specs.BookMoments.{IsMoment, lines_so_far, lines_in}
 use Rattle.history_law.proofs.BookMoments.{later_rule}
 use Rattle.history_law.proofs.Histories.{cut_at}
-use Rattle.move_law.proofs.Moments.{so_far_more}
-use Rattle.fencing_law.proofs.Ending.{next_moment}
+use Rattle.history_law.proofs.Moments.{so_far_more}
+use Rattle.history_law.proofs.Ending.{next_moment}
 
 -- an event with which a move begins isn't refused
 abbrev pub MayMove : World → Move → Type 0

@@ -22,8 +22,8 @@ use Rattle.layout_ops.specs.Reading.{segment_in, get_ok_in, get_behind, get_resu
 use Rattle.layout_ops.proofs.Fields.{u32_law, bool_law, operation_law, stateid_law}
 use Rattle.layout_ops.proofs.Steps.{named}
 use Rattle.client_rules.specs.Results.{layouts_in}
-use Rattle.fencing_law.proofs.Fronts.{codec_gets, next, number_needs}
-use Rattle.fencing_law.proofs.Parts.{field_32, field_64, carried_ok, lifted_ok, message_ends}
+use Rattle.history_law.proofs.Fronts.{codec_gets, next, number_needs}
+use Rattle.history_law.proofs.Parts.{field_32, field_64, carried_ok, lifted_ok, message_ends}
 
 -- ---- what names a grant
 

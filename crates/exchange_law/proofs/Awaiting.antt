@@ -7,7 +7,7 @@ use Rattle.osd_commands.specs.declared.replies.Reply.{Reply}
 use Rattle.client_rules.specs.declared.limits.TheConstants.{NONCES, PERFORMED}
 use Rattle.client_rules.specs.Messages.{awaited_of}
 use Rattle.client_rules.specs.History.{step as client_step}
-use Rattle.move_law.specs.Said.{posted}
+use Rattle.history_law.specs.Said.{posted}
 use Rattle.exchange_law.specs.ClientNonces.{grant_of}
 use Rattle.exchange_law.proofs.Rising.{Each, IsAmong}
 use Rattle.server_rules.specs.Laws.{In}

@@ -12,8 +12,8 @@ use Rattle.world_history.specs.State.{ClientAt, World, at_number, with_number, a
 use Rattle.world_history.specs.Handed.{Post, is_addressed, server_post, client_posts, wrote_in, data_in, op_in}
 use Rattle.world_history.specs.Moves.{Act, Action, acts}
 use Rattle.world_history.specs.Sending.{Move, move, fresh}
-use Rattle.move_law.specs.Moves.{MoveCases}
-use Rattle.move_law.proofs.Moves.{each_act}
+use Rattle.history_law.specs.Moves.{MoveCases}
+use Rattle.history_law.proofs.Moves.{each_act}
 use Rattle.history_law.specs.HistoryMoments.{IsReached}
 use Rattle.history_law.proofs.HistoryMoments.{always}
 use Rattle.history_law.proofs.Counting.{acts_count, length_map}

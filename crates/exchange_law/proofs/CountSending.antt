@@ -27,9 +27,9 @@ use Rattle.world_history.specs.State.{World}
 use Rattle.world_history.specs.Spelled.{spelled}
 use Rattle.world_history.specs.Handed.{Post, is_addressed, server_post, client_posts, wrote_in, data_in, op_in, for_server}
 use Rattle.world_history.specs.Moves.{Act, Action, Opens, Delivers, TimesOut, Pends, has_algorithm, knows_drive, raw_of, acts}
-use Rattle.move_law.specs.Said.{IsDelivered}
-use Rattle.move_law.specs.Moves.{MoveCases, IsForServer, given_in, number_in}
-use Rattle.move_law.proofs.Moves.{each_act}
+use Rattle.history_law.specs.Said.{IsDelivered}
+use Rattle.history_law.specs.Moves.{MoveCases, IsForServer, given_in, number_in}
+use Rattle.history_law.proofs.Moves.{each_act}
 use Rattle.history_law.specs.Doing.{heard_of, brought_to, brought, input_in}
 use Rattle.exchange_law.proofs.CountTelling.{ReadsWell}
 use Rattle.exchange_law.proofs.Fronts.{BeginsWithBytes, NumbersFit, request_read, begins_spelled}

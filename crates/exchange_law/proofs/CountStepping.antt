@@ -25,9 +25,9 @@ use Rattle.server_rules.specs.Replies.{answers, hearing}
 use Rattle.server_rules.specs.History.{Input, Makes, Adds, Formats}
 use Rattle.world_history.specs.Handed.{Post, is_addressed, server_post}
 use Rattle.history_law.specs.Placed.{AreNamed}
-use Rattle.history_law.proofs.Steps.{offline_named}
-use Rattle.move_law.specs.Steps.{Answering, IsAnswering, answered_file, with_answer}
-use Rattle.move_law.proofs.Steps.{each_request}
+use Rattle.history_law.proofs.HistorySteps.{offline_named}
+use Rattle.history_law.specs.Steps.{Answering, IsAnswering, answered_file, with_answer}
+use Rattle.history_law.proofs.Steps.{each_request}
 use Rattle.exchange_law.specs.Files.{GrantFits, KeptFits}
 use Rattle.exchange_law.proofs.Parts.{each_more, each_as, each_in, IsNear, AllNear, JobFits, wider_job}
 use Rattle.exchange_law.proofs.Running.{wider_kept, Sound, From, here, noted}

@@ -9,8 +9,8 @@ use Rattle.server_rules.specs.Openings.{opens_each}
 use Rattle.server_rules.specs.Orders.{offline, declares_each, declare}
 use Rattle.server_rules.specs.Making.{with_file}
 use Rattle.server_rules.specs.History.{Input, Hears, step}
-use Rattle.move_law.specs.Steps.{answered_file, new_file}
-use Rattle.move_law.proofs.Steps.{each_step}
+use Rattle.history_law.specs.Steps.{answered_file, new_file}
+use Rattle.history_law.proofs.Steps.{each_step}
 use Rattle.exchange_law.proofs.CountStepping.{ServerFits, IsGiven, StepFits}
 use Rattle.exchange_law.proofs.Making.{ordered_fits, step_cases}
 use Rattle.exchange_law.proofs.Answering.{SentGood, SlotsGood, StepGood, drives_good, recalls_good, more_slots, IsRead, request_good}

@@ -19,9 +19,9 @@ use Rattle.world_history.specs.State.{ClientAt, World, at_number, with_number, w
 use Rattle.world_history.specs.Handed.{Post, plain, is_addressed, quiet, server_post, client_posts, client_body, for_client}
 use Rattle.world_history.specs.Moves.{Act, Action, adds_client, acts}
 use Rattle.server_rules.proofs.Members.{in_mapped, in_filtered}
-use Rattle.fencing_law.proofs.Moves.{messages_in}
-use Rattle.move_law.specs.Moves.{IsForClient, MoveCases}
-use Rattle.move_law.proofs.Moves.{each_act}
+use Rattle.history_law.proofs.FencingMoves.{messages_in}
+use Rattle.history_law.specs.Moves.{IsForClient, MoveCases}
+use Rattle.history_law.proofs.Moves.{each_act}
 
 -- ---- what an action does of clients
 

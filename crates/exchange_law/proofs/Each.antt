@@ -33,12 +33,12 @@ use Rattle.exchange_law.specs.Doing.{said, posted, IsDelivered, IsHeardByServer,
 use Rattle.exchange_law.specs.Messages.{EachMessage, AsksOf, AnswersOf}
 use Rattle.exchange_law.specs.Made.{WasMade, answer_to}
 use Rattle.exchange_law.specs.InStep.{ClientsAreInStep, state_of}
-use Rattle.move_law.proofs.Goes.{moves_are_steps}
+use Rattle.history_law.proofs.Goes.{moves_are_steps}
 use Rattle.exchange_law.proofs.SlotMoments.{comes_new, always}
 use Rattle.exchange_law.proofs.SlotLists.{each_at, said_more, addressed_each, client_asks, client_answers_none}
 use Rattle.exchange_law.proofs.SlotStepping.{step_asks}
-use Rattle.move_law.specs.Answers.{ServerDid, Quiet, Asked}
-use Rattle.move_law.proofs.Answers.{step_did}
+use Rattle.history_law.specs.Answers.{ServerDid, Quiet, Asked}
+use Rattle.history_law.proofs.Answers.{step_did}
 use Rattle.exchange_law.proofs.Standing.{Parts, stays}
 use Rattle.exchange_law.proofs.SlotAnswered.{sent_by, quiet_keeps, IsReadOf, read_of, own_request, other_request}
 use Rattle.exchange_law.proofs.SlotKeeping.{InStep, own_step}

@@ -29,7 +29,7 @@ use Rattle.history_law.proofs.Growing.{history_grows, still_given}
 use Rattle.history_law.proofs.IssuedLaw.{answered}
 use Rattle.history_law.proofs.Replying.{is_performed}
 use Rattle.history_law.proofs.Unforged.{unforged_front}
-use Rattle.fencing_law.proofs.HolderLaw.{listed_holder, given_named}
+use Rattle.history_law.proofs.HolderLaw.{listed_holder, given_named}
 use Rattle.exchange_law.proofs.Sources.{Source, IsOwned, SourceAt, IsKnownOf, AreKnown, owned_more, below, by_sender, delivered_owned}
 
 -- the command carries a capability that an answer of the server gave the client

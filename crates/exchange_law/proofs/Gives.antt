@@ -10,9 +10,9 @@ use Rattle.server_rules.specs.Files.{Step, at_file, file_at, to_drives}
 use Rattle.server_rules.specs.Slots.{Again, slot_of, keep}
 use Rattle.server_rules.specs.Requests.{serves, no_file, size_in, answer_with, answer_without, carries_out, on_request}
 use Rattle.server_rules.specs.History.{Input, step}
-use Rattle.move_law.specs.Answers.{AnswersOnly, Never, IsQuiet, ServerDid, Quiet, Asked}
-use Rattle.move_law.proofs.Answers.{more_only, drives_only, recalls_only, IsAdmitted, is_admitted, step_did}
-use Rattle.move_law.proofs.Steps.{each_request}
+use Rattle.history_law.specs.Answers.{AnswersOnly, Never, IsQuiet, ServerDid, Quiet, Asked}
+use Rattle.history_law.proofs.Answers.{more_only, drives_only, recalls_only, IsAdmitted, is_admitted, step_did}
+use Rattle.history_law.proofs.Steps.{each_request}
 use Rattle.exchange_law.proofs.RefusalTelling.{named, served_next, refused_names, answer_names}
 
 -- ---- what is given

@@ -33,13 +33,13 @@ use Rattle.server_rules.specs.Return.{Returned, NoGrant as NotHeld, Clean, Taken
 use Rattle.server_rules.specs.Served.{Served}
 use Rattle.server_rules.specs.Slots.{Admit, New, Again, Misordered, slot_of, admit, keep}
 use Rattle.server_rules.proofs.FileLaws.{number_at, put_same, put_other, keep_same, keep_other}
-use Rattle.move_law.proofs.Files.{put_gives}
+use Rattle.history_law.proofs.Files.{put_gives}
 use Rattle.exchange_law.specs.Held.{Agrees}
 use Rattle.exchange_law.specs.HeldTaken.{IsGetOf}
 use Rattle.exchange_law.specs.Calls.{Knows, IsNoGet, Writes, Passes, IsCall, PhaseFine, CallFine, IsAsking, GoodAnswer}
 use Rattle.exchange_law.specs.Meeting.{AgreesAt, KeptGood, IsMet, Reads, FilesSound}
 use Rattle.exchange_law.proofs.HeldServing.{MayGive, serves_may, IsTellable}
-use Rattle.move_law.specs.Files.{FilesGo, Quiet, Asked}
+use Rattle.history_law.specs.Files.{FilesGo, Quiet, Asked}
 use Rattle.exchange_law.proofs.HeldSteps.{IsFewer, HasNone, step_did}
 use Rattle.exchange_law.proofs.HeldAnswered.{none_good, no_file_good, call_told, args_of_commit, commit_good, no_file_commit}
 use Rattle.exchange_law.proofs.HeldTaken.{its_grant, told_for, given_is_taken}

@@ -18,9 +18,9 @@ use Rattle.world_history.specs.Names.{where_known, note_line, is_tellable, is_te
 use Rattle.world_history.specs.Handed.{Post, op_in, end_line, ended_by}
 use Rattle.world_history.specs.Moves.{Act, Action, acts}
 use Rattle.world_history.specs.Sending.{sent_lines}
-use Rattle.move_law.specs.Moves.{MoveCases, AreQuiet, front_of}
-use Rattle.move_law.proofs.Moves.{front_cases, each_act}
-use Rattle.move_law.proofs.Goes.{for_client}
+use Rattle.history_law.specs.Moves.{MoveCases, AreQuiet, front_of}
+use Rattle.history_law.proofs.Moves.{front_cases, each_act}
+use Rattle.history_law.proofs.Goes.{for_client}
 use Rattle.exchange_law.specs.Doing.{IsHeardByClient}
 use Rattle.exchange_law.specs.Calls.{IsFair, EndsFair}
 use Rattle.exchange_law.specs.Ends.{EndsAt}

@@ -8,8 +8,8 @@ use Rattle.server_rules.specs.Laws.{AreSafe}
 use Rattle.server_rules.specs.Making.{with_file}
 use Rattle.server_rules.specs.Orders.{offline}
 use Rattle.server_rules.proofs.Runs.{ran_making}
-use Rattle.move_law.specs.Files.{GoesAt, AllGo, FilesGo}
-use Rattle.move_law.proofs.Files.{safe_in, files_go}
+use Rattle.history_law.specs.Files.{GoesAt, AllGo, FilesGo}
+use Rattle.history_law.proofs.Files.{safe_in, files_go}
 use Rattle.exchange_law.proofs.Grants.{Fewer, fewer_itself, fence_fewer, declares_fewer, opens_fewer, hears_none}
 
 abbrev pub IsFewer : List Drive → File → File → Type 0

@@ -34,14 +34,14 @@ use Rattle.history_law.specs.Grants.{GrantsAreSafe}
 use Rattle.history_law.specs.HistoryMoments.{IsReached}
 use Rattle.history_law.specs.BookMoments.{IsMoment, lines_so_far, lines_in, plan_at}
 use Rattle.world_history.proofs.Runs.{due_more, world_more}
-use Rattle.move_law.proofs.Moments.{so_far_more}
+use Rattle.history_law.proofs.Moments.{so_far_more}
 use Rattle.exchange_law.specs.Doing.{said, IsHeardByServer, IsHeardByClient, OthersGo, ServerGoes, ClientGoes, ClientStops, ClientComes, Goes, Others, AServer, AClient, Stops, Comes}
 use Rattle.exchange_law.specs.Messages.{AsksOf, IsAsked, last_before}
 use Rattle.exchange_law.specs.InStep.{StandsAt, state_of}
 use Rattle.exchange_law.specs.Taking.{AnswersAreOwn}
 use Rattle.exchange_law.proofs.Admitting.{is_next}
 use Rattle.exchange_law.proofs.SlotAnswered.{read_of, is_outstanding}
-use Rattle.move_law.proofs.Goes.{moves_are_steps}
+use Rattle.history_law.proofs.Goes.{moves_are_steps}
 use Rattle.exchange_law.proofs.Each.{put_same, put_other, stopped_same, come_same, in_step}
 use Rattle.exchange_law.proofs.SlotLists.{each_at}
 use Rattle.exchange_law.proofs.SlotMoments.{comes_new, always}

@@ -27,11 +27,11 @@ use Rattle.world_history.specs.History.Begins.{Nothing, Part}
 use Rattle.world_history.specs.Laws.{shown}
 use Rattle.world_history.specs.Refusals.{refusal}
 use Rattle.world_history.proofs.Parties.{party_drive, party_client}
-use Rattle.move_law.proofs.Moments.{IsKept}
+use Rattle.history_law.proofs.Moments.{IsKept}
 use Rattle.history_law.proofs.Histories as histories
 use Rattle.history_law.specs.BookMoments.{IsMoment, lines_so_far}
-use Rattle.fencing_law.proofs.LaneLines.{in_get}
-use Rattle.fencing_law.proofs.Moves.{messages_in}
+use Rattle.history_law.proofs.LaneLines.{in_get}
+use Rattle.history_law.proofs.FencingMoves.{messages_in}
 use Rattle.history_law.proofs.IssueLines.{IsKnown, all_known}
 use Rattle.exchange_law.specs.Sent.{message_of, HasSent}
 use Rattle.exchange_law.proofs.Dealing.{message_by, Acts, Others, Goes, Makes, each_acts}

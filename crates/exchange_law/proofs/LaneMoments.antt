@@ -12,7 +12,7 @@ use Rattle.world_history.specs.History.{Step, AreCarried, end_of, lines_of_steps
 use Rattle.world_history.specs.Refusals.{refusal}
 use Rattle.world_history.proofs.Runs.{due_more, plan_more}
 use Rattle.history_law.specs.BookMoments.{IsMoment, lines_so_far, lines_in}
-use Rattle.move_law.proofs.Moments.{so_far_more, IsKept}
+use Rattle.history_law.proofs.Moments.{so_far_more, IsKept}
 
 world_more : (w : World) (ms : List Move) (m : Move) → (move (world_after w ms) m).world ≡ world_after w (ms ++ m ∷ [])
 world_more w [] m = refl

@@ -10,7 +10,7 @@ use Rattle.scenario_text.specs.declared.line.Party.TheVariants as party
 use Rattle.scenario_text.specs.declared.line.Line.{Line}
 use Rattle.world_history.specs.declared.messages.Sent.{Sent}
 use Rattle.world_history.specs.Reading.{sent_in}
-use Rattle.fencing_law.proofs.LaneLines.{letter, letters}
+use Rattle.history_law.proofs.LaneLines.{letter, letters}
 use Rattle.exchange_law.proofs.Servers.{servers_own}
 use Rattle.exchange_law.specs.Lanes.{IsFrom, IsOwn, AreLanes, LanesAreOwn}
 use Rattle.exchange_law.proofs.LaneLists.{are_few}

@@ -20,10 +20,10 @@ use Rattle.world_history.specs.Handed.{Post}
 use Rattle.world_history.specs.Moves.{Act, acts}
 use Rattle.world_history.specs.Sending.{sends_all}
 use Rattle.world_history.specs.History.{OneEventMore}
-use Rattle.move_law.proofs.Moments.{IsKept}
+use Rattle.history_law.proofs.Moments.{IsKept}
 use Rattle.history_law.specs.BookMoments.{IsMoment, lines_in}
-use Rattle.fencing_law.proofs.Moves.{messages_in}
-use Rattle.fencing_law.proofs.Numbers.{messages_sent}
+use Rattle.history_law.proofs.FencingMoves.{messages_in}
+use Rattle.history_law.proofs.Numbers.{messages_sent}
 use Rattle.exchange_law.specs.Sent.{message_of, HasSent}
 use Rattle.exchange_law.specs.Given.{IsNew, CanTake, GrantsAreNew}
 use Rattle.exchange_law.specs.Latest.{AwaitedAreLatest}

@@ -21,8 +21,8 @@ use Rattle.server_rules.specs.Making.{checked_64, by_check, refusal, drives_for,
 use Rattle.server_rules.specs.History.{Input, Makes, Adds, Zones, Formats, step}
 use Rattle.server_rules.proofs.Components.{length_components}
 use Rattle.server_rules.proofs.Placed.{length_made}
-use Rattle.move_law.specs.Steps.{IsOrdered, with_added, with_zoned, new_file, StepCases}
-use Rattle.move_law.proofs.Steps.{each_step}
+use Rattle.history_law.specs.Steps.{IsOrdered, with_added, with_zoned, new_file, StepCases}
+use Rattle.history_law.proofs.Steps.{each_step}
 use Rattle.history_law.specs.Placed.{AreNamed}
 use Rattle.history_law.proofs.Placing.{greater_format}
 use Rattle.history_law.proofs.Made.{AllNamed, for_named}

@@ -27,7 +27,7 @@ use Rattle.history_law.specs.Granted.{IsGrantOf, OwnIn}
 use Rattle.history_law.proofs.Issuing.{PostKnown, PostsKnown}
 use Rattle.history_law.proofs.IssuingMoves.{acts_known}
 use Rattle.history_law.proofs.Exact.{own_given}
-use Rattle.move_law.specs.Said.{posted}
+use Rattle.history_law.specs.Said.{posted}
 use Rattle.exchange_law.proofs.Along.{at_moment}
 use Rattle.exchange_law.proofs.Turning.{sent_by}
 use Rattle.exchange_law.proofs.Turns.{messages_behind}

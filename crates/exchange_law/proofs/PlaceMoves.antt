@@ -9,8 +9,8 @@ use Rattle.world_history.specs.Handed.{wrote_in, data_in, op_in}
 use Rattle.world_history.specs.Spelled.{spelled, party_of}
 use Rattle.world_history.specs.Moves.{Action, acts}
 use Rattle.world_history.specs.Laws.{shown}
-use Rattle.move_law.specs.Moves.{IsForClient, MoveCases}
-use Rattle.move_law.proofs.Moves.{each_act}
+use Rattle.history_law.specs.Moves.{IsForClient, MoveCases}
+use Rattle.history_law.proofs.Moves.{each_act}
 use Rattle.history_law.proofs.DriveLines.{view, shown_get}
 use Rattle.exchange_law.specs.PlaceAnswers.{AnswersFit}
 use Rattle.exchange_law.proofs.PlaceSteps.{HeardOwn, InputOwn, step_fits}

@@ -10,7 +10,7 @@ use Rattle.client_rules.specs.declared.limits.TheConstants.{NONCES}
 use Rattle.client_rules.specs.Messages.{Taken, TakesAnswer, takes, awaited_of}
 use Rattle.client_rules.specs.Steps.{new_client}
 use Rattle.client_rules.specs.History.{Input, Calls, Hears, TimesOut, Leaves, Resends, step}
-use Rattle.move_law.specs.Said.{posted}
+use Rattle.history_law.specs.Said.{posted}
 use Rattle.exchange_law.specs.ClientNonces.{nonces_in, nonces_at, granted, grants_at, AllDiffer}
 use Rattle.exchange_law.specs.Requests.{outstanding_at, left_by, OneRequest}
 use Rattle.exchange_law.proofs.Rising.{Each, each_more, each_map, IsAmong, among_more, rising_differ}

@@ -10,7 +10,7 @@ use Rattle.server_rules.specs.History.{step as server_step}
 use Rattle.server_rules.proofs.Members.{in_either}
 use Rattle.client_rules.specs.Messages.{awaited_of}
 use Rattle.client_rules.specs.History.{step as client_step}
-use Rattle.move_law.specs.Said.{posted}
+use Rattle.history_law.specs.Said.{posted}
 use Rattle.exchange_law.specs.Requests.{OneRequest}
 use Rattle.history_law.specs.State.{Client, Awaited, Command}
 use Rattle.scenario_text.specs.declared.event.Event.TheVariants as event

@@ -15,7 +15,7 @@ use Rattle.world_history.specs.State.{World, empty_world}
 use Rattle.world_history.specs.Handed.{Post, is_addressed, server_post}
 use Rattle.world_history.specs.Moves.{Act, acts}
 use Rattle.world_history.specs.Sending.{Move, move}
-use Rattle.move_law.specs.Said.{posted}
+use Rattle.history_law.specs.Said.{posted}
 use Rattle.exchange_law.proofs.Turning.{sent_by, Turn, ByServer, ByClient, ByDrive, Makes, Stops, Rests}
 use Rattle.exchange_law.proofs.Turns.{acts_turn, messages_behind}
 use Rattle.exchange_law.proofs.Replied.{addressed, from_client, none_posted}

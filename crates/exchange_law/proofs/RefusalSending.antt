@@ -5,7 +5,7 @@ use Rattle.server_rules.specs.Laws.{In}
 use Rattle.client_rules.specs.Commands.{placed, before, in_order}
 use Rattle.client_rules.specs.Messages.{to_drive, awaited_of}
 use Rattle.client_rules.specs.Steps.{outstanding_sends, resent}
-use Rattle.move_law.specs.Said.{posted}
+use Rattle.history_law.specs.Said.{posted}
 use Rattle.exchange_law.specs.ClientNonces.{nonces_in, NoneIs, AllDiffer}
 use Rattle.exchange_law.proofs.Rising.{IsAmong}
 use Rattle.history_law.specs.State.{Client, Awaited, Outgoing, AnswersRecall, Asks, ToDrive, Request, Command}

@@ -34,7 +34,7 @@ use Rattle.history_law.proofs.DriveEvents.{IsRead, kept}
 use Rattle.history_law.proofs.DriveLines.{sent_read}
 use Rattle.history_law.specs.BookMoments.{IsMoment, with_event, lines_so_far, lines_in}
 use Rattle.history_law.proofs.Coming.{sent_behind}
-use Rattle.move_law.specs.Said.{posted}
+use Rattle.history_law.specs.Said.{posted}
 use Rattle.exchange_law.specs.Awaited.{IsBehind}
 use Rattle.exchange_law.proofs.Along.{at_moment}
 use Rattle.exchange_law.proofs.Turning.{sent_by, DriveDoes, Turn, ByServer, ByClient, ByDrive, Makes, Stops, Rests}

@@ -27,14 +27,14 @@ use Rattle.world_history.proofs.Always.{opening, IsKept}
 use Rattle.world_history.proofs.Parties.{party_server, party_drive}
 use Rattle.history_law.proofs.DriveLines.{sent_read}
 use Rattle.history_law.proofs.Histories.{lawful}
-use Rattle.job_law.specs.Owned.{AreOwned}
-use Rattle.job_law.proofs.Steps.{step_owns}
+use Rattle.history_law.specs.Owned.{AreOwned}
+use Rattle.history_law.proofs.JobSteps.{step_owns}
 use Rattle.history_law.proofs.Carried.{read_spelled}
 use Rattle.history_law.proofs.IssueLines.{IsKnown, all_known}
-use Rattle.fencing_law.proofs.LaneLines.{letter, letters, letters_stay}
-use Rattle.fencing_law.proofs.Moves.{messages_in, Acts, Others, Serves, each_acts}
-use Rattle.fencing_law.proofs.Numbers.{to_drive, sent_anew, none_anew, messages_sent}
-use Rattle.fencing_law.proofs.Holders.{holder_read}
+use Rattle.history_law.proofs.LaneLines.{letter, letters, letters_stay}
+use Rattle.history_law.proofs.FencingMoves.{messages_in, Acts, Others, Serves, each_acts}
+use Rattle.history_law.proofs.Numbers.{to_drive, sent_anew, none_anew, messages_sent}
+use Rattle.history_law.proofs.Holders.{holder_read}
 use Rattle.exchange_law.proofs.Sources.{ServersOwn}
 
 -- ---- in each world

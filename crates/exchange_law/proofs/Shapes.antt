@@ -19,9 +19,9 @@ use Rattle.server_rules.specs.Making.{new_server, refusal, makes_file, with_file
 use Rattle.server_rules.specs.History.{Input, Makes, Act, step, state_after}
 use Rattle.server_rules.proofs.Components.{length_lost, length_components}
 use Rattle.server_rules.proofs.Placed.{not_refused, length_made}
-use Rattle.move_law.specs.Steps.{answered_file, new_file}
-use Rattle.move_law.proofs.Steps.{each_request, each_step}
-use Rattle.move_law.proofs.Files.{Each, in_at, put_each, add_each, crashed_each, declared_each, opened_each}
+use Rattle.history_law.specs.Steps.{answered_file, new_file}
+use Rattle.history_law.proofs.Steps.{each_request, each_step}
+use Rattle.history_law.proofs.Files.{Each, in_at, put_each, add_each, crashed_each, declared_each, opened_each}
 use Rattle.history_law.specs.Parties.{AllPartiesRun}
 use Rattle.exchange_law.specs.Shapes.{FilesHaveShape}
 use Rattle.exchange_law.proofs.Lengths.{shape, Long, long_making, long_fences, long_declares, long_full, long_loses, long_waits_or_on}

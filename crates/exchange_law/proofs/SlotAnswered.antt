@@ -28,7 +28,7 @@ use Rattle.exchange_law.specs.InStep.{IsAwaiting, StandsAt}
 use Rattle.exchange_law.proofs.Admitting.{is_next, is_last, is_earlier}
 use Rattle.exchange_law.proofs.SlotLists.{each_map, each_more, addressed_each, server_asks_none, server_answers}
 use Rattle.exchange_law.proofs.SlotReading.{server_reads, server_reads_none}
-use Rattle.move_law.specs.Answers.{AnswersOnly, Never, IsQuiet}
+use Rattle.history_law.specs.Answers.{AnswersOnly, Never, IsQuiet}
 use Rattle.exchange_law.proofs.SlotServing.{Comes, request_comes}
 use Rattle.exchange_law.proofs.Standing.{Parts, stays, at_most_one_behind, last_small}
 

@@ -12,7 +12,7 @@ use Rattle.history_law.specs.State.{Client, Request}
 use Rattle.exchange_law.specs.Doing.{said, posted}
 use Rattle.exchange_law.specs.Messages.{EachMessage, WasAsked, AsksOf, WasAnswered, AnswersOf}
 use Rattle.exchange_law.proofs.SlotStepping.{AsksOnly}
-use Rattle.move_law.specs.Answers.{AnswersOnly}
+use Rattle.history_law.specs.Answers.{AnswersOnly}
 
 -- ---- lists
 

@@ -9,8 +9,8 @@ use Rattle.world_history.specs.Sending.{Move}
 use Rattle.world_history.specs.Plans.{Plan, due, due_in, went_on, plan_of}
 use Rattle.world_history.specs.Runs.{world_after, plan_after}
 use Rattle.world_history.specs.Refusals.{refusal, unless_there}
-use Rattle.move_law.specs.Moments.{IsMoment, plan_at}
-pub use Rattle.move_law.proofs.Moments.{IsKept, always}
+use Rattle.history_law.specs.Moments.{IsMoment, plan_at}
+pub use Rattle.history_law.proofs.Moments.{IsKept, always}
 use Rattle.world_history.proofs.Runs.{no_opening}
 use Rattle.world_history.proofs.ReadMessages.{never_opens}
 

@@ -17,8 +17,8 @@ use Rattle.layout_ops.specs.Reading.{args_in, results_in, request_in, answer_in,
 use Rattle.layout_ops.proofs.Fields.{u32_law, operation_law}
 use Rattle.layout_ops.proofs.Steps.{named}
 use Rattle.layout_ops.proofs.Whole.{all_again}
-use Rattle.fencing_law.proofs.Fronts.{codec_gets, next}
-use Rattle.fencing_law.proofs.Parts.{field_32, field_64, message_ends}
+use Rattle.history_law.proofs.Fronts.{codec_gets, next}
+use Rattle.history_law.proofs.Parts.{field_32, field_64, message_ends}
 use Rattle.server_rules.specs.declared.requests.RequestArgs.{RequestArgs}
 use Rattle.server_rules.specs.declared.requests.ClientRequest.{ClientRequest}
 use Rattle.server_rules.specs.Messages.{Asks}

@@ -6,8 +6,8 @@ use Rattle.server_rules.specs.Files.{Step, at_file, file_at, to_drives}
 use Rattle.server_rules.specs.Served.{Served}
 use Rattle.server_rules.specs.Slots.{Admit, New, Again, Misordered, slot_of, admit, keep}
 use Rattle.server_rules.specs.Requests.{serves, answer_with, answer_without, carries_out, by_admit, on_request}
-use Rattle.move_law.specs.Answers.{AnswersOnly}
-use Rattle.move_law.proofs.Answers.{more_only, drives_only, recalls_only}
+use Rattle.history_law.specs.Answers.{AnswersOnly}
+use Rattle.history_law.proofs.Answers.{more_only, drives_only, recalls_only}
 use Rattle.exchange_law.specs.Made.{answer_at, answer_to}
 
 -- a new one leaves its answer in the slot, and is answered so

@@ -24,8 +24,8 @@ use Rattle.world_history.specs.Names.{where_known, note_line, is_tellable_note, 
 use Rattle.world_history.specs.Handed.{Post, quiet, op_in, end_line, ended_by}
 use Rattle.world_history.specs.Moves.{Act, Action, acts}
 use Rattle.world_history.specs.Sending.{Move, move, sent_lines}
-use Rattle.move_law.specs.Moves.{AreQuiet, front_of, MoveCases}
-use Rattle.move_law.proofs.Moves.{front_cases, each_act}
+use Rattle.history_law.specs.Moves.{AreQuiet, front_of, MoveCases}
+use Rattle.history_law.proofs.Moves.{front_cases, each_act}
 use Rattle.history_law.proofs.Each.{EachBehind, each_more, each_front, at_each_line}
 use Rattle.world_history.proofs.Always.{opening, IsKept}
 use Rattle.history_law.proofs.Histories.{lawful}

@@ -29,9 +29,9 @@ use Rattle.history_law.proofs.IssuedLaw.{issued}
 use Rattle.history_law.proofs.IssueLines.{CarriesAt, IsKnown, all_known}
 use Rattle.history_law.proofs.Messages.{SentCarries, AllCarry, all_carry}
 use Rattle.history_law.proofs.DriveMoves.{same_number}
-use Rattle.fencing_law.proofs.LaneLines.{letter, letters, letters_stay, in_get}
-use Rattle.fencing_law.proofs.Named.{NamedAt, AllNamed, lines_named, messages_named}
-use Rattle.fencing_law.proofs.HolderLaw.{issued_holder, client_named}
+use Rattle.history_law.proofs.LaneLines.{letter, letters, letters_stay, in_get}
+use Rattle.history_law.proofs.Named.{NamedAt, AllNamed, lines_named, messages_named}
+use Rattle.history_law.proofs.HolderLaw.{issued_holder, client_named}
 
 -- the party sent these bytes to the drive
 pub record CameFrom (h : List Line) (from : Party) (drive : ℕ) (bytes : List ℕ) : Type 0 where

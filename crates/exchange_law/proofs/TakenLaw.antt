@@ -28,15 +28,15 @@ use Rattle.world_history.specs.History.{OneEventMore}
 use Rattle.world_history.specs.Laws.{shown}
 use Rattle.history_law.proofs.DriveLines.{sent_read, drive_read}
 use Rattle.history_law.specs.BookMoments.{IsMoment}
-use Rattle.fencing_law.proofs.Spelled.{command_reads}
+use Rattle.history_law.proofs.Spelled.{command_reads}
 use Rattle.history_law.proofs.Carried.{none_read}
 use Rattle.history_law.proofs.IssuedLaw.{answered, nothing_allowed}
 use Rattle.history_law.proofs.Issuing.{MaySend}
 use Rattle.history_law.proofs.Known.{AreKnown}
 use Rattle.history_law.proofs.IssueLines.{IsKnown}
 use Rattle.history_law.proofs.Messages.{all_carry}
-use Rattle.fencing_law.proofs.HolderLaw.{given_holder, given_named}
-use Rattle.fencing_law.proofs.Named.{lines_named, messages_named}
+use Rattle.history_law.proofs.HolderLaw.{given_holder, given_named}
+use Rattle.history_law.proofs.Named.{lines_named, messages_named}
 use Rattle.exchange_law.specs.Sent.{IsBacked, CommandsFit}
 use Rattle.exchange_law.specs.Given.{GrantsAreNew}
 use Rattle.exchange_law.specs.Lanes.{IsFrom, IsOwn, AreLanes, LanesAreOwn}

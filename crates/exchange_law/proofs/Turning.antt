@@ -29,7 +29,7 @@ use Rattle.world_history.specs.Drives.{judges, command_in, is_deaf}
 use Rattle.world_history.specs.Handed.{Post, is_addressed, plain, server_post, client_posts, ended_by, op_in}
 use Rattle.world_history.specs.Moves.{Act, Action, Opens, Delivers}
 use Rattle.world_history.specs.Sending.{fresh}
-use Rattle.move_law.specs.Said.{said, posted}
+use Rattle.history_law.specs.Said.{said, posted}
 
 -- ---- messages
 

@@ -24,9 +24,9 @@ use Rattle.world_history.specs.Spelled.{spelled}
 use Rattle.world_history.specs.Handed.{op_in, wrote_in, data_in, is_write_out}
 use Rattle.world_history.specs.Moves.{Act, Action, Opens, Delivers, adds_client, known_drive, acts}
 use Rattle.world_history.specs.Sending.{Move, move}
-use Rattle.move_law.specs.Said.{posted, IsDelivered}
-use Rattle.move_law.specs.Moves.{MoveCases, IsForServer, IsForClient, AreQuiet, number_in, front_of}
-use Rattle.move_law.proofs.Moves.{front_cases, each_act}
+use Rattle.history_law.specs.Said.{posted, IsDelivered}
+use Rattle.history_law.specs.Moves.{MoveCases, IsForServer, IsForClient, AreQuiet, number_in, front_of}
+use Rattle.history_law.proofs.Moves.{front_cases, each_act}
 use Rattle.exchange_law.proofs.Turning.{sent_by, bodies_more, body_in, AreNoRefusals, notes_told, Becomes, WasPosted, ComesTo, ComesToServer, IsAwake, ByServer, ByClient, ByDrive, Makes, Stops, Rests, IsTurn}
 
 -- ---- one client

@@ -16,7 +16,7 @@ use Rattle.world_history.specs.History.Begins.{Nothing, Part}
 use Rattle.history_law.specs.BookMoments.{IsMoment, with_event, lines_in, lines_so_far, plan_at}
 use Rattle.world_history.proofs.ReadMessages.{never_opens}
 use Rattle.world_history.proofs.Runs.{due_more, plan_more, world_more}
-use Rattle.move_law.proofs.Moments.{so_far_more}
+use Rattle.history_law.proofs.Moments.{so_far_more}
 use Rattle.file_simulation.specs.Simulation.{IsNext}
 
 -- the history ends behind the first `count` lines of a move

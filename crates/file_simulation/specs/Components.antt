@@ -10,7 +10,7 @@ use Rattle.server_rules.specs.Messages.{awaited_by}
 use Rattle.world_history.specs.ServerNames.{File, Component}
 use Rattle.world_history.specs.State.{World, DriveAt, at_number}
 use Rattle.exchange_law.specs.Sent.{HasSent}
-use Rattle.sent_law.specs.Standing.{IsCreating}
+use Rattle.component_law.specs.Standing.{IsCreating}
 use Rattle.fence_law.specs.State.{State}
 use Rattle.fence_law.specs.Words.{In as InRun}
 

@@ -17,7 +17,7 @@ use Rattle.world_history.specs.declared.messages.Body.TheVariants.{Reply as OfRe
 use Rattle.world_history.specs.State.{World}
 use Rattle.exchange_law.specs.Doing.{said}
 use Rattle.exchange_law.specs.Sent.{HasSent}
-use Rattle.sent_law.specs.Sent.{commanded}
+use Rattle.component_law.specs.Sent.{commanded}
 use Rattle.fence_law.specs.State as machine
 use Rattle.fence_law.specs.Words.{In as InRun}
 use Rattle.file_simulation.specs.Components.{object_of}

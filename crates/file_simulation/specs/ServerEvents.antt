@@ -14,7 +14,7 @@ use Rattle.server_rules.specs.History.{Input, Hears, Obeys, Opens}
 use Rattle.server_rules.specs.Laws.{is_taken_of}
 use Rattle.client_rules.specs.Results.{status_of}
 use Rattle.client_rules.specs.Answers.{is_loss_taken}
-use Rattle.sent_law.specs.Tagged.{fence_open}
+use Rattle.component_law.specs.Tagged.{fence_open}
 use Rattle.world_history.specs.ServerNames as server_rules
 use Rattle.world_history.specs.ServerNames.{Server, File, Component, ClientRequest, RequestArgs, Get as Gets, Commit as Commits, Return as Returns, Note, NoteKind, Outgoing, Answers, OrderKind, ToRecall, ToRevoke, ToDeclare, ToRebuild, ToAudit}
 use Rattle.world_history.specs.State.{World, at_number}

@@ -1,7 +1,7 @@
 // What is proved of the simulation of files by the machine of a file.
 ghost use Rattle.file_simulation.specs.Conclusion.{RunsGiveTheHeadline, SimulationGivesRuns};
 
-use calm_law::pending_is_read;
+use component_law::pending_is_read;
 use fence_law::{judged, whole};
 use plan_law::{columns_have_stripes, layouts_are_codes};
 use world_history::{one_event_more, reading_goes_on};

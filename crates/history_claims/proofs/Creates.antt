@@ -29,7 +29,7 @@ use Rattle.world_history.specs.Book.{ServerSeen, placed_in, book_of}
 use Rattle.world_history.specs.Laws.{ServerGoesOn, AllLinesGoOn}
 use Rattle.world_history.specs.History.{OneEventMore}
 use Rattle.world_history.proofs.Always.{opening}
-use Rattle.move_law.proofs.Moments.{stands_kept}
+use Rattle.history_law.proofs.Moments.{stands_kept}
 use Rattle.history_law.specs.BookMoments.{IsMoment, plan_at, lines_in}
 use Rattle.history_law.specs.Placed.{IsReadable}
 use Rattle.history_law.specs.Read.{AreWritten}
@@ -40,14 +40,14 @@ use Rattle.history_law.proofs.Leading.{begins_flat}
 use Rattle.history_law.proofs.Made.{for_named, told_on}
 use Rattle.history_law.proofs.Staying.{written_front}
 use Rattle.history_law.proofs.StepEnds.{place_of}
-use Rattle.calm_law.specs.Words.{Each}
-use Rattle.calm_law.specs.Following.{is_opening}
-use Rattle.calm_law.proofs.Shapes.{Bare, is_event, sent_bare}
-use Rattle.calm_law.proofs.Inside.{shape_each, opens_each}
-use Rattle.calm_law.proofs.MoveFollowing.{acts_shape, next_opens, plain_lines}
-use Rattle.calm_law.proofs.MoveOpening.{begins_bare}
+use Rattle.component_law.specs.Words.{Each}
+use Rattle.component_law.specs.Following.{is_opening}
+use Rattle.component_law.proofs.Shapes.{Bare, is_event, sent_bare}
+use Rattle.component_law.proofs.Inside.{shape_each, opens_each}
+use Rattle.component_law.proofs.MoveFollowing.{acts_shape, next_opens, plain_lines}
+use Rattle.component_law.proofs.MoveOpening.{begins_bare}
 use Rattle.exchange_law.proofs.CountMoments.{at_moment}
-use Rattle.fencing_law.proofs.Ending.{next_moment}
+use Rattle.history_law.proofs.Ending.{next_moment}
 use Rattle.history_claims.specs.Created.{file_event, ArePlaced, FilesAreCreated, EachFileIsCreated}
 
 -- ---- the file

@@ -24,9 +24,9 @@ use Rattle.history_law.specs.Read.{is_written_line, AreWritten}
 use Rattle.history_law.proofs.Counting.{acts_count}
 use Rattle.history_law.proofs.DriveEvents.{kept as all_read, IsRead}
 use Rattle.history_law.proofs.Histories.{kept_part, stands}
-use Rattle.calm_law.specs.Words.{Each}
-use Rattle.calm_law.proofs.Shapes.{is_event}
-use Rattle.calm_law.proofs.Inside.{event_each}
+use Rattle.component_law.specs.Words.{Each}
+use Rattle.component_law.proofs.Shapes.{is_event}
+use Rattle.component_law.proofs.Inside.{event_each}
 use Rattle.exchange_law.specs.Text.{IsOfText, AreOfText, AreFew}
 use Rattle.exchange_law.proofs.Bytes.{some_byte, each_message_is_kept}
 use Rattle.exchange_law.proofs.ClientMoves.{longer_by}

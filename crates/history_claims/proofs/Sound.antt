@@ -9,18 +9,18 @@ use Rattle.history_law.specs.Safe.{AtEachMoment, HistoriesAreSafe}
 use Rattle.history_law.specs.Issued.{CommandsAreIssued}
 use Rattle.history_law.specs.Unforged.{UnforgedAreIssued, UnguessedAreUnforged}
 use Rattle.history_law.specs.Ranges.{RangesAreApart}
-use Rattle.fencing_law.specs.Holder.{EachHolderIsOwn}
-use Rattle.fencing_law.specs.Fences.{UnforgedAreFenced}
-use Rattle.calm_law.specs.Apart.{AreApart}
-use Rattle.calm_law.specs.Naming.{AreNamed}
-use Rattle.calm_law.specs.OnDrives.{StandApart, ComponentsStandApart}
+use Rattle.history_law.specs.Holder.{EachHolderIsOwn}
+use Rattle.history_law.specs.Fences.{UnforgedAreFenced}
+use Rattle.component_law.specs.Apart.{AreApart}
+use Rattle.component_law.specs.Naming.{AreNamed}
+use Rattle.component_law.specs.OnDrives.{StandApart, ComponentsStandApart}
 use Rattle.history_claims.specs.Spread.{ComponentsStandSpread}
 use Rattle.history_claims.specs.Created.{EachFileIsCreated}
 use Rattle.history_claims.specs.Sound.{HistoriesAreSound}
-use Rattle.tag_law.specs.Given.{GrantsAreOlder}
-use Rattle.tag_law.specs.Live.{EachAnswerIsLive}
-use Rattle.tag_law.specs.Barred.{GivenIsBarred}
-use Rattle.tag_law.specs.Handed.{EachGivenWasLive}
+use Rattle.component_law.specs.Given.{GrantsAreOlder}
+use Rattle.component_law.specs.Live.{EachAnswerIsLive}
+use Rattle.component_law.specs.Barred.{GivenIsBarred}
+use Rattle.component_law.specs.Handed.{EachGivenWasLive}
 use Rattle.exchange_law.specs.Judged.{RefusalsWereJudged}
 use Rattle.exchange_law.specs.Awaited.{RefusalsWereAwaited}
 use Rattle.exchange_law.specs.Counters.{CountersStayLow}
@@ -28,7 +28,7 @@ use Rattle.exchange_law.specs.Text.{WithinTheLimitAreFew}
 use Rattle.exchange_law.specs.Exact.{CommandsAreIssuedExactly, UnforgedAreIssuedExactly}
 use Rattle.exchange_law.specs.Lanes.{LanesAreOwn}
 use Rattle.exchange_law.specs.FairLanes.{LanesAreFair}
-use Rattle.ending_law.specs.Calls.{CallsEndSo}
+use Rattle.cause_law.specs.Calls.{CallsEndSo}
 use Rattle.cause_law.specs.Answers.{EachRequestIsAnswered}
 use Rattle.cause_law.specs.Awaiting.{EachAwaitedHasItsCauses, EachAwaitedWasSent}
 use Rattle.cause_law.specs.AwaitedEnds.{EachAwaitedHasItsEnd}
@@ -38,16 +38,16 @@ use Rattle.cause_law.specs.Ends.{EachEndIsSaid}
 use Rattle.cause_law.specs.FenceTags.{EachTagHasItsCause}
 use Rattle.cause_law.specs.Losses.{EachLossHasItsCause}
 use Rattle.cause_law.specs.Told.{EachMessageIsCaused}
-use Rattle.reopen_law.specs.Numbers.{EachGrantIsNamedOnce, EachObjectIsOwn}
-use Rattle.reopen_law.specs.Reopened.{EachCrashBars}
-use Rattle.outcome_law.specs.Ended.{EndsAreCaused}
-use Rattle.outcome_law.specs.Pending.{EachCallIsLeftSo}
-use Rattle.outcome_law.specs.Read.{AnswersAreOfReplies}
-use Rattle.outcome_law.specs.ReadBytes.{EachByteHasItsCause}
-use Rattle.pending_law.specs.Unanswered.{PendingCallsAreUnanswered}
+use Rattle.cause_law.specs.Numbers.{EachGrantIsNamedOnce, EachObjectIsOwn}
+use Rattle.cause_law.specs.Reopened.{EachCrashBars}
+use Rattle.cause_law.specs.Ended.{EndsAreCaused}
+use Rattle.cause_law.specs.Pending.{EachCallIsLeftSo}
+use Rattle.cause_law.specs.Read.{AnswersAreOfReplies}
+use Rattle.cause_law.specs.ReadBytes.{EachByteHasItsCause}
+use Rattle.cause_law.specs.Unanswered.{PendingCallsAreUnanswered}
 use Rattle.ready_law.specs.Answered.{ReadyIsAnswered}
 use Rattle.ready_law.specs.Losses.{FilesBearLosses, LossesAreBorne}
-use Rattle.tag_law.specs.Tags.{EachTagIsItsFiles}
+use Rattle.component_law.specs.TagTags.{EachTagIsItsFiles}
 use Rattle.history_claims.proofs.Texts.{events_make_text}
 use Rattle.history_claims.proofs.Cutting.{cuts_go_on}
 

@@ -12,16 +12,16 @@ use Rattle.server_rules.specs.History.{Input, Adds, Zones, step}
 use Rattle.server_rules.specs.Laws.{In}
 use Rattle.world_history.specs.ServerNames.{Server, File}
 use Rattle.world_history.specs.Book.{server_after}
-use Rattle.move_law.proofs.Files.{in_at}
-use Rattle.calm_law.specs.Sound.{EachStepIsSound}
-use Rattle.calm_law.specs.Apart.{AreDifferent, EachStepIsApart}
-use Rattle.calm_law.proofs.Placing.{numbers}
-use Rattle.zone_law.specs.Spread.{AreSpread, EachStepSpreads}
-use Rattle.zone_law.specs.Zoned.{Stands, Gives, ZonesGoOn, EachStepZones}
-use Rattle.zone_law.specs.Failing.{OneZoneIsBorne}
-use Rattle.zone_law.proofs.Zones.{different_zones}
+use Rattle.history_law.proofs.Files.{in_at}
+use Rattle.component_law.specs.Sound.{EachStepIsSound}
+use Rattle.component_law.specs.Apart.{AreDifferent, EachStepIsApart}
+use Rattle.component_law.proofs.Placing.{numbers}
+use Rattle.component_law.specs.Spread.{AreSpread, EachStepSpreads}
+use Rattle.component_law.specs.Zoned.{Stands, Gives, ZonesGoOn, EachStepZones}
+use Rattle.component_law.specs.Failing.{OneZoneIsBorne}
+use Rattle.component_law.proofs.Zones.{different_zones}
 use Rattle.history_claims.specs.Spread.{StandSpread, ComponentsStandSpread}
-use Rattle.calm_law.proofs.OnDrives.{IsTold, stands_at}
+use Rattle.component_law.proofs.OnDrives.{IsTold, stands_at}
 
 -- each zone of a drive was given by one of these lines
 abbrev pub AreGiven : List Line → Server → Type 0

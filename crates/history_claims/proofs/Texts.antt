@@ -9,10 +9,10 @@ use Rattle.world_history.specs.Plans.{plan_of}
 use Rattle.world_history.specs.Sending.{Move}
 use Rattle.world_history.specs.Runs.{lines_of, AreDue, IsOver, plan_after, Carries}
 use Rattle.world_history.specs.History.{Step, AreCarried, lines_of_steps}
-use Rattle.calm_law.specs.Words.{Each}
+use Rattle.component_law.specs.Words.{Each}
 use Rattle.exchange_law.specs.Text.{IsOfText, AreOfText}
-use Rattle.calm_law.proofs.Shapes.{is_event}
-use Rattle.calm_law.proofs.Inside.{all_each, event_each}
+use Rattle.component_law.proofs.Shapes.{is_event}
+use Rattle.component_law.proofs.Inside.{all_each, event_each}
 use Rattle.history_claims.specs.Texts.{EventsFit, EventsMakeText}
 
 pub text_inside : (l : Line) → is_event l ≡ false → IsOfText l

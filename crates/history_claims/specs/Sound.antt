@@ -10,23 +10,23 @@ use Rattle.history_law.specs.Issued.{IssuedAt}
 use Rattle.history_law.specs.Unforged.{AreUnforged, InjectedAt}
 use Rattle.history_law.specs.Ranges.{AreRangesApart}
 use Rattle.history_law.specs.Read.{AreWritten}
-use Rattle.calm_law.specs.Naming.{AreNamed}
-use Rattle.fencing_law.specs.Fenced.{FencesLast}
-use Rattle.fencing_law.specs.Holder.{OwnUnlessForged}
-use Rattle.calm_law.specs.OnDrives.{AreComponentsApart}
+use Rattle.component_law.specs.Naming.{AreNamed}
+use Rattle.history_law.specs.Fenced.{FencesLast}
+use Rattle.history_law.specs.Holder.{OwnUnlessForged}
+use Rattle.component_law.specs.OnDrives.{AreComponentsApart}
 use Rattle.history_claims.specs.Spread.{AreComponentsSpread}
 use Rattle.history_claims.specs.Created.{FilesAreCreated}
 use Rattle.history_claims.specs.Lanes.{HaveFairLanes, HaveOwnLanes}
-use Rattle.tag_law.specs.Given.{GivenBefore}
-use Rattle.tag_law.specs.Live.{AnswersAreLive}
-use Rattle.tag_law.specs.Barred.{FencesBar}
-use Rattle.tag_law.specs.Handed.{GivenWasLive}
+use Rattle.component_law.specs.Given.{GivenBefore}
+use Rattle.component_law.specs.Live.{AnswersAreLive}
+use Rattle.component_law.specs.Barred.{FencesBar}
+use Rattle.component_law.specs.Handed.{GivenWasLive}
 use Rattle.exchange_law.specs.Judged.{JudgedAt}
 use Rattle.exchange_law.specs.Awaited.{AwaitedAt}
 use Rattle.exchange_law.specs.Counters.{HaveRoomAt}
 use Rattle.exchange_law.specs.Text.{AreOfText, AreFew, WithinTheLimitAreFew}
 use Rattle.exchange_law.specs.Exact.{IssuedExactlyAt, InjectedExactlyAt}
-use Rattle.ending_law.specs.Calls.{EndsAt}
+use Rattle.cause_law.specs.Calls.{EndsAt}
 use Rattle.cause_law.specs.Answers.{RequestsAreAnswered}
 use Rattle.cause_law.specs.Awaiting.{AwaitedHaveCauses, WereSentAt}
 use Rattle.cause_law.specs.AwaitedEnds.{AwaitedHaveEnds}
@@ -36,16 +36,16 @@ use Rattle.cause_law.specs.Ends.{CallsEndAsSaid}
 use Rattle.cause_law.specs.FenceTags.{TagsHaveCauses}
 use Rattle.cause_law.specs.Losses.{LossesHaveCauses}
 use Rattle.cause_law.specs.Told.{MessagesAreCaused}
-use Rattle.outcome_law.specs.Ended.{CausedAt}
-use Rattle.outcome_law.specs.Pending.{CallsAreLeft}
-use Rattle.outcome_law.specs.Read.{AnswersAt}
-use Rattle.outcome_law.specs.ReadBytes.{BytesAt}
-use Rattle.pending_law.specs.Unanswered.{UnansweredAt}
+use Rattle.cause_law.specs.Ended.{CausedAt}
+use Rattle.cause_law.specs.Pending.{CallsAreLeft}
+use Rattle.cause_law.specs.Read.{AnswersAt}
+use Rattle.cause_law.specs.ReadBytes.{BytesAt}
+use Rattle.cause_law.specs.Unanswered.{UnansweredAt}
 use Rattle.ready_law.specs.Answered.{EachReadyIsAnswered}
 use Rattle.ready_law.specs.Losses.{FilesBearLosses}
-use Rattle.reopen_law.specs.Numbers.{GrantsAreNamedOnce, ObjectsAreOwnAt}
-use Rattle.reopen_law.specs.Reopened.{CrashesBarAt}
-use Rattle.tag_law.specs.Tags.{HaveTagsAt}
+use Rattle.cause_law.specs.Numbers.{GrantsAreNamedOnce, ObjectsAreOwnAt}
+use Rattle.cause_law.specs.Reopened.{CrashesBarAt}
+use Rattle.component_law.specs.TagTags.{HaveTagsAt}
 use Rattle.history_claims.specs.Texts.{EventsMakeText, CutsGoOn}
 
 -- What the lines of a sound history say.

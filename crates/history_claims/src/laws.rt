@@ -3,35 +3,30 @@ ghost use Rattle.history_claims.specs.Created.{EachFileIsCreated};
 ghost use Rattle.history_claims.specs.Sound.{HistoriesAreSound};
 ghost use Rattle.history_claims.specs.Spread.{ComponentsStandSpread};
 
-use calm_law::{components_stand_apart, each_step_is_apart, each_step_is_sound};
 use cause_law::{
-    awaited_have_causes, awaited_have_ends, awaited_were_sent, components_have_causes,
-    ends_are_said, grants_have_causes, losses_have_causes, messages_are_caused,
-    requests_are_answered, tags_have_causes,
+    answers_are_of_replies, awaited_have_causes, awaited_have_ends, awaited_were_sent,
+    calls_are_left, calls_end_so, components_have_causes, crashes_bar, each_byte_has_its_cause,
+    ends_are_caused, ends_are_said, grants_are_named_once, grants_have_causes, losses_have_causes,
+    messages_are_caused, objects_are_own, pending_calls_are_unanswered, requests_are_answered,
+    tags_have_causes,
 };
-use ending_law::calls_end_so;
+use component_law::{
+    answers_are_live, components_stand_apart, each_step_is_apart, each_step_is_sound,
+    each_step_spreads, each_step_zones, each_tag_is_its_files, given_is_barred, given_was_live,
+    grants_are_older, one_zone_is_borne,
+};
 use exchange_law::{
     commands_are_issued_exactly, counters_stay_low, lanes_are_fair, lanes_are_own,
     refusals_were_awaited, refusals_were_judged, unforged_are_issued_exactly,
     within_the_limit_are_few,
 };
-use fencing_law::{holders_are_own, unforged_are_fenced};
 use history_law::{
-    commands_are_issued, histories_are_safe, ranges_are_apart, unforged_are_issued,
-    unguessed_are_unforged, verdicts_are_answered,
+    commands_are_issued, histories_are_safe, holders_are_own, ranges_are_apart,
+    unforged_are_fenced, unforged_are_issued, unguessed_are_unforged, verdicts_are_answered,
 };
-use outcome_law::{
-    answers_are_of_replies, calls_are_left, each_byte_has_its_cause, ends_are_caused,
-};
-use pending_law::pending_calls_are_unanswered;
 use ready_law::{losses_are_borne, ready_calls_end_in_ok};
-use reopen_law::{crashes_bar, grants_are_named_once, objects_are_own};
 use server_rules::files_are_put;
-use tag_law::{
-    answers_are_live, each_tag_is_its_files, given_is_barred, given_was_live, grants_are_older,
-};
 use world_history::{fronts_are_lawful, one_event_more, reading_goes_on};
-use zone_law::{each_step_spreads, each_step_zones, one_zone_is_borne};
 
 /// At each moment of a lawful history whose events lines can name, the components of each zoned file are spread over
 /// zones: no zone has more of a group than the code brings back, each counted, present or missing, on the drive on which

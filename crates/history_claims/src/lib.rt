@@ -1,7 +1,7 @@
 //! What holds of every lawful history, as one record in the words of its lines.
 //!
-//! The parts are laws of the crates below: `history_law`, `fencing_law`, `exchange_law`, `ending_law`, `tag_law` and
-//! `calm_law`. Here are two more: at each moment the components of a zoned file are spread over zones, and if a file is
+//! The parts are laws of the crates below: `history_law`, `history_law`, `exchange_law`, `cause_law`, `component_law` and
+//! `component_law`. Here are two more: at each moment the components of a zoned file are spread over zones, and if a file is
 //! made, its CREATEs go to its components' drives.
 #![tactic(auto)]
 

@@ -15,7 +15,7 @@ use Rattle.world_history.specs.Reading.{steps_of}
 use Rattle.world_history.specs.Book.{ServerSeen, server_seen}
 use Rattle.world_history.specs.Laws.{ServerGoesOn, AllLinesGoOn}
 use Rattle.world_history.proofs.Always.{opening}
-use Rattle.move_law.proofs.Moments.{no_event}
+use Rattle.history_law.proofs.Moments.{no_event}
 use Rattle.history_law.proofs.Histories.{stands, kept_part}
 use Rattle.history_law.specs.BookMoments.{IsMoment, lines_so_far, lines_in}
 use Rattle.history_law.specs.Doing.{did_in}

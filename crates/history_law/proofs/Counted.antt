@@ -22,9 +22,9 @@ use Rattle.server_rules.specs.Return.{Returned, NoGrant as NotHeld, Clean, Taken
 use Rattle.server_rules.specs.Requests.{serves, answer_with, carried_out, on_request}
 use Rattle.server_rules.specs.History.{Input, step}
 use Rattle.world_history.specs.Handed.{Post, is_addressed, server_post}
-use Rattle.move_law.specs.Answers.{ServerDid, Quiet, Asked}
-use Rattle.move_law.proofs.Answers.{step_did}
-use Rattle.move_law.proofs.Steps.{each_request}
+use Rattle.history_law.specs.Answers.{ServerDid, Quiet, Asked}
+use Rattle.history_law.proofs.Answers.{step_did}
+use Rattle.history_law.proofs.Steps.{each_request}
 
 -- ---- one grant at most
 

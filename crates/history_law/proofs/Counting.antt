@@ -5,8 +5,8 @@ use Rattle.world_history.specs.State.{World}
 use Rattle.world_history.specs.Handed.{Post}
 use Rattle.world_history.specs.Moves.{Act, Action, acts}
 use Rattle.world_history.specs.Sending.{Move, move, fresh}
-use Rattle.move_law.specs.Moves.{MoveCases}
-use Rattle.move_law.proofs.Moves.{said_length, each_act}
+use Rattle.history_law.specs.Moves.{MoveCases}
+use Rattle.history_law.proofs.Moves.{said_length, each_act}
 use Rattle.history_law.specs.Counters.{GrantsAreCounted}
 use Rattle.history_law.proofs.HistoryMoments.{always}
 use Rattle.history_law.proofs.Counted.{step_counted}

@@ -6,8 +6,8 @@ use Rattle.server_rules.specs.Requests.{serves}
 use Rattle.server_rules.specs.Served.{Served}
 use Rattle.server_rules.specs.History.{Input, step}
 use Rattle.world_history.specs.ServerNames.{Server, Slot, Outgoing}
-use Rattle.move_law.specs.Answers.{AnswersOnly, SlotsKeep, StepAnswers}
-use Rattle.move_law.proofs.Answers.{step_answers}
+use Rattle.history_law.specs.Answers.{AnswersOnly, SlotsKeep, StepAnswers}
+use Rattle.history_law.proofs.Answers.{step_answers}
 use Rattle.history_law.specs.Granted.{GivesOwn}
 use Rattle.history_law.proofs.IssueTelling.{served_own, refused_own, answer_own}
 

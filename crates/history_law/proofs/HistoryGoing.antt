@@ -7,8 +7,8 @@ use Rattle.client_rules.specs.History as client
 use Rattle.world_history.specs.State.{World, ClientAt, at_number, with_number, and_number}
 use Rattle.world_history.specs.Moves as world
 use Rattle.world_history.specs.Sending.{Move, move, sends_all}
-use Rattle.move_law.specs.Moves.{MoveCases}
-use Rattle.move_law.proofs.Moves.{each_act}
+use Rattle.history_law.specs.Moves.{MoveCases}
+use Rattle.history_law.proofs.Moves.{each_act}
 
 -- ---- what a move may do
 

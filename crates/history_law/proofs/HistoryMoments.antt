@@ -1,2 +1,2 @@
 -- What the empty world has and each move keeps holds at each moment.
-pub use Rattle.move_law.proofs.Reached.{IsKept, always}
+pub use Rattle.history_law.proofs.Reached.{IsKept, always}

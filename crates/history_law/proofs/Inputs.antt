@@ -21,7 +21,7 @@ use Rattle.history_law.specs.Placed.{AreNamed, HaveFormats, IsReadable, PlacedIs
 use Rattle.history_law.proofs.Placing.{Fit, greater_format}
 use Rattle.history_law.proofs.BookGoing.{fence_placed}
 use Rattle.history_law.proofs.Stepping.{IsPlaced, placed_always, placed_either}
-use Rattle.history_law.proofs.Steps.{order_placed, message_placed}
+use Rattle.history_law.proofs.HistorySteps.{order_placed, message_placed}
 use Rattle.history_law.proofs.Made.{making_format, file_placed}
 
 pub placed_is_chosen : PlacedIsChosen

@@ -12,9 +12,9 @@ use Rattle.world_history.specs.State.{ClientAt, World}
 use Rattle.world_history.specs.Spelled.{spelled, party_of}
 use Rattle.world_history.specs.Laws.{shown}
 use Rattle.world_history.specs.Moves.{Action, acts}
-use Rattle.move_law.specs.Said.{with_marks}
-use Rattle.move_law.specs.Moves.{MoveCases, IsForClient, AreQuiet, front_of}
-use Rattle.move_law.proofs.Moves.{front_cases, each_act}
+use Rattle.history_law.specs.Said.{with_marks}
+use Rattle.history_law.specs.Moves.{MoveCases, IsForClient, AreQuiet, front_of}
+use Rattle.history_law.proofs.Moves.{front_cases, each_act}
 use Rattle.history_law.proofs.DriveLines.{view, shown_get}
 use Rattle.history_law.proofs.Granting.{step_own}
 use Rattle.history_law.proofs.KnownSteps.{InputKnown}

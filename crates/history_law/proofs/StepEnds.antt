@@ -12,7 +12,7 @@ use Rattle.world_history.specs.History.{StandsFor, OneEventMore}
 use Rattle.history_law.specs.BookMoments.{IsMoment, plan_at, lines_in}
 use Rattle.history_law.specs.StepEnds.{BehindStep, AtStepEnds}
 use Rattle.history_law.proofs.Behind.{none_behind}
-use Rattle.move_law.proofs.Moments.{stands_kept}
+use Rattle.history_law.proofs.Moments.{stands_kept}
 
 -- a line of two lists is one of the first, or of the second
 pub place_of : (h ls before after : List Line) (x : Line) → h ++ ls ≡ before ++ x ∷ after

@@ -1,312 +1,180 @@
--- Each step of the server is the same where a placer names the drives of the CREATEs that it sends.
-use Rattle.std.specs.List.{list_any}
-use Rattle.std.proofs.Common.{◌≡◌, ℕ, ◌==◌, ◌<◌, ◌∷◌, [], List, ◌++◌, Bool, true, false, ◌&&◌, ◌||◌, nat_eq, nat_le, Option, Some, None, is_some, find, refl, sym, ap, ◌∙◌, append_assoc, if◌then◌else◌}
-use Rattle.std.proofs.lemmas.List.{append-nil}
-use Rattle.std.proofs.lemmas.Grind.{flat_map-append}
+-- What is so in each case of a step of the server is so of each step. This is the one walk over the server's steps.
+use Rattle.std.proofs.Common.{◌≡◌, ◌≤◌, ◌==◌, ◌&&◌, ℕ, Bool, true, false, nat_le, List, [], ◌∷◌, Option, Some, None, find, is_some, inl, inr, refl, sym, subst, if◌then◌else◌}
+use Rattle.std.proofs.lemmas.Bool.{eqb-true, leb-true}
 use Rattle.osd_lists.specs.declared.node.Node.{Node}
-use Rattle.osd_lists.specs.declared.node.Node.TheVariants as node
-use Rattle.osd_capability.specs.Layout.{is_format}
-use Rattle.scenario_text.specs.declared.names.TheConstants.{DRIVES}
+use Rattle.osd_lists.specs.declared.node.Node.TheVariants.{Server as FromServer, Drive as FromDrive, Client as FromClient}
 use Rattle.server_rules.specs.declared.limits.TheConstants.{MAX_CLIENT, GREATEST_TAG}
-use Rattle.world_history.specs.ServerNames.{Server, File, Drive, Awaited, Effects, Job, JobKind, Revoking, Rebuilding, Auditing, ClientRequest, Reply, OrderResult, IsSpent, HasStarted, OrderKind, ToRecall, ToRevoke, ToDeclare, ToRebuild, ToAudit, Busy, Spent, Answers, AnswersOrder}
+use Rattle.server_rules.specs.Files.{Step, still, begins, file_at, at_file, step_at}
 use Rattle.server_rules.specs.Going.{Going, noting}
-use Rattle.server_rules.specs.Get.{lowest}
-use Rattle.server_rules.specs.Replies.{on_reply}
-use Rattle.server_rules.specs.Served.{Served}
+use Rattle.server_rules.specs.History.{Input, Hears, Makes, Obeys, Adds, Zones, Formats, Resends, Crashes, Opens, step, unless_made}
+use Rattle.server_rules.specs.Jobs.{fence_begins}
+use Rattle.server_rules.specs.Laws.{In}
+use Rattle.server_rules.specs.Making.{refusal, unless_refused, makes_file, create_file}
+use Rattle.server_rules.specs.Messages.{Message, Asks, Replies, Orders, counters_have_room, or_else, by_heard, heard_at, on_drive_reply, handled, on_message}
+use Rattle.server_rules.specs.Openings.{opens_each, reopen}
+use Rattle.server_rules.specs.Orders.{Ordered, begins_job, starts, recalls_on, declares_known, ordered}
+use Rattle.server_rules.specs.Replies.{answers, heard_by, heard_in, on_reply}
+use Rattle.server_rules.specs.Rounds.{step_round}
+use Rattle.server_rules.specs.Requests.{by_admit, carries_out, on_request}
 use Rattle.server_rules.specs.Slots.{Admit, New, Again, Misordered, slot_of, admit}
-use Rattle.server_rules.specs.Jobs.{fence_begins, declares}
-use Rattle.server_rules.specs.Files.{Step, still, begins, file_at, at_file, step_at, to_drives}
-use Rattle.server_rules.specs.Rounds.{Round, then_files, step_round}
-use Rattle.server_rules.specs.Requests.{carried_out, carries_out, by_admit, on_request}
-use Rattle.server_rules.specs.Messages.{heard_at, or_else, by_heard, on_drive_reply, Message, Asks, Replies, Orders, handled, on_message, counters_have_room}
-use Rattle.server_rules.specs.Orders.{Ordered, begins_job, starts, recalls_on, offline, declares_each, with_offline, declare, declares_known, ordered, with_result}
-use Rattle.history_law.specs.Placed.{AreNamed, HaveFormats, IsReadable, placed_by}
-use Rattle.history_law.proofs.Creating.{place}
-use Rattle.history_law.proofs.Placing.{choosing, Fit, placed_of, Placed, placed_here}
-use Rattle.history_law.proofs.BookGoing.{fence_placed, declares_placed}
-use Rattle.history_law.proofs.Served.{ends_placed, HeardAs, reply_placed, Serves, request_serves}
-use Rattle.history_law.proofs.Stepping.{IsPlaced, placed_always, placed_either, placed_sent, placed_more, recalls_to_others, format_at, formats_put, step_placed}
+use Rattle.world_history.specs.ServerNames.{Server, File, Drive, Job, JobKind, Revoking, Rebuilding, Auditing, Awaited, Reply, ClientRequest, OrderKind, ToRecall, ToRevoke, ToDeclare, ToRebuild, ToAudit, HasStarted, IsSpent, Spent, RawMap, Refusal}
+use Rattle.history_law.specs.Steps.{IsOrder, Here, Sent, IsOrdered, WhileBusy, OnGreatest, new_file, StepCases, RequestCases}
 
 -- ---- a request
 
-served_placed : (s : Server) (q : ClientRequest) (v : Served) (f : List ℕ → Served) → IsReadable s
-    → Serves s.drives [] v f
-    → IsPlaced s (carried_out s q v) (λ x. carried_out s q (f x))
-served_placed s q v f r e = record {
-  same = λ n. ap (λ (ns : List ℕ). carried_out s q (f ns))
-      (placed_more (to_drives s.drives v.going.effects.sent) _
-      (recalls_to_others s.next_recall v.recalled (Answers _ ∷ []) tt) n
-      ∙ placed_sent s.drives v.going.effects.sent n ∙ ap (placed_of s.drives) e.sends
-      ∙ sym (append-nil (placed_of s.drives e.more)))
-      ∙ ap (carried_out s q) (e.same []);
-  readable = record {
-    drives = r.drives;
-    format = r.format;
-    files = formats_put s.files q.file v.going.file r.files e.format;
-  };
-  knows = λ d. refl;
-}
+module _ (s : Server) (now : ℕ) (chosen : List ℕ) (q : ClientRequest) (P : Step → Type 0)
+    (k : RequestCases s now chosen q P) where
+  carried : admit (slot_of s.slots q.client) q.sequence ≡ New → (o : Option File) → file_at s.files q.file ≡ o
+      → P (carries_out s now chosen q o)
+  carried new None found = k.without new found
+  carried new (Some f) found = k.served new f found
 
-carried_placed : (s : Server) (now : ℕ) (chosen : List ℕ) (q : ClientRequest) (o : Option File)
-    → file_at s.files q.file ≡ o
-    → IsReadable s → IsPlaced s (carries_out s now chosen q o) (λ x. carries_out s now x q o)
-carried_placed s now chosen q None e r =
-    placed_always s (carries_out s now chosen q None)
-    (record { drives = r.drives; format = r.format; files = r.files }) (λ d. refl)
-carried_placed s now chosen q (Some f) e r =
-    served_placed s q _ _ r (request_serves (at_file s chosen f) s.next_grant s.format now q.client q.args r.format
-    (record { format = format_at s.files q.file f r.files e; drives = r.drives }))
+  admitted : (a : Admit) → admit (slot_of s.slots q.client) q.sequence ≡ a → P (by_admit s now chosen q a)
+  admitted New is = carried is (file_at s.files q.file) refl
+  admitted (Again kept) is = k.again kept is
+  admitted (Misordered expected) is = k.misordered expected is
 
-admit_placed : (s : Server) (now : ℕ) (chosen : List ℕ) (q : ClientRequest) (a : Admit) → IsReadable s
-    → IsPlaced s (by_admit s now chosen q a) (λ x. by_admit s now x q a)
-admit_placed s now chosen q New r = carried_placed s now chosen q (file_at s.files q.file) refl r
-admit_placed s now chosen q (Again kept) r = placed_always s _ r (λ d. refl)
-admit_placed s now chosen q (Misordered expected) r = placed_always s _ r (λ d. refl)
+  pub each_request : P (on_request s now chosen q)
+  unfolding on_request
+  each_request = admitted (admit (slot_of s.slots q.client) q.sequence) refl
 
-request_placed : (s : Server) (now : ℕ) (chosen : List ℕ) (q : ClientRequest) → IsReadable s
-    → IsPlaced s (on_request s now chosen q) (λ x. on_request s now x q)
-unfolding on_request
-request_placed s now chosen q r = admit_placed s now chosen q (admit (slot_of s.slots q.client) q.sequence) r
+-- ---- a step
 
--- ---- a reply
+both : (a b : Bool) → (a && b) ≡ true → (a ≡ true) × (b ≡ true)
+both true b e = (refl, e)
+both false b e = absurd (cc e)
 
-either_heard : (ds : List Drive) (o p : Option Going) (f k : List ℕ → Option Going) → HeardAs ds [] o f
-    → HeardAs ds [] p k
-    → HeardAs ds [] (or_else o p) (λ x. or_else (f x) (k x))
-either_heard ds None None f k h i = λ x. ap (λ (y : Option Going). or_else y (k x)) (h x) ∙ i x
-either_heard ds None (Some g) f k h i =
-    let x = placed_of ds i.0 in
-    (i.0, i.1, i.2, ap (λ (y : Option Going). or_else y (k x)) (h x) ∙ i.3, i.4)
-either_heard ds (Some g) p f k h i =
-    let x = placed_of ds h.0 in
-    (h.0, h.1, h.2, ap (λ (y : Option Going). or_else y (k x)) h.3, h.4)
+module _ (s : Server) (chosen : List ℕ) (i : Input) (P : Step → Type 0) (k : StepCases s chosen i P) where
+  -- ---- a request
 
-heard_placed : (s : Server) (chosen : List ℕ) (drive : ℕ) (m : Reply) (fs : List File) → AreNamed s.drives
-    → HaveFormats fs
-    → HeardAs s.drives [] (heard_at s chosen drive m fs) (λ x. heard_at s x drive m fs)
-unfolding heard_at
-heard_placed s chosen drive m [] a h = λ x. refl
-heard_placed s chosen drive m (f ∷ fs) a h =
-    either_heard s.drives (on_reply (at_file s chosen f) drive m) _ (λ x. on_reply (at_file s x f) drive m)
-    (λ x. heard_at s x drive m fs)
-    (reply_placed (at_file s chosen f) drive m (record { format = h.0; drives = a }))
-    (heard_placed s chosen drive m fs a h.1)
+  asked : (now c : ℕ) (q : ClientRequest) → i ≡ Hears now (FromClient c) (Asks q) → counters_have_room s ≡ true
+      → (b : Bool) → ((q.client == c) && nat_le c MAX_CLIENT) ≡ b
+      → P (if b then on_request s now chosen q else still s)
+  asked now c q is low false e = k.rests
+  asked now c q is low true e =
+      let x = both (q.client == c) (nat_le c MAX_CLIENT) e in
+      let same : c ≡ q.client = sym (eqb-true q.client c x.0) in
+      k.asked now q
+      (record {
+        is = subst (λ (n : ℕ). i ≡ Hears now (FromClient n) (Asks q)) same is;
+        named = subst (λ (n : ℕ). n ≤ MAX_CLIENT) same (leb-true c MAX_CLIENT x.1);
+        low = low;
+      })
 
-by_heard_placed : (s : Server) (o : Option Going) (f : List ℕ → Option Going) → IsReadable s → HeardAs s.drives [] o f
-    → IsPlaced s (by_heard s o) (λ x. by_heard s (f x))
-by_heard_placed s None f r h = record { same = λ n. ap (by_heard s) (h _); readable = r; knows = λ d. refl }
-by_heard_placed s (Some g) f r h = record {
-  same = λ n. ap (λ (ns : List ℕ). by_heard s (f ns))
-      (placed_sent s.drives g.effects.sent n ∙ ap (placed_of s.drives) h.2) ∙ ap (by_heard s) h.3;
-  readable = record {
-    drives = r.drives;
-    format = r.format;
-    files = formats_put s.files g.file.kept.number g.file r.files h.4;
-  };
-  knows = λ d. refl;
-}
+  -- ---- a reply
 
-drive_placed : (s : Server) (chosen : List ℕ) (drive : ℕ) (m : Reply) → IsReadable s
-    → IsPlaced s (on_drive_reply s chosen drive m) (λ x. on_drive_reply s x drive m)
-unfolding on_drive_reply
-drive_placed s chosen drive m r =
-    by_heard_placed s (heard_at s chosen drive m s.files) (λ x. heard_at s x drive m s.files) r
-    (heard_placed s chosen drive m s.files r.drives r.files)
+  module _ (now drive : ℕ) (r : Reply) (is : i ≡ Hears now (FromDrive drive) (Replies r))
+      (low : counters_have_room s ≡ true) where
+    awaiting : (f : File) → In f s.files → (j : Job) → f.job ≡ Some j → (o : Option Awaited)
+        → find (answers drive r) j.awaited ≡ o → (later : Option Going) → P (by_heard s later)
+        → P (by_heard s (or_else (heard_by (at_file s chosen f) r j o) later))
+    awaiting f there j runs None awaits later rest = rest
+    awaiting f there j runs (Some a) awaits later rest =
+        k.answered (record { now = now; drive = drive; reply = r; file = f; job = j; awaited = a })
+        (record { is = is; low = low; there = there; runs = runs; awaits = awaits })
 
--- ---- an order at a file
+    working : (f : File) → In f s.files → (o : Option Job) → f.job ≡ o → (later : Option Going)
+        → P (by_heard s later) → P (by_heard s (or_else (heard_in (at_file s chosen f) drive r o) later))
+    working f there None runs later rest = rest
+    working f there (Some j) runs later rest =
+        awaiting f there j runs (find (answers drive r) j.awaited) refl later rest
 
--- a fence that the tag refuses, and one that starts
-abbrev spent : Server → (chosen : List ℕ) → File → Ordered
-spent s chosen f = record { step = step_at s f.kept.number (noting (at_file s chosen f) Spent); result = IsSpent }
+    first_heard : (fs : List File) → ((f : File) → In f fs → In f s.files)
+        → P (by_heard s (heard_at s chosen drive r fs))
+    unfolding heard_at on_reply
+    first_heard [] among = k.rests
+    first_heard (f ∷ fs) among =
+        working f (among f (inl refl)) f.job refl (heard_at s chosen drive r fs)
+        (first_heard fs (λ g there. among g (inr there)))
 
-abbrev fences : Server → (chosen : List ℕ) → JobKind → File → Ordered
-fences s chosen kind f = record {
-  step = step_at s f.kept.number (fence_begins kind s.format (at_file s chosen f));
-  result = HasStarted;
-}
+    replied : P (on_drive_reply s chosen drive r)
+    unfolding on_drive_reply
+    replied = first_heard s.files (λ f there. there)
 
-either_order : (b : Bool) (s : Server) (o p : Ordered) (f k : List ℕ → Ordered) → IsPlaced s o.step (λ x. (f x).step)
-    → IsPlaced s p.step (λ x. (k x).step) → IsPlaced s (if b then o else p).step (λ x. (if b then f x else k x).step)
-either_order true s o p f k h i = h
-either_order false s o p f k h i = i
+  -- ---- an order
 
-job_placed : (s : Server) (chosen : List ℕ) (kind : JobKind) (f : File) (j : Option Job) → IsReadable s
-    → is_format f.kept.format ≡ true
-    → IsPlaced s (begins_job s chosen kind f j).step (λ x. (begins_job s x kind f j).step)
-job_placed s chosen kind f (Some j) r h =
-    step_placed s f.kept.number _ (λ x. noting (at_file s x f) (Busy (lowest j.awaited))) r
-    (ends_placed _ _ _ _ (placed_here (noting (at_file s chosen f) (Busy (lowest j.awaited)))
-    (record { format = h; drives = r.drives })))
-job_placed s chosen kind f None r h =
-    let fit : Fit (at_file s chosen f) = record { format = h; drives = r.drives } in
-    either_order (f.kept.tag == GREATEST_TAG) s (spent s chosen f) (fences s chosen kind f) (λ x. spent s x f)
-    (λ x. fences s x kind f)
-    (step_placed s f.kept.number _ (λ x. noting (at_file s x f) Spent) r
-    (ends_placed _ _ _ _ (placed_here (noting (at_file s chosen f) Spent) fit)))
-    (step_placed s f.kept.number _ (λ x. fence_begins kind s.format (at_file s x f)) r
-    (ends_placed _ _ _ _ (fence_placed kind s.format (at_file s chosen f) r.format fit)))
+  module _ (kind : OrderKind) (n : ℕ) (order : IsOrder i kind n) where
+    on_file : (f : File) → file_at s.files n ≡ Some f → IsOrdered s i f
+    on_file f found = record { kind = kind; target = n; order = order; found = found }
 
-starts_placed : (s : Server) (chosen : List ℕ) (kind : JobKind) (n : ℕ) (o : Option File) → file_at s.files n ≡ o
-    → IsReadable s → IsPlaced s (starts s chosen kind o).step (λ x. (starts s x kind o).step)
-starts_placed s chosen kind n None e r = placed_always s _ r (λ d. refl)
-starts_placed s chosen kind n (Some f) e r = job_placed s chosen kind f f.job r (format_at s.files n f r.files e)
+    fenced : (job : JobKind) (f : File) → file_at s.files n ≡ Some f → f.job ≡ None → (b : Bool)
+        → (f.kept.tag == GREATEST_TAG) ≡ b
+        → P ((λ (o : Ordered). o.step) (if b then record {
+          step = step_at s f.kept.number (noting (at_file s chosen f) Spent);
+          result = IsSpent;
+        }
+        else record {
+          step = step_at s f.kept.number (fence_begins job s.format (at_file s chosen f));
+          result = HasStarted;
+        }))
+    fenced job f found none true spent = k.refused f (on_file f found) Spent (OnGreatest none spent refl)
+    fenced job f found none false spent = k.fenced f (on_file f found) job none spent
 
-recalls_placed : (s : Server) (o : Option File) → IsReadable s
-    → IsPlaced s (recalls_on s o).step (λ x. (recalls_on s o).step)
-recalls_placed s None r = placed_always s _ r (λ d. refl)
-recalls_placed s (Some f) r =
-    placed_always s (recalls_on s (Some f)).step (record { drives = r.drives; format = r.format; files = r.files })
-    (λ d. refl)
+    begun : (job : JobKind) (f : File) → file_at s.files n ≡ Some f → (o : Option Job) → f.job ≡ o
+        → P (begins_job s chosen job f o).step
+    begun job f found (Some j) runs = k.refused f (on_file f found) _ (WhileBusy j runs refl)
+    begun job f found None none = fenced job f found none (f.kept.tag == GREATEST_TAG) refl
 
--- ---- a drive is declared
+    started : (job : JobKind) (o : Option File) → file_at s.files n ≡ o → P (starts s chosen job o).step
+    started job None found = k.rests
+    started job (Some f) found = begun job f found f.job refl
 
-pub offline_named : (ds : List Drive) (drive : ℕ) → AreNamed ds → AreNamed (offline ds drive)
-unfolding offline
-offline_named [] drive a = tt
-offline_named (d ∷ ds) drive a = (either (d.number == drive), offline_named ds drive a.1)
-  where
-    either : (b : Bool) → (if b then record d { online = false } else d).number < DRIVES
-    either true = a.0
-    either false = a.0
+    recalled : (o : Option File) → file_at s.files n ≡ o → P (recalls_on s o).step
+    recalled None found = k.rests
+    recalled (Some f) found = k.recalled f (on_file f found)
 
-offline_known : (ds : List Drive) (drive d : ℕ)
-    → list_any (λ (x : Drive). nat_eq x.number d) (offline ds drive) ≡ list_any (λ (x : Drive). nat_eq x.number d) ds
-unfolding offline
-offline_known [] drive d = refl
-offline_known (x ∷ ds) drive d =
-    ap (λ (b : Bool). nat_eq (if x.number == drive then record x { online = false } else x).number d || b)
-    (offline_known ds drive d)
-    ∙ either (x.number == drive)
-  where
-    either : (b : Bool)
-        → (nat_eq (if b then record x { online = false } else x).number d
-        || list_any (λ (y : Drive). nat_eq y.number d) ds)
-        ≡ (nat_eq x.number d || list_any (λ (y : Drive). nat_eq y.number d) ds)
-    either true = refl
-    either false = refl
+    declared : (b : Bool) → is_some (find (λ (x : Drive). x.number == n) s.drives) ≡ b
+        → P (declares_known s chosen n b).step
+    declared true is = k.declared n is
+    declared false is = k.rests
 
-record Goes (ds : List Drive) (sent : List Awaited) (r : Round) (f : List ℕ → Round) : Type 0 where
-  more : List Awaited
-  sends : r.effects.sent ≡ sent ++ more
-  same : (rest : List ℕ) → f (placed_of ds more ++ rest) ≡ record r { chosen = rest }
-  files : HaveFormats r.files
+  obeyed : (kind : OrderKind) (n : ℕ) → IsOrder i kind n → P (ordered s chosen kind n).step
+  unfolding ordered
+  obeyed ToRecall n o = recalled ToRecall n o (file_at s.files n) refl
+  obeyed ToRevoke n o = started ToRevoke n o Revoking (file_at s.files n) refl
+  obeyed ToDeclare n o = declared ToDeclare n o (is_some (find (λ (x : Drive). x.number == n) s.drives)) refl
+  obeyed ToRebuild n o = started ToRebuild n o Rebuilding (file_at s.files n) refl
+  obeyed ToAudit n o = started ToAudit n o Auditing (file_at s.files n) refl
 
-goes_then : (ds : List Drive) (sent : List Awaited) (g : Going) (f : List ℕ → Going) (k : Effects → List ℕ → Round)
-    → Placed ds sent g f → Goes ds g.effects.sent (k g.effects g.chosen) (k g.effects)
-    → Goes ds sent (then_files g (k g.effects g.chosen)) (λ x. then_files (f x) (k (f x).effects (f x).chosen))
-goes_then ds sent g f k p q = record {
-  more = p.more ++ q.more;
-  sends = q.sends ∙ ap (λ (cs : List Awaited). cs ++ q.more) p.sends ∙ append_assoc sent p.more q.more;
-  same = λ rest. ap (λ (ns : List ℕ). next (f (ns ++ rest))) (flat_map-append (place ds) p.more q.more)
-      ∙ ap (λ (ns : List ℕ). next (f ns)) (append_assoc (placed_of ds p.more) (placed_of ds q.more) rest)
-      ∙ ap next (p.same (placed_of ds q.more ++ rest)) ∙ ap (then_files g) (q.same rest);
-  files = (p.format, q.files);
-}
-  where
-    next : Going → Round
-    next y = then_files y (k y.effects y.chosen)
+  -- ---- a message
 
-each_placed : (drive : ℕ) (ds : List Drive) (fs : List File) (m : Effects) (chosen : List ℕ) → AreNamed ds
-    → HaveFormats fs
-    → Goes ds m.sent (declares_each drive ds fs m chosen) (declares_each drive ds fs m)
-unfolding declares_each
-each_placed drive ds [] m chosen a h =
-    record { more = []; sends = sym (append-nil m.sent); same = λ rest. refl; files = tt }
-each_placed drive ds (f ∷ fs) m chosen a h =
-    let g0 : Going = record { file = f; effects = m; drives = ds; chosen = chosen } in
-    let g = declares g0 drive in
-    goes_then ds m.sent g (λ x. declares (choosing g0 x) drive) (declares_each drive ds fs)
-    (declares_placed g0 drive (record { format = h.0; drives = a })) (each_placed drive ds fs g.effects g.chosen a h.1)
+  handles : (now : ℕ) (from : Node) (m : Message) → i ≡ Hears now from m → counters_have_room s ≡ true
+      → P (handled s now chosen from m)
+  handles now (FromClient c) (Asks q) is low =
+      asked now c q is low ((q.client == c) && nat_le c MAX_CLIENT) refl
+  handles now (FromDrive d) (Replies r) is low = replied now d r is low
+  handles now FromServer (Orders o) is low =
+      k.told (ordered s chosen o.order o.target).step now o is (ordered s chosen o.order o.target).result
+      (obeyed o.order o.target (Sent now o is refl refl))
+  handles now from m is low = k.rests
 
-declare_placed : (s : Server) (chosen : List ℕ) (drive : ℕ) → IsReadable s
-    → IsPlaced s (declare s chosen drive) (λ x. declare s x drive)
-unfolding declare
-declare_placed s chosen drive r =
-    let ds = offline s.drives drive in
-    let named = offline_named s.drives drive r.drives in
-    let e = each_placed drive ds s.files (begins s) chosen named r.files in
-    record {
-      same = λ n. ap (λ (ns : List ℕ). step_round (with_offline s drive) (declares_each drive ds s.files (begins s) ns))
-          (placed_sent ds _ n ∙ ap (placed_of ds) e.sends ∙ sym (append-nil (placed_of ds e.more)))
-          ∙ ap (step_round (with_offline s drive)) (e.same []);
-      readable = record { drives = named; format = r.format; files = e.files };
-      knows = offline_known s.drives drive;
-    }
+  hears_it : (now : ℕ) (from : Node) (m : Message) → i ≡ Hears now from m → (b : Bool) → counters_have_room s ≡ b
+      → P (if b then handled s now chosen from m else still s)
+  hears_it now from m is true low = handles now from m is low
+  hears_it now from m is false low = k.rests
 
-known_placed : (s : Server) (chosen : List ℕ) (drive : ℕ) (b : Bool) → IsReadable s
-    → IsPlaced s (declares_known s chosen drive b).step (λ x. (declares_known s x drive b).step)
-known_placed s chosen drive true r = declare_placed s chosen drive r
-known_placed s chosen drive false r = placed_always s _ r (λ d. refl)
+  made : (n : ℕ) (m : RawMap) (tag : ℕ) (zoned : Bool) → i ≡ Makes n m tag zoned → (o : Option Refusal)
+      → refusal s n m zoned ≡ o
+      → P (unless_made s (unless_refused o (makes_file s (new_file s chosen n m tag zoned))))
+  made n m tag zoned is (Some why) refused = k.rests
+  made n m tag zoned is None refused = k.made n m tag zoned is refused
 
--- ---- any order, and any message
+  opened : i ≡ Opens → (b : Bool) → counters_have_room s ≡ b
+      → P (if b then step_round s (opens_each s.format s.drives s.files (begins s)) else still s)
+  opened is true low = k.opened is low
+  opened is false low = k.rests
 
-pub order_placed : (s : Server) (chosen : List ℕ) (kind : OrderKind) (n : ℕ) → IsReadable s
-    → IsPlaced s (ordered s chosen kind n).step (λ x. (ordered s x kind n).step)
-unfolding ordered
-order_placed s chosen ToRecall n r = recalls_placed s (file_at s.files n) r
-order_placed s chosen ToRevoke n r = starts_placed s chosen Revoking n (file_at s.files n) refl r
-order_placed s chosen ToDeclare n r = known_placed s chosen n (is_some (find (λ d. d.number == n) s.drives)) r
-order_placed s chosen ToRebuild n r = starts_placed s chosen Rebuilding n (file_at s.files n) refl r
-order_placed s chosen ToAudit n r = starts_placed s chosen Auditing n (file_at s.files n) refl r
+  by_input : (j : Input) → i ≡ j → P (step s chosen j)
+  unfolding on_message create_file reopen
+  by_input (Hears now from m) is = hears_it now from m is (counters_have_room s) refl
+  by_input (Makes n m tag zoned) is = made n m tag zoned is (refusal s n m zoned) refl
+  by_input (Obeys kind n) is = obeyed kind n (Here is)
+  by_input (Adds d) is = k.added d is
+  by_input (Zones d zone) is = k.zoned d zone is
+  by_input (Formats n) is = k.formats n is
+  by_input Resends is = k.resends is
+  by_input Crashes is = k.crashes is
+  by_input Opens is = opened is (counters_have_room s) refl
 
-answered_placed : (s : Server) (kind : OrderKind) (o : Ordered) (f : List ℕ → Ordered)
-    → IsPlaced s o.step (λ x. (f x).step)
-    → ((x : List ℕ) → (f x).result ≡ o.result) → IsPlaced s (with_result kind o) (λ x. with_result kind (f x))
-answered_placed s kind o f p results = record {
-  same = λ n. ap (λ (ns : List ℕ). with_result kind (f ns)) (placed_more o.step.sends (AnswersOrder _ ∷ []) tt n)
-      ∙ ap (λ (t : Step). with_result kind (record { step = t; result = (f (placed_by n o.step.sends)).result }))
-      (p.same n)
-      ∙ ap (λ (r : OrderResult). with_result kind (record { step = o.step; result = r }))
-      (results (placed_by n o.step.sends));
-  readable = p.readable;
-  knows = p.knows;
-}
-
-job_results : (s : Server) (x y : List ℕ) (kind : JobKind) (f : File) (j : Option Job)
-    → (begins_job s x kind f j).result ≡ (begins_job s y kind f j).result
-job_results s x y kind f (Some j) = refl
-job_results s x y kind f None =
-    either (f.kept.tag == GREATEST_TAG) (spent s x f) (fences s x kind f) (spent s y f) (fences s y kind f) refl refl
-  where
-    either : (b : Bool) (o p u v : Ordered) → o.result ≡ u.result → p.result ≡ v.result
-        → (if b then o else p).result ≡ (if b then u else v).result
-    either true o p u v h i = h
-    either false o p u v h i = i
-
-start_results : (s : Server) (x y : List ℕ) (kind : JobKind) (o : Option File)
-    → (starts s x kind o).result ≡ (starts s y kind o).result
-start_results s x y kind None = refl
-start_results s x y kind (Some f) = job_results s x y kind f f.job
-
-known_results : (s : Server) (x y : List ℕ) (drive : ℕ) (b : Bool)
-    → (declares_known s x drive b).result ≡ (declares_known s y drive b).result
-known_results s x y drive true = refl
-known_results s x y drive false = refl
-
-order_results : (s : Server) (x y : List ℕ) (kind : OrderKind) (n : ℕ)
-    → (ordered s x kind n).result ≡ (ordered s y kind n).result
-unfolding ordered
-order_results s x y ToRecall n = refl
-order_results s x y ToRevoke n = start_results s x y Revoking (file_at s.files n)
-order_results s x y ToDeclare n = known_results s x y n (is_some (find (λ d. d.number == n) s.drives))
-order_results s x y ToRebuild n = start_results s x y Rebuilding (file_at s.files n)
-order_results s x y ToAudit n = start_results s x y Auditing (file_at s.files n)
-
-handled_placed : (s : Server) (now : ℕ) (chosen : List ℕ) (from : Node) (m : Message) → IsReadable s
-    → IsPlaced s (handled s now chosen from m) (λ x. handled s now x from m)
-handled_placed s now chosen (node.Client c) (Asks q) r =
-    placed_either ((q.client == c) && nat_le c MAX_CLIENT) s _ _ (λ x. on_request s now x q) (λ x. still s)
-    (request_placed s now chosen q r) (placed_always s (still s) r (λ d. refl))
-handled_placed s now chosen (node.Drive d) (Replies m) r = drive_placed s chosen d m r
-handled_placed s now chosen node.Server (Orders o) r =
-    answered_placed s o.order (ordered s chosen o.order o.target) (λ x. ordered s x o.order o.target)
-    (order_placed s chosen o.order o.target r) (λ x. order_results s x chosen o.order o.target)
-handled_placed s now chosen from m r = placed_always s (still s) r (λ d. refl)
-
-pub message_placed : (s : Server) (now : ℕ) (chosen : List ℕ) (from : Node) (m : Message) → IsReadable s
-    → IsPlaced s (on_message s now chosen from m) (λ x. on_message s now x from m)
-unfolding on_message
-message_placed s now chosen from m r =
-    placed_either (counters_have_room s) s _ _ (λ x. handled s now x from m) (λ x. still s)
-    (handled_placed s now chosen from m r)
-    (placed_always s (still s) r (λ d. refl))
+  pub each_step : P (step s chosen i)
+  each_step = by_input i refl

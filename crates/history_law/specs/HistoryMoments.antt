@@ -1,2 +1,2 @@
 -- The moments of a history: the worlds between two of its moves.
-pub use Rattle.move_law.specs.Moments.{IsReached}
+pub use Rattle.history_law.specs.Moments.{IsReached}

@@ -1,3 +1,16 @@
+pub mod Said
+pub mod Goes
+pub mod Moves
+pub mod Steps
+pub mod Answers
+pub mod Files
+pub mod Turns
+pub mod Moments
+pub mod Names
+pub mod Numbered
+pub mod Fencing
+pub mod Owned
+pub mod Recalled
 pub mod HistoryMoments
 pub mod Parties
 pub mod Grants
@@ -22,3 +35,7 @@ pub mod Ranges
 pub mod Unforged
 pub mod StepEnds
 pub mod Answered
+pub mod Reaching
+pub mod Fenced
+pub mod Holder
+pub mod Fences

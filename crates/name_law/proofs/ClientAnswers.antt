@@ -23,8 +23,8 @@ use Rattle.layout_ops.specs.Reading.{optional_u64_field, optional_stateid_field,
 use Rattle.layout_ops.proofs.Fields.{u32_law, operation_law}
 use Rattle.layout_ops.proofs.Steps.{named}
 use Rattle.client_rules.specs.Results.{get_status, commit_status, return_status, status_of}
-use Rattle.fencing_law.proofs.Fronts.{codec_gets, next}
-use Rattle.fencing_law.proofs.Parts.{field_32, field_64, message_ends}
+use Rattle.history_law.proofs.Fronts.{codec_gets, next}
+use Rattle.history_law.proofs.Parts.{field_32, field_64, message_ends}
 
 -- ---- the status
 

@@ -28,9 +28,9 @@ use Rattle.world_history.specs.Moves.{Act, Action, acts}
 use Rattle.world_history.specs.Sending.{Move}
 use Rattle.world_history.specs.Plans.{due}
 use Rattle.world_history.specs.History.{OneEventMore}
-use Rattle.move_law.specs.Said.{IsDelivered}
-use Rattle.move_law.specs.Moves.{IsForClient}
-use Rattle.move_law.proofs.Moves.{each_act}
+use Rattle.history_law.specs.Said.{IsDelivered}
+use Rattle.history_law.specs.Moves.{IsForClient}
+use Rattle.history_law.proofs.Moves.{each_act}
 use Rattle.history_law.specs.Grants.{GrantsAreSafe}
 use Rattle.history_law.specs.BookMoments.{IsMoment, lines_in}
 use Rattle.exchange_law.specs.Awaited.{IsBehind}
@@ -45,7 +45,7 @@ use Rattle.name_law.specs.ClientTells.{OutcomesOfTextAreTold}
 use Rattle.name_law.proofs.ClientOutcomes.{OutcomeTold, CallTold, EndTold, Names}
 use Rattle.name_law.proofs.ClientSteps.{InputSays, step_told}
 use Rattle.name_law.proofs.ClientAnswers.{answer_read}
-use Rattle.pending_law.proofs.Holders.{AnswerNames, grants_named, answer_names}
+use Rattle.cause_law.proofs.Holders.{AnswerNames, grants_named, answer_names}
 use Rattle.name_law.proofs.DriveTags.{SaysLow, reply_low}
 use Rattle.name_law.proofs.DriveWorlds.{tags_low, to_drives}
 

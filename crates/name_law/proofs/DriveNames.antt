@@ -17,8 +17,8 @@ use Rattle.world_history.specs.Drives.{judges, made_drive}
 use Rattle.world_history.specs.Moves.{Act, Action, Opens, acts}
 use Rattle.world_history.specs.Sending.{Move, move}
 use Rattle.world_history.specs.History.{OneEventMore}
-use Rattle.move_law.specs.Moves.{drive_event}
-use Rattle.move_law.proofs.Moves.{each_act}
+use Rattle.history_law.specs.Moves.{drive_event}
+use Rattle.history_law.proofs.Moves.{each_act}
 use Rattle.history_law.specs.BookMoments.{with_event, lines_in}
 use Rattle.exchange_law.specs.Text.{AreOfText}
 use Rattle.exchange_law.proofs.CountGrowing.{text_front, text_behind}

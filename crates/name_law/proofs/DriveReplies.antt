@@ -16,7 +16,7 @@ use Rattle.world_history.specs.Handed.{Post, server_post, client_posts}
 use Rattle.world_history.specs.Moves.{Act, Action, Opens, acts}
 use Rattle.world_history.specs.Sending.{Move, move}
 use Rattle.world_history.specs.History.{OneEventMore}
-use Rattle.move_law.specs.Said.{posted}
+use Rattle.history_law.specs.Said.{posted}
 use Rattle.history_law.specs.BookMoments.{IsMoment, with_event, lines_in}
 use Rattle.exchange_law.specs.Text.{AreOfText}
 use Rattle.exchange_law.proofs.CountGrowing.{text_front, text_behind}

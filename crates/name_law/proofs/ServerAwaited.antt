@@ -11,7 +11,7 @@ use Rattle.server_rules.specs.Replies.{renewed}
 use Rattle.server_rules.specs.Standing.{is_beyond, lose_on, lose_from, replica}
 use Rattle.server_rules.proofs.Members.{in_either, in_filtered}
 use Rattle.world_history.specs.ServerNames.{Kept, Piece, Heard, Component, Awaited, Target}
-use Rattle.sent_law.proofs.StandAwaited.{renewed_are, in_set}
+use Rattle.component_law.proofs.StandAwaited.{renewed_are, in_set}
 use Rattle.name_law.specs.ServerNamed.{AreOnNamed, AreForNamed}
 
 -- ---- lists of commands

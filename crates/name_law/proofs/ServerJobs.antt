@@ -22,7 +22,7 @@ use Rattle.world_history.specs.Names.{is_tellable_note}
 use Rattle.world_history.specs.ServerNames.{Component, Awaited, Heard, Piece, Target, Drive, Job, JobKind, Making, Revoking, Rebuilding, Auditing, Work, Creates, Fences, Fetches, Stores, Targets, Gathers, Fills, Lengths, Checks, Tally, Note, NoteKind, Rebuilt, NoDrive, NoSpace, Reply, Repairing}
 use Rattle.history_law.specs.Placed.{AreNamed as AreNamedDrives}
 use Rattle.history_law.proofs.Rebuilding.{first_named, takers_named}
-use Rattle.sent_law.specs.Objects.{target_in, target_of}
+use Rattle.component_law.specs.Objects.{target_in, target_of}
 use Rattle.name_law.specs.ServerNamed.{AreOnNamed, AreOfNamed, AreForNamed, IsNamedTarget}
 use Rattle.name_law.proofs.ServerAwaited.{both_for, none_for, one_for, filtered_for, renewed_for, each_for, stores_for, repair_for, sources_for, set_on, lost_on, lost_from}
 

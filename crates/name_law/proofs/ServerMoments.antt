@@ -25,15 +25,15 @@ use Rattle.world_history.specs.Handed.{Post, is_addressed, server_post, for_serv
 use Rattle.world_history.specs.History.{OneEventMore}
 use Rattle.world_history.specs.Moves.{Action, Opens, Delivers, begins, gives, known_drive, knows_drive, raw_of, has_algorithm, acts}
 use Rattle.world_history.specs.Sending.{Move, move}
-use Rattle.move_law.specs.Moves.{given_in, IsForServer}
-use Rattle.move_law.proofs.Moves.{none_added}
+use Rattle.history_law.specs.Moves.{given_in, IsForServer}
+use Rattle.history_law.proofs.Moves.{none_added}
 use Rattle.history_law.specs.BookMoments.{lines_in}
 use Rattle.history_law.specs.Doing.{heard_of, brought_to, brought, input_in, did_in, ServerMoves}
 use Rattle.exchange_law.specs.Text.{IsOfText}
-use Rattle.calm_law.specs.Naming.{IsNamed, IsNamedInput}
-use Rattle.sent_law.specs.Tagged.{AreNamedActs}
-use Rattle.sent_law.proofs.Doing.{IsNamedAction}
-use Rattle.sent_law.proofs.Moments.{each_first, each_second, named_action, server_sent_its_run}
+use Rattle.component_law.specs.Naming.{IsNamed, IsNamedInput}
+use Rattle.component_law.specs.Tagged.{AreNamedActs}
+use Rattle.component_law.proofs.Doing.{IsNamedAction}
+use Rattle.component_law.proofs.Moments.{each_first, each_second, named_action, server_sent_its_run}
 use Rattle.name_law.specs.ServerNamed.{IsNamedServer, SendsToNamed}
 use Rattle.name_law.specs.ServerTells.{given_to_server, LeavesNothingOut, TextsAreNamed, ServerIsNamed, ServerSendsToNamed, ServerLeavesNothingOut}
 use Rattle.name_law.proofs.ServerSteps.{each_server_step_is_named}

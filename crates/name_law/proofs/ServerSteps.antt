@@ -25,15 +25,15 @@ use Rattle.server_rules.specs.Slots.{Again, New, Misordered, slot_of, admit, adm
 use Rattle.server_rules.proofs.Members.{in_either, in_mapped}
 use Rattle.world_history.specs.Names.{is_named, note_line, known_note_line, is_tellable_note, where_known}
 use Rattle.world_history.specs.ServerNames.{Server, File, Drive, Component, Grant, Slot, Answer, Awaited, Effects, Note, NoteKind, Outgoing, Answers, AnswersOrder, ClientRequest}
-use Rattle.job_law.proofs.Hearing.{found_in}
+use Rattle.history_law.proofs.Hearing.{found_in}
 use Rattle.history_law.specs.Placed.{AreNamed as AreNamedDrives}
 use Rattle.history_law.proofs.Inputs.{added_named, zoned_named}
 use Rattle.history_law.proofs.Made.{AllNamed, for_named}
-use Rattle.history_law.proofs.Steps.{offline_named}
-use Rattle.calm_law.specs.Naming.{IsNamedInput}
-use Rattle.move_law.specs.Steps.{answered_file, IsOrdered, Refuses, WhileBusy, OnGreatest, with_added, with_zoned, new_file, StepCases, RequestCases}
-use Rattle.move_law.proofs.Steps.{each_step, each_request}
-use Rattle.move_law.proofs.Files.{in_at, in_put, in_add}
+use Rattle.history_law.proofs.HistorySteps.{offline_named}
+use Rattle.component_law.specs.Naming.{IsNamedInput}
+use Rattle.history_law.specs.Steps.{answered_file, IsOrdered, Refuses, WhileBusy, OnGreatest, with_added, with_zoned, new_file, StepCases, RequestCases}
+use Rattle.history_law.proofs.Steps.{each_step, each_request}
+use Rattle.history_law.proofs.Files.{in_at, in_put, in_add}
 use Rattle.name_law.specs.ServerNamed.{AreOnNamed, AreOfNamed, AreForNamed, IsNamedFile, IsNamedServer, SendsToNamed, EachServerStepIsNamed}
 use Rattle.name_law.proofs.ServerAwaited.{none_for}
 use Rattle.name_law.proofs.ServerJobs.{AreTold, Ends, owns_noting, ends_making, ends_fence, ends_hears, ends_declares, ends_opens}

@@ -8,7 +8,7 @@ use Rattle.world_history.specs.Names.{is_tellable}
 use Rattle.world_history.specs.ReadLog.{log_in}
 use Rattle.world_history.specs.Sending.{Move}
 use Rattle.world_history.specs.Plans.{due}
-use Rattle.move_law.specs.Moves.{IsForClient}
+use Rattle.history_law.specs.Moves.{IsForClient}
 use Rattle.history_law.specs.BookMoments.{IsMoment, plan_at}
 use Rattle.exchange_law.specs.Text.{AreOfText}
 use Rattle.relation_law.specs.Pending.{IsPendingAt}

@@ -9,7 +9,7 @@ use Rattle.world_history.specs.State.{World, DriveAt}
 use Rattle.world_history.specs.Names.{is_named}
 use Rattle.world_history.specs.Drives.{judges, command_in}
 use Rattle.world_history.specs.Handed.{Post, is_addressed, drive_replies}
-use Rattle.move_law.specs.Said.{IsDelivered}
+use Rattle.history_law.specs.Said.{IsDelivered}
 use Rattle.history_law.specs.BookMoments.{IsMoment}
 use Rattle.exchange_law.specs.Text.{AreOfText}
 

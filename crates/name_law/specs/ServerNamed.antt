@@ -9,8 +9,8 @@ use Rattle.server_rules.specs.Messages.{awaited_by}
 use Rattle.world_history.specs.Names.{is_named, note_line, known_note_line}
 use Rattle.world_history.specs.ServerNames.{Server, File, Component, Grant, Slot, Awaited, Target, Note, Outgoing}
 use Rattle.history_law.specs.Placed.{AreNamed as AreNamedDrives}
-use Rattle.calm_law.specs.Naming.{IsNamedInput}
-use Rattle.sent_law.specs.Objects.{target_of}
+use Rattle.component_law.specs.Naming.{IsNamedInput}
+use Rattle.component_law.specs.Objects.{target_of}
 
 -- ---- a file
 

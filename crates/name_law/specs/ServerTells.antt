@@ -11,11 +11,11 @@ use Rattle.world_history.specs.Handed.{server_post}
 use Rattle.world_history.specs.Moves.{Action, Opens, acts}
 use Rattle.world_history.specs.Sending.{Move}
 use Rattle.world_history.specs.Plans.{due}
-use Rattle.move_law.specs.Moves.{IsForServer}
+use Rattle.history_law.specs.Moves.{IsForServer}
 use Rattle.history_law.specs.BookMoments.{IsMoment, plan_at, lines_in}
 use Rattle.history_law.specs.Doing.{input_in}
 use Rattle.exchange_law.specs.Text.{AreOfText}
-use Rattle.calm_law.specs.Naming.{AreNamed}
+use Rattle.component_law.specs.Naming.{AreNamed}
 use Rattle.name_law.specs.ServerNamed.{IsNamedServer, SendsToNamed}
 
 -- what comes to the server with a move: with an event, or with a message; or it sends again what it waits for

@@ -31,16 +31,16 @@ use Rattle.world_history.specs.Guesses.{Guarded, guards, unguessed}
 use Rattle.world_history.specs.Laws.{shown, MessagesAreRead}
 use Rattle.history_law.specs.Read.{AreWritten}
 use Rattle.history_law.proofs.Staying.{written_front}
-use Rattle.move_law.specs.Moments.{IsReached, IsMoment, with_event, lines_in, plan_at}
+use Rattle.history_law.specs.Moments.{IsReached, IsMoment, with_event, lines_in, plan_at}
 use Rattle.exchange_law.specs.Counters.{ClientsAreCounted, ClientCounts}
 use Rattle.exchange_law.specs.Text.{AreOfText, AreFew}
 use Rattle.exchange_law.proofs.HeldWorlds.{next_moment}
 use Rattle.exchange_law.specs.Doing.{posted}
-use Rattle.ending_law.specs.Readable.{FilesAndAnswersAreReadable}
-use Rattle.ending_law.proofs.Files.{few_there}
-use Rattle.outcome_law.proofs.PendingMoves.{taken_rule}
-use Rattle.pending_law.proofs.Eventless.{NoEvent, opens_plain}
-use Rattle.pending_law.proofs.Queue.{queue_is_due}
+use Rattle.cause_law.specs.Readable.{FilesAndAnswersAreReadable}
+use Rattle.cause_law.proofs.Files.{few_there}
+use Rattle.cause_law.proofs.PendingMoves.{taken_rule}
+use Rattle.cause_law.proofs.Eventless.{NoEvent, opens_plain}
+use Rattle.cause_law.proofs.Queue.{queue_is_due}
 use Rattle.ready_law.specs.Answered.{scene_in, EndsOk, ends_call, messages_at, message_bound, EachReadyIsAnswered, ReadyIsAnswered}
 use Rattle.ready_law.specs.Events.{IsOver as IsOverIn, StandsApart, EventsStandApart}
 use Rattle.ready_law.specs.Fair.{IsFair}

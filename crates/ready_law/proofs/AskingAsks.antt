@@ -33,10 +33,10 @@ use Rattle.exchange_law.specs.Doing.{posted}
 use Rattle.exchange_law.specs.InStep.{IsInStep, IsAwaiting, StandsAt, state_of}
 use Rattle.exchange_law.specs.Messages.{last_before}
 use Rattle.exchange_law.proofs.HeldWorlds.{reached, readable_there}
-use Rattle.ending_law.proofs.Files.{few_there}
-use Rattle.pending_law.proofs.Holders.{AnswerNames, grants_named, answer_names}
-use Rattle.pending_law.proofs.Sends.{outstanding_of}
-use Rattle.pending_law.proofs.Taking.{awaiting}
+use Rattle.cause_law.proofs.Files.{few_there}
+use Rattle.cause_law.proofs.Holders.{AnswerNames, grants_named, answer_names}
+use Rattle.cause_law.proofs.Sends.{outstanding_of}
+use Rattle.cause_law.proofs.Taking.{awaiting}
 use Rattle.ready_law.specs.Answered.{ends_call}
 use Rattle.ready_law.specs.Fair.{IsFair}
 use Rattle.ready_law.specs.Stepping.{asks_step}

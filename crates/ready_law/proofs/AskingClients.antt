@@ -15,8 +15,8 @@ use Rattle.layout_ops.specs.Reading.{answer_in, envelope_behind, envelope_in, en
 use Rattle.layout_ops.proofs.Fields.{u32_law}
 use Rattle.layout_ops.proofs.Steps.{named}
 use Rattle.layout_ops.proofs.Whole.{all_again}
-use Rattle.fencing_law.proofs.Fronts.{codec_gets, next}
-use Rattle.fencing_law.proofs.Parts.{message_ends}
+use Rattle.history_law.proofs.Fronts.{codec_gets, next}
+use Rattle.history_law.proofs.Parts.{message_ends}
 use Rattle.server_rules.specs.declared.limits.TheConstants.{GREATEST_SEQUENCE}
 use Rattle.server_rules.specs.Answers.{recall_of}
 use Rattle.server_rules.specs.Laws.{last_of}

@@ -24,10 +24,10 @@ use Rattle.exchange_law.specs.Files.{AllFilesFit}
 use Rattle.exchange_law.specs.InStep.{ClientsAreInStep}
 use Rattle.exchange_law.specs.Meeting.{ClientsAgree}
 use Rattle.exchange_law.specs.Shapes.{FilesHaveShape}
-use Rattle.party_law.specs.Listed.{ComponentsAgree}
-use Rattle.party_law.specs.Order.{GrantsAreInOrder}
-use Rattle.party_law.specs.Rests.{NothingDueRests}
-use Rattle.party_law.specs.Sizes.{SizesAgree}
+use Rattle.component_law.specs.Listed.{ComponentsAgree}
+use Rattle.component_law.specs.Order.{GrantsAreInOrder}
+use Rattle.component_law.specs.Rests.{NothingDueRests}
+use Rattle.component_law.specs.Sizes.{SizesAgree}
 use Rattle.ready_law.specs.Answered.{ends_call}
 use Rattle.ready_law.specs.Reacting.{IsGood}
 use Rattle.ready_law.specs.Ready.{is_listed, is_lost}

@@ -25,7 +25,7 @@ use Rattle.world_history.specs.Sending.{Move, move, sent_lines}
 use Rattle.history_law.specs.BookMoments.{with_event, lines_in}
 use Rattle.history_law.specs.HistoryMoments.{IsReached}
 use Rattle.exchange_law.specs.Doing.{posted}
-use Rattle.party_law.specs.Order.{Rise}
+use Rattle.component_law.specs.Order.{Rise}
 use Rattle.ready_law.specs.Answered.{ends_call}
 use Rattle.ready_law.specs.Ready.{is_covered, Yields}
 use Rattle.ready_law.proofs.Calls.{ReadyCall, scene_at, op_at, file_at_call, kept_at, own_at, wanted_at, opposed_at}

@@ -29,7 +29,7 @@ use Rattle.exchange_law.specs.Doing.{posted}
 use Rattle.exchange_law.specs.InStep.{state_of}
 use Rattle.exchange_law.specs.Meeting.{IsFitting, IsMet, AgreesAt, KeptGood}
 use Rattle.exchange_law.proofs.HeldWorlds.{reached, readable_there}
-use Rattle.outcome_law.proofs.Given.{taken_covers}
+use Rattle.cause_law.proofs.Given.{taken_covers}
 use Rattle.ready_law.specs.Answered.{ends_call}
 use Rattle.ready_law.specs.Ready.{stands, is_listed, is_lost}
 use Rattle.ready_law.specs.Stepping.{holding, unasked, IsAnsweredAt}

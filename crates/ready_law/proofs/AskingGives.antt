@@ -31,9 +31,9 @@ use Rattle.exchange_law.specs.Text.{AreOfText}
 use Rattle.exchange_law.proofs.CountGrowing.{text_behind}
 use Rattle.exchange_law.proofs.HeldTaken.{gained, takes}
 use Rattle.exchange_law.proofs.HeldWorlds.{reached, readable_there}
-use Rattle.ending_law.proofs.Files.{few_there}
-use Rattle.pending_law.specs.Queue.{queue}
-use Rattle.pending_law.proofs.Queue.{queue_is_due}
+use Rattle.cause_law.proofs.Files.{few_there}
+use Rattle.cause_law.specs.Queue.{queue}
+use Rattle.cause_law.proofs.Queue.{queue_is_due}
 use Rattle.ready_law.specs.Ready.{stands}
 use Rattle.ready_law.proofs.Calls.{ReadyCall, op_at, file_at_call, kept_at, wanted_at, opposed_at, queue_at, IsIn, DeliversHead, request_message, answer_message}
 use Rattle.ready_law.proofs.Stages.{Asks, IsAsked, ListsFile, Serves, AreRecalls, AreTaken, WereLive, HasSent, Gets, GoesOn, Further}

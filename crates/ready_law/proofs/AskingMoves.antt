@@ -19,9 +19,9 @@ use Rattle.world_history.specs.Handed.{Handed, Post, quiet, client_did, client_t
 use Rattle.world_history.specs.Moves.{Act, Action, Opens, Delivers, acts, marked, told_delivered, by_client, called, acted, calls_at, op_of, begins}
 use Rattle.world_history.specs.Sending.{Move, move, sent_lines}
 use Rattle.history_law.specs.BookMoments.{with_event, lines_in}
-use Rattle.move_law.specs.Said.{with_marks}
+use Rattle.history_law.specs.Said.{with_marks}
 use Rattle.exchange_law.proofs.Each.{put_same, put_other}
-use Rattle.pending_law.proofs.Frames.{delivered_act}
+use Rattle.cause_law.proofs.Frames.{delivered_act}
 use Rattle.ready_law.specs.Answered.{ends_call}
 use Rattle.ready_law.proofs.AskingForms.{Steps}
 

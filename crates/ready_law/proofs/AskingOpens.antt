@@ -29,9 +29,9 @@ use Rattle.exchange_law.specs.InStep.{state_of}
 use Rattle.exchange_law.specs.Meeting.{IsFitting, IsMet}
 use Rattle.exchange_law.proofs.ClientKeeping.{none_left}
 use Rattle.exchange_law.proofs.HeldWorlds.{reached, readable_there}
-use Rattle.ending_law.proofs.Files.{few_there}
-use Rattle.party_law.specs.Listed.{ListsComponents}
-use Rattle.party_law.specs.Sizes.{IsCommitted}
+use Rattle.cause_law.proofs.Files.{few_there}
+use Rattle.component_law.specs.Listed.{ListsComponents}
+use Rattle.component_law.specs.Sizes.{IsCommitted}
 use Rattle.ready_law.specs.Answered.{IsOk}
 use Rattle.ready_law.specs.Ready.{is_listed}
 use Rattle.ready_law.specs.Stepping.{TakesCall}

@@ -18,8 +18,8 @@ use Rattle.world_history.specs.Sending.{Move, move}
 use Rattle.history_law.specs.BookMoments.{lines_in}
 use Rattle.exchange_law.specs.InStep.{state_of}
 use Rattle.exchange_law.proofs.HeldWorlds.{reached}
-use Rattle.party_law.specs.Order.{Rise}
-use Rattle.pending_law.proofs.Sends.{outstanding_of}
+use Rattle.component_law.specs.Order.{Rise}
+use Rattle.cause_law.proofs.Sends.{outstanding_of}
 use Rattle.ready_law.proofs.Calls.{ReadyCall, file_at_call, kept_at, wanted_at, opposed_at, IsIn, DeliversHead, request_message, answer_message}
 use Rattle.ready_law.proofs.Going.{GoesOnBy}
 use Rattle.ready_law.proofs.Stages.{IsReturning, IsRecallAnswer, AreHalves, AreReturns, AskingAgain, AsksAgain, GoesOn, Further}

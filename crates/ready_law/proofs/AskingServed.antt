@@ -35,7 +35,7 @@ use Rattle.exchange_law.specs.InStep.{state_of}
 use Rattle.exchange_law.proofs.Admitting.{is_next}
 use Rattle.exchange_law.proofs.Covered.{inside_limit}
 use Rattle.exchange_law.proofs.HeldWorlds.{reached, readable_there}
-use Rattle.pending_law.proofs.Sends.{answer_message as pending_answer, outstanding_of}
+use Rattle.cause_law.proofs.Sends.{answer_message as pending_answer, outstanding_of}
 use Rattle.ready_law.specs.Answered.{ends_call}
 use Rattle.ready_law.specs.Enough.{AreMissingAmong}
 use Rattle.ready_law.specs.Ready.{has_failed}

@@ -17,7 +17,7 @@ use Rattle.world_history.specs.Moves.{Delivers, TimesOut, op_of, acts}
 use Rattle.world_history.specs.Sending.{Move, move}
 use Rattle.world_history.specs.History.{StandsFor}
 use Rattle.exchange_law.specs.Doing.{posted}
-use Rattle.pending_law.specs.Queue.{queue}
+use Rattle.cause_law.specs.Queue.{queue}
 use Rattle.ready_law.specs.Ready.{Scene, scene_of, IsReady, held_by, opposed, wanted, lost_of}
 use Rattle.ready_law.specs.Fair.{IsFair}
 

@@ -29,8 +29,8 @@ use Rattle.world_history.specs.History.{OneEventMore}
 use Rattle.history_law.specs.BookMoments.{IsMoment}
 use Rattle.history_law.specs.Unforged.{UnguessedAreUnforged}
 use Rattle.history_law.proofs.DriveLines.{drive_read}
-use Rattle.move_law.proofs.Files.{in_at}
-use Rattle.calm_law.proofs.MoveFacts.{are_named}
+use Rattle.history_law.proofs.Files.{in_at}
+use Rattle.component_law.proofs.MoveFacts.{are_named}
 use Rattle.exchange_law.specs.Calls.{CallFine, IsCall}
 use Rattle.exchange_law.specs.Counters.{CountersStayLow}
 use Rattle.exchange_law.specs.Files.{KeptFits, GrantFits, AllFilesFit}
@@ -44,14 +44,14 @@ use Rattle.exchange_law.proofs.Commands.{MaySend, credential_found}
 use Rattle.exchange_law.proofs.DriveNumbers.{drive_number}
 use Rattle.exchange_law.proofs.Knowing.{known_at}
 use Rattle.exchange_law.proofs.Parts.{each_in}
-use Rattle.ending_law.specs.Fresh.{GrantsAreFresh}
-use Rattle.ending_law.specs.Readable.{AnswersAreFit, PlacesAreEnough}
-use Rattle.tag_law.specs.Least.{NoTagIsBehind}
-use Rattle.tag_law.specs.Within.{NoTagIsAhead}
-use Rattle.party_law.specs.Keys.{HasItsKey, KeysAreKnown}
-use Rattle.party_law.proofs.Server.{grant_in}
+use Rattle.cause_law.specs.Fresh.{GrantsAreFresh}
+use Rattle.cause_law.specs.Readable.{AnswersAreFit, PlacesAreEnough}
+use Rattle.component_law.specs.Least.{NoTagIsBehind}
+use Rattle.component_law.specs.TagWithin.{NoTagIsAhead}
+use Rattle.component_law.specs.Keys.{HasItsKey, KeysAreKnown}
+use Rattle.component_law.proofs.Server.{grant_in}
 use Rattle.ready_law.proofs.WorkingApart.{got_in}
-use Rattle.party_law.specs.Listed.{IsCredentialFor, ListsComponent, ListsComponents, ComponentsAgree}
+use Rattle.component_law.specs.Listed.{IsCredentialFor, ListsComponent, ListsComponents, ComponentsAgree}
 use Rattle.ready_law.specs.Carried.{WorksUnder, CanServe}
 use Rattle.ready_law.specs.Clear.{IsClear}
 use Rattle.ready_law.specs.Fair.{IsFair}

@@ -14,7 +14,7 @@ use Rattle.client_rules.specs.Commands.{no_credential, credential_in, credential
 use Rattle.history_law.proofs.IssuedLaw.{nothing_allowed}
 use Rattle.world_history.specs.ClientNames.{Credential, Listed, Held, Store}
 use Rattle.world_history.specs.Drives.{first_key}
-use Rattle.party_law.proofs.Sealing.{same_bytes}
+use Rattle.component_law.proofs.Sealing.{same_bytes}
 
 -- ---- the check value
 

@@ -21,27 +21,27 @@ use Rattle.world_history.specs.ServerNames.{Server, File, Kept, Grant, Job, Note
 use Rattle.world_history.specs.State.{World}
 use Rattle.world_history.specs.History.{OneEventMore}
 use Rattle.history_law.specs.BookMoments.{IsMoment}
-use Rattle.move_law.specs.Moves.{down_behind}
-use Rattle.move_law.specs.Files.{Quiet, Asked}
-use Rattle.move_law.specs.Steps.{IsAsked}
-use Rattle.move_law.proofs.Files.{in_at}
-use Rattle.move_law.proofs.Steps.{each_request}
-use Rattle.calm_law.specs.Naming.{AreNamed}
+use Rattle.history_law.specs.Moves.{down_behind}
+use Rattle.history_law.specs.Files.{Quiet, Asked}
+use Rattle.history_law.specs.Steps.{IsAsked}
+use Rattle.history_law.proofs.Files.{in_at}
+use Rattle.history_law.proofs.Steps.{each_request}
+use Rattle.component_law.specs.Naming.{AreNamed}
 use Rattle.exchange_law.specs.Counters.{CountersStayLow}
 use Rattle.exchange_law.specs.Text.{AreOfText, AreFew}
 use Rattle.exchange_law.proofs.HeldAsking.{none_told}
-use Rattle.sent_law.specs.Sent.{IsSentByRun}
-use Rattle.sent_law.specs.Standing.{is_new}
-use Rattle.sent_law.specs.Turns.{in_turn, AreInTurn, down_after}
-use Rattle.sent_law.proofs.Moments.{server_sent_its_run}
-use Rattle.sent_law.proofs.StandRuns.{IsAt, starts, goes_on, room_before}
-use Rattle.party_law.specs.Listed.{IsOffline}
-use Rattle.party_law.proofs.ListedServing.{MayGive, serves_may}
-use Rattle.party_law.proofs.ListedSteps.{FewerAt, Did, step_did}
-use Rattle.party_law.proofs.Keeping.{IsAlike}
-use Rattle.sent_law.specs.KeptWalk.{IsWalked, JobFits, FileFits}
-use Rattle.sent_law.proofs.KeptFits.{FitsBy, AllFit, fits_step, fits_run}
-use Rattle.sent_law.proofs.KeptJobs.{fence_by}
+use Rattle.component_law.specs.Sent.{IsSentByRun}
+use Rattle.component_law.specs.Standing.{is_new}
+use Rattle.component_law.specs.Turns.{in_turn, AreInTurn, down_after}
+use Rattle.component_law.proofs.Moments.{server_sent_its_run}
+use Rattle.component_law.proofs.StandRuns.{IsAt, starts, goes_on, room_before}
+use Rattle.component_law.specs.Listed.{IsOffline}
+use Rattle.component_law.proofs.ListedServing.{MayGive, serves_may}
+use Rattle.component_law.proofs.ListedSteps.{FewerAt, Did, step_did}
+use Rattle.component_law.proofs.PartyKeeping.{IsAlike}
+use Rattle.component_law.specs.KeptWalk.{IsWalked, JobFits, FileFits}
+use Rattle.component_law.proofs.KeptFits.{FitsBy, AllFit, fits_step, fits_run}
+use Rattle.component_law.proofs.KeptJobs.{fence_by}
 
 -- ---- a request
 

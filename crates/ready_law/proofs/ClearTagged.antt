@@ -13,15 +13,15 @@ use Rattle.world_history.specs.ServerNames.{File, Component, Grant, Job, Kept, S
 use Rattle.world_history.specs.State.{World, DriveAt, at_number}
 use Rattle.history_law.specs.BookMoments.{IsMoment}
 use Rattle.history_law.specs.Unforged.{AreUnforged}
-use Rattle.move_law.proofs.Files.{in_at}
-use Rattle.calm_law.specs.Naming.{AreNamed}
+use Rattle.history_law.proofs.Files.{in_at}
+use Rattle.component_law.specs.Naming.{AreNamed}
 use Rattle.exchange_law.specs.Text.{AreOfText, AreFew}
-use Rattle.fencing_law.specs.Reaching.{has_reached, has_tag}
-use Rattle.sent_law.specs.Standing.{IsCreating}
-use Rattle.sent_law.specs.Tagged.{is_fence}
-use Rattle.tag_law.specs.Least.{NoTagIsBehind}
-use Rattle.tag_law.specs.Within.{NoTagIsAhead}
-use Rattle.sent_law.specs.Within.{IsWithin}
+use Rattle.history_law.specs.Reaching.{has_reached, has_tag}
+use Rattle.component_law.specs.Standing.{IsCreating}
+use Rattle.component_law.specs.Tagged.{is_fence}
+use Rattle.component_law.specs.Least.{NoTagIsBehind}
+use Rattle.component_law.specs.TagWithin.{NoTagIsAhead}
+use Rattle.component_law.specs.Within.{IsWithin}
 use Rattle.ready_law.proofs.ClearStill.{IsShut}
 
 -- the object is there with this tag

@@ -9,7 +9,7 @@ use Rattle.world_history.specs.Runs.{lines_of, Carries}
 use Rattle.world_history.specs.History.{Step, AreCarried, end_of, lines_of_steps, StandsFor, Begins, OneEventMore}
 use Rattle.world_history.specs.History.Begins.{Nothing, Part}
 use Rattle.ready_law.specs.Events.{is_event, BeginsWithEvent, StandsApart, EventsStandApart}
-use Rattle.pending_law.proofs.Eventless.{NoEvent, first_plain, moves_plain}
+use Rattle.cause_law.proofs.Eventless.{NoEvent, first_plain, moves_plain}
 
 -- ---- lists of lines
 

@@ -10,7 +10,7 @@ use Rattle.world_history.specs.Moves.{Opens, TimesOut, acts}
 use Rattle.world_history.specs.Sending.{Move, move}
 use Rattle.world_history.specs.Plans.{quiet_at}
 use Rattle.exchange_law.specs.Doing.{posted}
-use Rattle.move_law.specs.Moments.{lines_in}
+use Rattle.history_law.specs.Moments.{lines_in}
 use Rattle.ready_law.proofs.Calls.{ReadyCall, queue_at, IsIn, DeliversHead, TellsTimeout}
 use Rattle.ready_law.proofs.Stages.{Returning, Returned, Asking, Recalling, AskingAgain, Getting, Working, Committing, Committed, Reporting, Reported, GoesOn}
 

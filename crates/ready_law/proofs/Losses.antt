@@ -12,8 +12,8 @@ use Rattle.server_rules.specs.Numbers as numbers
 use Rattle.server_rules.specs.Maps.{group_with}
 use Rattle.server_rules.proofs.Members.{in_filter}
 use Rattle.world_history.specs.ServerNames.{Kept, Component}
-use Rattle.calm_law.specs.Apart.{AreApart}
-use Rattle.calm_law.proofs.Drives.{not_first}
+use Rattle.component_law.specs.Apart.{AreApart}
+use Rattle.component_law.proofs.Drives.{not_first}
 use Rattle.ready_law.specs.Ready.{Scene, is_lost, lost_from, lost_of}
 use Rattle.ready_law.specs.Answered.{scene_in}
 use Rattle.ready_law.specs.Losses.{BearsLosses, LossesAreBorne, BorneIsEnough}

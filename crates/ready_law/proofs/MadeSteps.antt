@@ -20,9 +20,9 @@ use Rattle.client_rules.proofs.ReadSteps.{held_file, put_at}
 use Rattle.client_rules.proofs.TakenMaps.{taken_checked}
 use Rattle.world_history.specs.ClientNames.{Client, Call, CallOp, Held, Listed, Due, Need, First, Get, Commit, Report, Close, Phase, Starts, Needs, Waits, Reads, Probes, Gathers, Scatters, Outcome, NoFile, HeldBy, Fencing, Why, Turn, Goes, Ends, Forgets, Moved, Done, Answer, Store}
 use Rattle.world_history.specs.State.{World, ClientAt}
-use Rattle.move_law.specs.Moments.{IsReached}
-use Rattle.move_law.proofs.Reached.{always_by}
-use Rattle.move_law.proofs.Turns.{each_turn, each_finish}
+use Rattle.history_law.specs.Moments.{IsReached}
+use Rattle.history_law.proofs.Reached.{always_by}
+use Rattle.history_law.proofs.Turns.{each_turn, each_finish}
 use Rattle.exchange_law.proofs.ClientKeeping.{put_read, without_read}
 use Rattle.exchange_law.proofs.PlaceLists.{all_wider}
 use Rattle.ready_law.proofs.EachAt.{EachAt, put_each, come_each}

@@ -19,9 +19,9 @@ use Rattle.osd_drive.specs.Effects.{lane_for, next_tag, effect_of, state_by}
 use Rattle.server_rules.specs.Laws.{In}
 use Rattle.world_history.specs.State.{World, DriveAt}
 use Rattle.world_history.specs.Drives.{judges, command_in, made_drive}
-use Rattle.move_law.specs.Moments.{IsReached}
-use Rattle.move_law.specs.Moves.{Turns, Raised, Timed, Falls, Crashed, Reopened}
-use Rattle.move_law.proofs.Reached.{always_by}
+use Rattle.history_law.specs.Moments.{IsReached}
+use Rattle.history_law.specs.Moves.{Turns, Raised, Timed, Falls, Crashed, Reopened}
+use Rattle.history_law.proofs.Reached.{always_by}
 use Rattle.exchange_law.proofs.LaneLists.{in_with}
 use Rattle.ready_law.proofs.EachAt.{EachAt, put_each, come_each}
 

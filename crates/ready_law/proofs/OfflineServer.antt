@@ -14,8 +14,8 @@ use Rattle.server_rules.specs.Openings.{reopen}
 use Rattle.server_rules.specs.Orders.{begins_job, starts, recalls_on, offline, declare, declares_known, ordered}
 use Rattle.server_rules.specs.Requests.{carries_out, by_admit, on_request}
 use Rattle.server_rules.specs.Slots.{Admit, New, Again, Misordered, slot_of, admit}
-use Rattle.party_law.specs.Listed.{is_offline, IsOffline}
-use Rattle.party_law.proofs.Offline.{zoned_out}
+use Rattle.component_law.specs.Listed.{is_offline, IsOffline}
+use Rattle.component_law.proofs.Offline.{zoned_out}
 
 -- ---- the server's drives
 

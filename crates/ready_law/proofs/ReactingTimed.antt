@@ -11,8 +11,8 @@ use Rattle.client_rules.specs.Io.{outs}
 use Rattle.client_rules.specs.Replies.{timed_after}
 use Rattle.osd_lists.proofs.Tests.{first_false, second_false}
 use Rattle.exchange_law.proofs.PlaceLists.{all_wider}
-use Rattle.outcome_law.specs.Met.{rising_with}
-use Rattle.outcome_law.proofs.Trace.{timed_more}
+use Rattle.cause_law.specs.Met.{rising_with}
+use Rattle.cause_law.proofs.Trace.{timed_more}
 use Rattle.world_history.specs.ClientNames.{CallOp, Held, Awaited, TimedOut}
 use Rattle.ready_law.specs.Enough.{AreAmong, LeavesEnough}
 use Rattle.ready_law.specs.Reacting.{IsGood, IsOfCall, components_of, AreRising, IsLostThere, AreTimedWell}

@@ -36,8 +36,8 @@ use Rattle.exchange_law.proofs.Parts.{each_in}
 use Rattle.exchange_law.proofs.PlaceGoing.{CallFits}
 use Rattle.exchange_law.proofs.PlaceLines.{IsPlacedWorld, all_placed}
 use Rattle.exchange_law.proofs.PlaceSending.{AwaitedPlaced}
-use Rattle.party_law.specs.Listed.{ListsComponents, ComponentsAgree}
-use Rattle.ending_law.specs.Readable.{AnswersAreFit, PlacesAreEnough}
+use Rattle.component_law.specs.Listed.{ListsComponents, ComponentsAgree}
+use Rattle.cause_law.specs.Readable.{AnswersAreFit, PlacesAreEnough}
 use Rattle.ready_law.specs.Fair.{IsFair}
 use Rattle.ready_law.specs.Carried.{WorksUnder}
 use Rattle.ready_law.proofs.KeyedGrants.{IsKeyFor, IsKeyed, AreKeyed}

@@ -26,8 +26,8 @@ use Rattle.world_history.specs.State.{World}
 use Rattle.world_history.specs.Drives.{judges}
 use Rattle.exchange_law.specs.Sent.{HasPlaces}
 use Rattle.exchange_law.proofs.CountMoments.{reached}
-use Rattle.calm_law.proofs.Numbers.{item_64}
-use Rattle.ending_law.specs.Readable.{PlacesAreEnough}
+use Rattle.component_law.proofs.Numbers.{item_64}
+use Rattle.cause_law.specs.Readable.{PlacesAreEnough}
 use Rattle.ready_law.specs.Clear.{ReadsOrWrites, IsClear, IsCarriedOut, ClearCommandsAreCarriedOut}
 use Rattle.ready_law.specs.Fair.{IsFair}
 use Rattle.ready_law.specs.Carried.{WorksUnder, CanServe, reply_message, TellsDone}

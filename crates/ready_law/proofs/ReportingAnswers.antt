@@ -25,7 +25,7 @@ use Rattle.world_history.specs.Moves.{acts}
 use Rattle.world_history.specs.Sending.{Move, move}
 use Rattle.history_law.specs.BookMoments.{lines_in}
 use Rattle.exchange_law.specs.Doing.{posted}
-use Rattle.party_law.specs.Listed.{ListsComponents}
+use Rattle.component_law.specs.Listed.{ListsComponents}
 use Rattle.ready_law.specs.Answered.{IsOk}
 use Rattle.ready_law.specs.Enough.{IsEnough}
 use Rattle.ready_law.specs.Reacting.{IsGood, touched_under}

@@ -1,6 +1,6 @@
 -- What the steps of a ready call behind its last WRITE stand on.
-use Rattle.sent_law.specs.Objects.{EachObjectIsOwned}
-use Rattle.sent_law.specs.Sent.{ServerSentItsRun}
+use Rattle.component_law.specs.Objects.{EachObjectIsOwned}
+use Rattle.component_law.specs.Sent.{ServerSentItsRun}
 use Rattle.ready_law.proofs.AskingForms.{AskingLaws}
 use Rattle.ready_law.proofs.AskingServed.{request_laws}
 use Rattle.ready_law.proofs.ServingReports.{ReportLaws}

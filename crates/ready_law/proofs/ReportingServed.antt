@@ -14,7 +14,7 @@ use Rattle.history_law.specs.BookMoments.{lines_in}
 use Rattle.exchange_law.specs.Doing.{posted}
 use Rattle.exchange_law.specs.InStep.{state_of}
 use Rattle.exchange_law.proofs.Admitting.{is_next}
-use Rattle.pending_law.proofs.Sends.{answer_message as pending_answer, outstanding_of}
+use Rattle.cause_law.proofs.Sends.{answer_message as pending_answer, outstanding_of}
 use Rattle.ready_law.specs.Answered.{ends_call}
 use Rattle.ready_law.proofs.Calls.{ReadyCall, queue_at, DeliversHead, request_message, answer_message}
 use Rattle.ready_law.proofs.Stages.{Caller, Serves, IsAsked, IsAnsweredBy, HasSent}

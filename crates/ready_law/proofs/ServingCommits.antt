@@ -22,7 +22,7 @@ use Rattle.world_history.specs.ClientNames.{CallOp, Held, Request}
 use Rattle.world_history.specs.ServerNames.{File, Grant, Commit}
 use Rattle.world_history.specs.State.{World}
 use Rattle.world_history.specs.Moves.{Delivers, acts}
-use Rattle.pending_law.proofs.Holders.{grants_named}
+use Rattle.cause_law.proofs.Holders.{grants_named}
 use Rattle.ready_law.specs.Fair.{IsFair}
 use Rattle.ready_law.proofs.ServingForms.{RequestLaws, Comes, Carried, Serves}
 use Rattle.ready_law.proofs.ServingRequests.{request_served}

@@ -20,10 +20,10 @@ use Rattle.world_history.specs.Names.{known_note_line}
 use Rattle.world_history.specs.Moves.{Act}
 use Rattle.world_history.specs.History.{OneEventMore}
 use Rattle.history_law.specs.Grants.{GrantsAreSafe}
-use Rattle.move_law.specs.Said.{posted}
+use Rattle.history_law.specs.Said.{posted}
 use Rattle.exchange_law.specs.Counters.{CountersStayLow, ServerIsCounted}
 use Rattle.exchange_law.specs.InStep.{ClientsAreInStep}
-use Rattle.pending_law.proofs.Sends.{request_message, answer_message, outstanding_of}
+use Rattle.cause_law.proofs.Sends.{request_message, answer_message, outstanding_of}
 
 -- ---- a request that comes
 

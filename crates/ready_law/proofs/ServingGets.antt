@@ -27,8 +27,8 @@ use Rattle.world_history.specs.ServerNames.{File, Kept, Grant, RequestArgs, Get}
 use Rattle.world_history.specs.State.{World}
 use Rattle.world_history.specs.Moves.{Delivers, acts}
 use Rattle.exchange_law.proofs.Covered.{inside_limit, rw_again, asked_for, limit_asked}
-use Rattle.ending_law.proofs.Files.{few_there}
-use Rattle.pending_law.proofs.Holders.{AreNamed, grants_named}
+use Rattle.cause_law.proofs.Files.{few_there}
+use Rattle.cause_law.proofs.Holders.{AreNamed, grants_named}
 use Rattle.ready_law.specs.Fair.{IsFair}
 use Rattle.ready_law.proofs.ServingForms.{RequestLaws, Comes, Carried, Serves}
 use Rattle.ready_law.proofs.ServingRequests.{AreOfNamed, request_served}

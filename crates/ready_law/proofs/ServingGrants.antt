@@ -6,7 +6,7 @@ use Rattle.server_rules.specs.Laws.{In, Apart}
 use Rattle.server_rules.proofs.GrantLaws.{in_filter}
 use Rattle.world_history.specs.ClientNames.{CallOp}
 use Rattle.world_history.specs.ServerNames.{Kept, Grant}
-use Rattle.party_law.specs.Order.{Rise}
+use Rattle.component_law.specs.Order.{Rise}
 use Rattle.exchange_law.proofs.Covered.{asked_for}
 
 -- ---- what conflicts

@@ -33,19 +33,19 @@ use Rattle.world_history.specs.State.{World, ClientAt, at_number}
 use Rattle.world_history.specs.Moves.{Delivers, acts}
 use Rattle.history_law.specs.BookMoments.{IsMoment}
 use Rattle.history_law.specs.Granted.{NumbersFit}
-use Rattle.calm_law.proofs.MoveFacts.{are_named}
-use Rattle.sent_law.specs.Objects.{objects_of, NoneIs, AllDiffer, EachObjectIsOwned}
-use Rattle.sent_law.specs.Sent.{ServerSentItsRun}
+use Rattle.component_law.proofs.MoveFacts.{are_named}
+use Rattle.component_law.specs.Objects.{objects_of, NoneIs, AllDiffer, EachObjectIsOwned}
+use Rattle.component_law.specs.Sent.{ServerSentItsRun}
 use Rattle.exchange_law.proofs.ClientMoves.{clients_always}
 use Rattle.exchange_law.proofs.CountMoments.{reached}
 use Rattle.exchange_law.proofs.HeldWorlds.{readable_there}
 use Rattle.exchange_law.proofs.Missing.{component_at}
-use Rattle.ending_law.specs.Reports.{as_written, error_read, report_read}
-use Rattle.ending_law.proofs.Going.{CallShort, ClientShort}
-use Rattle.ending_law.proofs.Lengths.{ErrorLong, ReportShort}
-use Rattle.ending_law.proofs.Reported.{read_whole}
-use Rattle.ending_law.proofs.ReportSteps.{new_short, step_short}
-use Rattle.pending_law.proofs.Holders.{grants_named}
+use Rattle.cause_law.specs.Reports.{as_written, error_read, report_read}
+use Rattle.cause_law.proofs.Going.{CallShort, ClientShort}
+use Rattle.cause_law.proofs.Lengths.{ErrorLong, ReportShort}
+use Rattle.cause_law.proofs.Reported.{read_whole}
+use Rattle.cause_law.proofs.ReportSteps.{new_short, step_short}
+use Rattle.cause_law.proofs.Holders.{grants_named}
 use Rattle.ready_law.specs.Fair.{IsFair}
 use Rattle.ready_law.proofs.ServingForms.{RequestLaws, Comes, Carried, Serves}
 use Rattle.ready_law.proofs.ServingRequests.{request_served}

@@ -27,13 +27,13 @@ use Rattle.world_history.specs.Names.{is_tellable_note, known_note_line}
 use Rattle.world_history.specs.Handed.{quiet, is_addressed, server_post, server_did, for_server, server_takes, handed_to}
 use Rattle.world_history.specs.Moves.{Act, Delivers, marked, told_delivered, acts}
 use Rattle.history_law.specs.BookMoments.{IsMoment}
-use Rattle.move_law.specs.Said.{posted}
+use Rattle.history_law.specs.Said.{posted}
 use Rattle.exchange_law.specs.InStep.{IsAwaiting, StandsAt, IsInStep, state_of}
 use Rattle.exchange_law.specs.Messages.{last_before}
 use Rattle.exchange_law.proofs.HeldWorlds.{readable_there}
-use Rattle.pending_law.proofs.Frames.{delivered_act}
-use Rattle.pending_law.proofs.Taking.{awaiting}
-use Rattle.pending_law.proofs.Sends.{request_message, answer_message, outstanding_of}
+use Rattle.cause_law.proofs.Frames.{delivered_act}
+use Rattle.cause_law.proofs.Taking.{awaiting}
+use Rattle.cause_law.proofs.Sends.{request_message, answer_message, outstanding_of}
 use Rattle.ready_law.specs.Answered.{ends_call, messages_at}
 use Rattle.ready_law.specs.Fair.{IsFair}
 use Rattle.ready_law.proofs.ServingForms.{RequestLaws, Comes, Carried, recall_message, recall_messages, Serves}

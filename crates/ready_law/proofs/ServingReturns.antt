@@ -26,10 +26,10 @@ use Rattle.world_history.specs.State.{World}
 use Rattle.world_history.specs.Handed.{quiet, server_did, for_server, server_takes, handed_to}
 use Rattle.world_history.specs.Moves.{Delivers, marked, told_delivered, acts}
 use Rattle.exchange_law.proofs.SlotReading.{server_reads_none}
-use Rattle.ending_law.proofs.Moving.{none_short}
-use Rattle.ending_law.proofs.Reported.{read_whole}
-use Rattle.pending_law.proofs.Frames.{delivered_act}
-use Rattle.pending_law.proofs.Holders.{grants_named}
+use Rattle.cause_law.proofs.Moving.{none_short}
+use Rattle.cause_law.proofs.Reported.{read_whole}
+use Rattle.cause_law.proofs.Frames.{delivered_act}
+use Rattle.cause_law.proofs.Holders.{grants_named}
 use Rattle.ready_law.specs.Fair.{IsFair}
 use Rattle.ready_law.proofs.ServingForms.{RequestLaws, Comes, Carried, Serves, IsNothing}
 use Rattle.ready_law.proofs.ServingRequests.{request_served}

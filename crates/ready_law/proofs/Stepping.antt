@@ -24,7 +24,7 @@ use Rattle.client_rules.specs.Turns.{turned, needing}
 use Rattle.client_rules.specs.Writes.{accounted}
 use Rattle.client_rules.proofs.ReadSteps.{held_file, put_at}
 use Rattle.exchange_law.specs.ClientNonces.{NoneIs, AllDiffer}
-use Rattle.outcome_law.proofs.Given.{taken_covers}
+use Rattle.cause_law.proofs.Given.{taken_covers}
 use Rattle.world_history.specs.ClientNames.{Client, Call, CallOp, Busy, BadRange, SlotSpent, Held, Due, Awaited, TimedOut, Need, First, Get, Commit, Report, Phase, Starts, Needs, Waits, Reads, Probes, Gathers, Scatters, Outcome, WriteOk, HeldBy, Turn, Ends, Moved, Done, Request, Answer, Reply}
 use Rattle.ready_law.specs.Reacting.{IsGood, IsPhaseOf, GoesOn, TurnsWell, WorksOn as WorksOnSo, IsDone as IsDoneSo, Commits as CommitsSo, Reports as ReportsSo}
 use Rattle.ready_law.specs.Stepping.{holding, in_phase, unasked, asks_step, ends_step, StepsWell, WorksOn, IsDone, Commits, Reports, IsWorkingAt, RepliesStepWell, TimeoutsStepWell, TakesCall, CallsStep, IsAnsweredAt, AnswersStep}

@@ -10,24 +10,24 @@ use Rattle.world_history.specs.Laws.{MessagesAreRead}
 use Rattle.history_law.specs.Grants.{GrantsAreSafe}
 use Rattle.history_law.specs.Read.{BookIsRead}
 use Rattle.history_law.specs.Unforged.{UnguessedAreUnforged}
-use Rattle.calm_law.specs.OnDrives.{StandApart, ComponentsStandApart}
+use Rattle.component_law.specs.OnDrives.{StandApart, ComponentsStandApart}
 use Rattle.exchange_law.specs.Counters.{CountersStayLow, ServerIsCounted, ClientsAreCounted}
 use Rattle.exchange_law.specs.Files.{AllFilesFit}
 use Rattle.exchange_law.specs.InStep.{ClientsAreInStep}
 use Rattle.exchange_law.specs.LaneTaken.{AwaitedAreTaken}
 use Rattle.exchange_law.specs.Meeting.{ClientsAgree}
 use Rattle.exchange_law.specs.Shapes.{FilesHaveShape}
-use Rattle.party_law.specs.Keys.{KeysAreKnown}
-use Rattle.party_law.specs.Listed.{ComponentsAgree}
-use Rattle.party_law.specs.Order.{GrantsAreInOrder}
-use Rattle.party_law.specs.Rests.{NothingDueRests}
-use Rattle.party_law.specs.Sizes.{SizesAgree}
-use Rattle.sent_law.specs.Objects.{EachObjectIsOwned}
-use Rattle.sent_law.specs.Sent.{ServerSentItsRun}
-use Rattle.tag_law.specs.Within.{NoTagIsAhead}
-use Rattle.tag_law.specs.Least.{NoTagIsBehind}
-use Rattle.ending_law.specs.Fresh.{GrantsAreFresh}
-use Rattle.ending_law.specs.Readable.{AnswersAreFit, PlacesAreEnough, FilesAndAnswersAreReadable}
+use Rattle.component_law.specs.Keys.{KeysAreKnown}
+use Rattle.component_law.specs.Listed.{ComponentsAgree}
+use Rattle.component_law.specs.Order.{GrantsAreInOrder}
+use Rattle.component_law.specs.Rests.{NothingDueRests}
+use Rattle.component_law.specs.Sizes.{SizesAgree}
+use Rattle.component_law.specs.Objects.{EachObjectIsOwned}
+use Rattle.component_law.specs.Sent.{ServerSentItsRun}
+use Rattle.component_law.specs.TagWithin.{NoTagIsAhead}
+use Rattle.component_law.specs.Least.{NoTagIsBehind}
+use Rattle.cause_law.specs.Fresh.{GrantsAreFresh}
+use Rattle.cause_law.specs.Readable.{AnswersAreFit, PlacesAreEnough, FilesAndAnswersAreReadable}
 use Rattle.load_law.specs.Load.{EachCallSendsFew}
 use Rattle.ready_law.specs.Answered.{ReadyIsAnswered}
 use Rattle.ready_law.specs.Carried.{WorksUnder, CanServe, IsServedBy, AwaitedAreServed, RepliesAreRead}

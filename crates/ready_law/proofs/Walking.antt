@@ -25,18 +25,18 @@ use Rattle.world_history.proofs.ReadMessages.{never_opens}
 use Rattle.world_history.proofs.Runs.{plan_more}
 use Rattle.history_law.specs.Read.{AreWritten}
 use Rattle.history_law.proofs.Staying.{written_front}
-use Rattle.move_law.specs.Moments.{IsMoment, with_event, lines_in, plan_at}
-use Rattle.move_law.proofs.Goes.{moves_are_steps}
+use Rattle.history_law.specs.Moments.{IsMoment, with_event, lines_in, plan_at}
+use Rattle.history_law.proofs.Goes.{moves_are_steps}
 use Rattle.exchange_law.specs.Doing.{said, posted}
 use Rattle.exchange_law.specs.Text.{AreOfText, AreFew}
 use Rattle.exchange_law.proofs.CountGrowing.{fewer, text_front}
 use Rattle.exchange_law.proofs.HeldWorlds.{next_moment}
 use Rattle.exchange_law.proofs.Knowing.{lawful_at}
-use Rattle.ending_law.specs.Readable.{FilesAndAnswersAreReadable}
-use Rattle.pending_law.specs.Lines.{is_event}
-use Rattle.pending_law.specs.Queue.{queue, IsHead}
-use Rattle.pending_law.proofs.Eventless.{NoEvent, first_plain, later_plain}
-use Rattle.pending_law.proofs.Queue.{queue_is_due}
+use Rattle.cause_law.specs.Readable.{FilesAndAnswersAreReadable}
+use Rattle.cause_law.specs.Lines.{is_event}
+use Rattle.cause_law.specs.Queue.{queue, IsHead}
+use Rattle.cause_law.proofs.Eventless.{NoEvent, first_plain, later_plain}
+use Rattle.cause_law.proofs.Queue.{queue_is_due}
 use Rattle.ready_law.specs.Answered.{EndsOk, ends_call}
 use Rattle.ready_law.specs.Fair.{IsFair}
 use Rattle.ready_law.proofs.Calls.{ReadyCall, op_at, first_at, queue_at, IsIn, DeliversHead, TellsTimeout, request_message, answer_message}

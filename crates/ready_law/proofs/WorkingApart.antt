@@ -7,9 +7,9 @@ use Rattle.world_history.specs.Book.{ServerSeen}
 use Rattle.world_history.specs.ServerNames.{Component}
 use Rattle.world_history.specs.History.{Lawful}
 use Rattle.history_law.specs.Read.{BookIsRead}
-use Rattle.calm_law.specs.Apart.{AreApart}
-use Rattle.calm_law.specs.Naming.{AreNamed}
-use Rattle.calm_law.proofs.MoveFacts.{are_named}
+use Rattle.component_law.specs.Apart.{AreApart}
+use Rattle.component_law.specs.Naming.{AreNamed}
+use Rattle.component_law.proofs.MoveFacts.{are_named}
 use Rattle.ready_law.specs.Losses.{StandApart}
 use Rattle.ready_law.proofs.Losses.{elsewhere}
 use Rattle.ready_law.proofs.WorkingForms.{FilesStandApart}

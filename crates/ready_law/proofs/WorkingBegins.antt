@@ -21,7 +21,7 @@ use Rattle.world_history.specs.State.{World, DriveAt, at_number}
 use Rattle.world_history.specs.Sending.{Move, move}
 use Rattle.history_law.specs.BookMoments.{lines_in}
 use Rattle.exchange_law.specs.Held.{Agrees}
-use Rattle.party_law.specs.Listed.{ListsComponents}
+use Rattle.component_law.specs.Listed.{ListsComponents}
 use Rattle.load_law.specs.Load as load
 use Rattle.ready_law.specs.Stepping as stepping
 use Rattle.ready_law.specs.Stepping.{StepsWell}

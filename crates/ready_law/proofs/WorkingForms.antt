@@ -17,7 +17,7 @@ use Rattle.world_history.specs.Moves.{acts}
 use Rattle.world_history.specs.Sending.{Move, move}
 use Rattle.exchange_law.specs.Doing.{posted}
 use Rattle.exchange_law.specs.Held.{Agrees}
-use Rattle.party_law.specs.Listed.{ListsComponents}
+use Rattle.component_law.specs.Listed.{ListsComponents}
 use Rattle.load_law.specs.Load.{EachCallSendsFew}
 use Rattle.ready_law.specs.Carried.{AwaitedAreServed, RepliesAreRead}
 use Rattle.ready_law.specs.Clear.{RoomStays}

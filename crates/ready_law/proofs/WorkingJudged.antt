@@ -23,7 +23,7 @@ use Rattle.world_history.specs.Moves.{Act, Action, Delivers, acts, marked, told_
 use Rattle.world_history.specs.Sending.{Move, move, sent_lines}
 use Rattle.history_law.specs.BookMoments.{with_event, lines_in}
 use Rattle.exchange_law.specs.Doing.{posted}
-use Rattle.pending_law.proofs.Frames.{delivered_act}
+use Rattle.cause_law.proofs.Frames.{delivered_act}
 use Rattle.ready_law.specs.Answered.{ends_call}
 use Rattle.ready_law.proofs.AskingMoves.{IsUnread, sent_ends_none}
 use Rattle.ready_law.proofs.WorkingLost.{is_none_or_deaf}

@@ -15,7 +15,7 @@ use Rattle.scenario_text.specs.declared.names.TheConstants.{DRIVES}
 use Rattle.world_history.specs.ClientNames.{Credential, Listed, Held, Awaited, TimedOut}
 use Rattle.world_history.specs.ServerNames.{Component}
 use Rattle.world_history.specs.State.{World}
-use Rattle.party_law.specs.Listed.{IsOffline, ListsComponent}
+use Rattle.component_law.specs.Listed.{IsOffline, ListsComponent}
 use Rattle.ready_law.specs.Reacting.{IsAwaitedWell}
 use Rattle.ready_law.proofs.Calls.{ReadyCall, op_at, kept_at, IsIn}
 use Rattle.ready_law.proofs.WorkingForms.{UnderGrant}

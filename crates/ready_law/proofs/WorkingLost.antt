@@ -6,7 +6,7 @@ use Rattle.scenario_text.specs.declared.line.Line.{Line}
 use Rattle.world_history.specs.ServerNames.{Component}
 use Rattle.world_history.specs.State.{World, DriveAt, at_number}
 use Rattle.world_history.specs.Drives.{is_deaf}
-use Rattle.party_law.specs.Listed.{IsOffline}
+use Rattle.component_law.specs.Listed.{IsOffline}
 use Rattle.ready_law.specs.Enough.{LostAreListed}
 use Rattle.ready_law.specs.Fair.{IsFair}
 use Rattle.ready_law.specs.Offline.{OfflineHaveFailed}

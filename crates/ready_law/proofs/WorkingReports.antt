@@ -13,9 +13,9 @@ use Rattle.world_history.specs.ServerNames.{File, Grant}
 use Rattle.world_history.specs.State.{World}
 use Rattle.world_history.specs.Sending.{Move, move}
 use Rattle.history_law.specs.BookMoments.{lines_in}
-use Rattle.move_law.proofs.Files.{in_at}
+use Rattle.history_law.proofs.Files.{in_at}
 use Rattle.exchange_law.proofs.HeldWorlds.{reached}
-use Rattle.party_law.specs.Order.{Rise}
+use Rattle.component_law.specs.Order.{Rise}
 use Rattle.ready_law.proofs.Calls.{ReadyCall, op_at, IsIn}
 use Rattle.ready_law.proofs.Stages.{Serves, HasSent, work_at, asking_at, NamesItsObject, AreSilent, Reports, GoesOn, Further}
 use Rattle.ready_law.specs.Stepping.{holding, asks_step}

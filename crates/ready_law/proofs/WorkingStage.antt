@@ -16,7 +16,7 @@ use Rattle.exchange_law.specs.Calls.{Knows, PhaseFine, CallFine, Writes}
 use Rattle.exchange_law.specs.Held.{Agrees}
 use Rattle.exchange_law.specs.InStep.{state_of}
 use Rattle.exchange_law.specs.Meeting.{KeptGood, IsMet}
-use Rattle.party_law.specs.Listed.{ListsComponents}
+use Rattle.component_law.specs.Listed.{ListsComponents}
 use Rattle.load_law.specs.Load.{stripes_reached, EachCallSendsFew}
 use Rattle.ready_law.specs.Answered.{stripes_touched}
 use Rattle.ready_law.specs.Load.{Runs}

@@ -25,8 +25,8 @@ use Rattle.world_history.specs.Guesses.{unguessed}
 use Rattle.history_law.specs.Read.{AreWritten}
 use Rattle.exchange_law.specs.Text.{AreOfText, AreFew}
 use Rattle.ready_law.specs.Ready.{Scene, IsReady, held_by, opposed, touched}
-use Rattle.outcome_law.specs.ReadClients.{client_after}
-use Rattle.pending_law.specs.Down.{is_down}
+use Rattle.cause_law.specs.ReadClients.{client_after}
+use Rattle.cause_law.specs.Down.{is_down}
 use Rattle.ready_law.specs.Events.{IsOver}
 
 -- the scene that is read off the lines of a history

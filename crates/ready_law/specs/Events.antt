@@ -7,7 +7,7 @@ use Rattle.scenario_text.specs.declared.line.Line.TheVariants as line
 use Rattle.world_history.specs.State.{World}
 use Rattle.world_history.specs.Runs.{Carries}
 use Rattle.world_history.specs.History.{StandsFor, Lawful}
-pub use Rattle.pending_law.specs.Lines.{is_event}
+pub use Rattle.cause_law.specs.Lines.{is_event}
 
 -- lines that begin with one
 abbrev pub BeginsWithEvent : List Line → Type 0

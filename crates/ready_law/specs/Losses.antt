@@ -8,8 +8,8 @@ use Rattle.scenario_text.specs.declared.line.Line.{Line}
 use Rattle.world_history.specs.ClientNames.{CallOp}
 use Rattle.world_history.specs.ServerNames.{File, Kept, Component}
 use Rattle.world_history.specs.Book.{book_of}
-use Rattle.calm_law.specs.Apart.{AreApart}
-use Rattle.zone_law.specs.Failing.{IsBorne}
+use Rattle.component_law.specs.Apart.{AreApart}
+use Rattle.component_law.specs.Failing.{IsBorne}
 use Rattle.ready_law.specs.Ready.{Scene, has_failed, lost_of, touched}
 use Rattle.ready_law.specs.Answered.{scene_in}
 

@@ -3,7 +3,7 @@ use Rattle.std.specs.Prelude.{◌≡◌, ℕ, true, List, Some}
 use Rattle.scenario_text.specs.declared.line.Line.{Line}
 use Rattle.world_history.specs.State.{World, DriveAt, at_number}
 use Rattle.history_law.specs.BookMoments.{IsMoment}
-use Rattle.party_law.specs.Listed.{IsOffline}
+use Rattle.component_law.specs.Listed.{IsOffline}
 
 -- at each moment of a history a drive that the server has offline is there and has failed
 abbrev pub OfflineHaveFailed : Type 0

@@ -8,9 +8,14 @@ ghost use Rattle.ready_law.specs.Examples.{ExamplesAreMet};
 ghost use Rattle.ready_law.specs.Worlds.{ScenesAreRead};
 ghost use Rattle.ready_law.specs.Losses.{BorneIsEnough, LossesAreBorne};
 
-use calm_law::{components_stand_apart, server_writes_to_others};
-use ending_law::{
-    answers_are_fit, files_and_answers_are_readable, grants_are_fresh, places_are_enough,
+use cause_law::{
+    answers_are_fit, clients_are_read, down_is_read, files_and_answers_are_readable,
+    grants_are_fresh, places_are_enough,
+};
+use component_law::{
+    components_agree, components_stand_apart, each_object_is_owned, grants_are_in_order,
+    keys_are_known, no_tag_is_ahead, no_tag_is_behind, nothing_due_rests, server_sent_its_run,
+    server_writes_to_others, sizes_agree,
 };
 use exchange_law::{
     all_files_fit, awaited_are_taken, clients_agree, clients_are_counted, clients_are_in_step,
@@ -18,13 +23,6 @@ use exchange_law::{
 };
 use history_law::{book_is_read, drives_are_read, grants_are_safe, unguessed_are_unforged};
 use load_law::each_call_sends_few;
-use outcome_law::clients_are_read;
-use party_law::{
-    components_agree, grants_are_in_order, keys_are_known, nothing_due_rests, sizes_agree,
-};
-use pending_law::down_is_read;
-use sent_law::{each_object_is_owned, server_sent_its_run};
-use tag_law::{no_tag_is_ahead, no_tag_is_behind};
 use world_history::{messages_are_read, one_event_more};
 
 /// A READ or a WRITE to which no row of a drive's table of verdicts applies, but perhaps that of a repeat, is performed

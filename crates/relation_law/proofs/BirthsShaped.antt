@@ -22,7 +22,7 @@ use Rattle.world_history.specs.Moves.{has_algorithm, raw_of}
 use Rattle.world_history.specs.Reading.{Step, steps_of}
 use Rattle.world_history.specs.Book.{ServerSeen, made_of, input_of, input_at, heard_from, heard_for, heard, step_by, server_behind, placed_in}
 use Rattle.world_history.specs.Calm.{Seen, sees, first_seen, seen, moment_of}
-use Rattle.move_law.proofs.Files.{Each, in_at}
+use Rattle.history_law.proofs.Files.{Each, in_at}
 use Rattle.exchange_law.proofs.Making.{good_map}
 use Rattle.exchange_law.proofs.Shapes.{Shaped, IsOfMade, step_shaped}
 use Rattle.file_simulation.specs.Conclusion.{FilesAreShaped}

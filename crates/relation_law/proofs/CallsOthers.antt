@@ -14,9 +14,9 @@ use Rattle.world_history.specs.ServerNames.{Server, File, Slot, ClientRequest}
 use Rattle.world_history.specs.State.{World}
 use Rattle.world_history.specs.Sending.{Move, move}
 use Rattle.history_law.specs.Doing.{input_in}
-use Rattle.move_law.specs.Answers.{ServerDid}
-use Rattle.move_law.specs.Answers.ServerDid.{Quiet, Asked}
-use Rattle.move_law.proofs.Answers.{step_did}
+use Rattle.history_law.specs.Answers.{ServerDid}
+use Rattle.history_law.specs.Answers.ServerDid.{Quiet, Asked}
+use Rattle.history_law.proofs.Answers.{step_did}
 use Rattle.fence_law.specs.State.{State, Event}
 use Rattle.fence_law.specs.State.Event.{Asks, Grants, Refuses, Takes, AsksOther, ServesOther, TakesOther, GivesBack, Reports, Forgets, Frees, Fences, SetsTag, Fenced, Refenced, StartsWrite, Sends, Performs, Learns, Acknowledges, Breaks, StartsRead, Shows, Answers, EndsRead, Fails, Drops, Declares, Loses, Leaves, Tells, AsksCommit, Commits, RefusesCommit, TakesCommit, TakesRefusal, Repairs, Repaired, Rebuilds}
 use Rattle.fence_law.specs.Machine.{Allowed, Lawful, after}

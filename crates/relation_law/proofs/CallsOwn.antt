@@ -17,7 +17,7 @@ use Rattle.client_rules.specs.History.{Input, Calls, Hears, Leaves, Resends, unl
 use Rattle.client_rules.specs.Messages.{Step, Message, Replies, still, finished, on_call, obeys, no_match}
 use Rattle.client_rules.specs.Replies.{answers, replied, timed_out}
 use Rattle.client_rules.specs.Steps.{all_due, calls, is_bad_range, is_spent, writes_nothing}
-use Rattle.move_law.specs.Turns.{IsReplied, IsTimed, IsAnswered, with_start}
+use Rattle.history_law.specs.Turns.{IsReplied, IsTimed, IsAnswered, with_start}
 use Rattle.world_history.specs.ServerNames.{Slot}
 use Rattle.world_history.specs.ClientNames.{Client, Call, CallOp, Held, Request, Awaited, Need, Phase, Starts, Needs, Waits, Reads, Probes, Gathers, Scatters, WriteOk, Moved, Done, Busy, BadRange, SlotSpent}
 use Rattle.world_history.specs.Handed.{op_in, pending_op}

@@ -11,7 +11,7 @@ use Rattle.client_rules.specs.Grants.{held_of, without_held}
 use Rattle.client_rules.specs.Messages.{to_drive, sends_of}
 use Rattle.client_rules.specs.Requests.{return_args}
 use Rattle.exchange_law.proofs.ClientKeeping.{none_left}
-use Rattle.move_law.proofs.Turns.{each_progress}
+use Rattle.history_law.proofs.Turns.{each_progress}
 use Rattle.world_history.specs.ServerNames.{Slot}
 use Rattle.world_history.specs.ClientNames.{Client, CallOp, Held, Due, Request, Awaited, RecallAnswer, Need, Phase, Needs, Waits, Done, Asks, AnswersRecall}
 use Rattle.fence_law.specs.State.{State, Event}

@@ -16,7 +16,7 @@ use Rattle.client_rules.specs.Replies.{answers, replied, timed_out}
 use Rattle.client_rules.specs.Requests.{grant_in}
 use Rattle.client_rules.specs.Steps.{is_bad_range, is_spent, writes_nothing, starts, calls, timeout_under, timeout_call, times_out, leaves}
 use Rattle.world_history.specs.ClientNames.{Client, Call, CallOp, Busy, BadRange, SlotSpent, Held, Awaited, Request, Recall, Reply, WriteOk}
-use Rattle.move_law.specs.Turns.{with_start}
+use Rattle.history_law.specs.Turns.{with_start}
 use Rattle.fence_law.specs.State.{State, Event}
 use Rattle.file_simulation.specs.EventLists.{where_so}
 use Rattle.file_simulation.specs.ClientEvents as table

@@ -6,7 +6,7 @@ use Rattle.client_rules.specs.Going.{asks_under, begins, begun, by_turn, is_held
 use Rattle.client_rules.specs.Grants.{held_of}
 use Rattle.client_rules.specs.Calls.{file_of}
 use Rattle.client_rules.specs.Messages.{Step, finished, sends_of}
-use Rattle.move_law.proofs.Turns.{each_begin}
+use Rattle.history_law.proofs.Turns.{each_begin}
 use Rattle.world_history.specs.ServerNames.{Slot}
 use Rattle.world_history.specs.ClientNames.{Call, CallOp, Held, Due, Request, Need, Phase, Starts, Needs, Waits, Reads, Probes, Gathers, Scatters, Outcome, Turn, Goes, Ends, Forgets, Done}
 use Rattle.fence_law.specs.State.{State}

@@ -11,9 +11,9 @@ use Rattle.world_history.specs.Sending.{Move, move}
 use Rattle.world_history.specs.Plans.{due}
 use Rattle.history_law.specs.BookMoments.{IsMoment, plan_at}
 use Rattle.history_law.specs.Doing.{input_in}
-use Rattle.calm_law.specs.Sound.{IsSound, IsAimed, IsAim, target_of, target_in}
-use Rattle.calm_law.specs.Tags.{EachStepRaisesTags}
-use Rattle.calm_law.specs.Words.{Each}
+use Rattle.component_law.specs.Sound.{IsSound, IsAimed, IsAim, target_of, target_in}
+use Rattle.component_law.specs.Tags.{EachStepRaisesTags}
+use Rattle.component_law.specs.Words.{Each}
 use Rattle.exchange_law.proofs.CountMoments.{reached}
 use Rattle.relation_law.specs.ComponentsBehind.{AreUnready}
 use Rattle.relation_law.specs.ComponentsFacts.{IsFair, OfServer}

@@ -15,7 +15,7 @@ use Rattle.world_history.specs.Plans.{due}
 use Rattle.world_history.specs.Book.{step_by}
 use Rattle.history_law.specs.Doing.{input_in, did_in}
 use Rattle.history_law.specs.BookMoments.{IsMoment, plan_at}
-use Rattle.sent_law.proofs.Moments.{allowed_at}
+use Rattle.component_law.proofs.Moments.{allowed_at}
 use Rattle.fence_law.specs.Law.{IsCode}
 use Rattle.fence_law.specs.Machine.{Lawful, after, after_all}
 use Rattle.fence_law.specs.State.{State, Event, WriteReply}

@@ -9,7 +9,7 @@ use Rattle.server_rules.specs.History.{Input}
 use Rattle.server_rules.specs.Numbers.{among}
 use Rattle.server_rules.specs.Rebuild.{stands_at}
 use Rattle.server_rules.specs.Standing.{lose_from}
-use Rattle.calm_law.specs.Components.{is_lacking}
+use Rattle.component_law.specs.Components.{is_lacking}
 use Rattle.world_history.specs.ServerNames.{File, Kept, Component, Note, NoteKind, Ready, Fenced as FencedNote, Repaired as RepairedNote, Rebuilt, NoDrive, Lost, NoSpace, Audit, Busy, Spent, Reported, Target}
 use Rattle.world_history.specs.State.{World, at_number}
 use Rattle.fence_law.specs.State.{State}

@@ -13,10 +13,10 @@ use Rattle.server_rules.specs.Making.{new_server}
 use Rattle.server_rules.proofs.Members.{in_map}
 use Rattle.world_history.specs.ServerNames.{File, Component, Phase, Still, Fencing, Repairing, FencingAgain, Server}
 use Rattle.world_history.specs.State.{World}
-use Rattle.move_law.proofs.Files.{in_at}
+use Rattle.history_law.proofs.Files.{in_at}
 use Rattle.world_history.specs.Sending.{Move, move}
-use Rattle.sent_law.specs.Sent.{IsSentByRun}
-use Rattle.sent_law.specs.Tagged.{is_fence, IsBehind, NoCommandIsAhead}
+use Rattle.component_law.specs.Sent.{IsSentByRun}
+use Rattle.component_law.specs.Tagged.{is_fence, IsBehind, NoCommandIsAhead}
 use Rattle.fence_law.specs.Words.{In as InRun}
 use Rattle.fence_law.specs.State.{State, Event, Layout}
 use Rattle.fence_law.specs.State.Event.{Fences, Fenced, Refenced}

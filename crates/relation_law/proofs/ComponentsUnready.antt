@@ -4,8 +4,8 @@ use Rattle.std.proofs.Common.{◌≡◌, ◌||◌, ℕ, Bool, true, false, slice
 use Rattle.std.proofs.lemmas.Bool.{cases_Bool}
 use Rattle.world_history.specs.ServerNames.{File, Component}
 use Rattle.world_history.specs.State.{World, at_number}
-use Rattle.job_law.specs.Fencing.{Reached}
-use Rattle.sent_law.specs.Standing.{StandsBy, IsSettled, IsStanding, IsLeft}
+use Rattle.history_law.specs.Fencing.{Reached}
+use Rattle.component_law.specs.Standing.{StandsBy, IsSettled, IsStanding, IsLeft}
 use Rattle.file_simulation.specs.Components.{has_failed, object_on, object_of}
 use Rattle.relation_law.specs.ComponentsBehind.{IsUnready, AreUnready}
 use Rattle.relation_law.proofs.DriveMoves.{got_in}

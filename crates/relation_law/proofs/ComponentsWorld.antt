@@ -23,8 +23,8 @@ use Rattle.world_history.specs.declared.messages.Body.TheVariants.{Command as Of
 use Rattle.world_history.specs.declared.messages.Message.{Message}
 use Rattle.history_law.specs.BookMoments.{IsMoment}
 use Rattle.history_law.proofs.Running.{parties_run}
-use Rattle.move_law.specs.Said.{said, posted}
-use Rattle.move_law.proofs.Files.{in_at}
+use Rattle.history_law.specs.Said.{said, posted}
+use Rattle.history_law.proofs.Files.{in_at}
 use Rattle.exchange_law.specs.Files.{FilesFit, KeptFits}
 use Rattle.exchange_law.specs.InStep.{state_of}
 use Rattle.exchange_law.specs.Sent.{HasSent, message_of}
@@ -35,9 +35,9 @@ use Rattle.exchange_law.proofs.Parts.{each_in}
 use Rattle.exchange_law.proofs.RefusalClients.{ClientsRan, Known, clients_ran}
 use Rattle.exchange_law.proofs.Shapes.{files_have_shape}
 use Rattle.exchange_law.proofs.Turns.{messages_behind}
-use Rattle.sent_law.specs.Objects.{objects_of, NoneIs, AllDiffer, IsOwned}
-use Rattle.sent_law.specs.Sent.{IsSentByRun}
-use Rattle.sent_law.proofs.ObjectRuns.{each_object_is_owned}
+use Rattle.component_law.specs.Objects.{objects_of, NoneIs, AllDiffer, IsOwned}
+use Rattle.component_law.specs.Sent.{IsSentByRun}
+use Rattle.component_law.proofs.ObjectRuns.{each_object_is_owned}
 use Rattle.file_simulation.specs.Relation.{client_of}
 use Rattle.relation_law.specs.DriveHearing.{IsLaidOut, AwaitedAreSent, DifferByNonce}
 

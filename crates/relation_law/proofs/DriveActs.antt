@@ -10,7 +10,7 @@ use Rattle.osd_drive.specs.Effects.{performed}
 use Rattle.scenario_text.specs.declared.names.TheConstants.{CLIENTS}
 use Rattle.world_history.specs.ServerNames.{File, Component}
 use Rattle.world_history.specs.State.{World, DriveAt}
-use Rattle.sent_law.proofs.Within.{performed_stay_within}
+use Rattle.component_law.proofs.Within.{performed_stay_within}
 use Rattle.fence_law.specs.Words.{updated, In as InRun}
 use Rattle.fence_law.specs.State.{State, Write}
 use Rattle.fence_law.specs.State.Event.{Performs, SetsTag, Repairs, Shows}

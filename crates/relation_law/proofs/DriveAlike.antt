@@ -33,7 +33,7 @@ use Rattle.world_history.specs.declared.messages.Message.{Message}
 use Rattle.world_history.specs.declared.messages.Posted.{Posted}
 use Rattle.world_history.specs.State.{World, DriveAt, ClientAt, at_number, and_number, with_number, and_drive, with_client, with_server, with_down}
 use Rattle.world_history.specs.Drives.{made_drive, raised, at_time, crashed, reopened}
-use Rattle.sent_law.proofs.Doing.{IsAllowed}
+use Rattle.component_law.proofs.Doing.{IsAllowed}
 use Rattle.history_law.specs.Doing.{brought_to, brought, input_in}
 use Rattle.world_history.specs.Handed.{Post, handed_to, is_addressed, server_post, client_posts, server_hears, server_takes, client_hears, client_takes, client_goes, for_server, for_client, quiet, pending_op, wrote_in, data_in, op_in}
 use Rattle.world_history.specs.Moves as world
@@ -42,8 +42,8 @@ use Rattle.world_history.specs.Sending.{sends_all, with_posts}
 use Rattle.world_history.specs.Refusals as refusals
 use Rattle.world_history.specs.Refusals.{first_of, unless_there, unless_down}
 use Rattle.world_history.proofs.Causes.{no_cause}
-use Rattle.move_law.specs.Said.{said, posted}
-use Rattle.move_law.proofs.Moves.{said_marked}
+use Rattle.history_law.specs.Said.{said, posted}
+use Rattle.history_law.proofs.Moves.{said_marked}
 use Rattle.exchange_law.specs.Sent.{HasSent, message_of}
 use Rattle.exchange_law.proofs.LatestLaw.{sent_split}
 use Rattle.exchange_law.proofs.Replied.{from_server, addressed}

@@ -39,11 +39,11 @@ use Rattle.world_history.specs.Moves.{marked, told_delivered}
 use Rattle.world_history.specs.Sending.{sends_all}
 use Rattle.world_history.specs.Refusals as refusals
 use Rattle.world_history.specs.Refusals.{unless_deaf, unless_failed}
-use Rattle.move_law.specs.Said.{said}
-use Rattle.move_law.proofs.Moves.{said_marked}
+use Rattle.history_law.specs.Said.{said}
+use Rattle.history_law.proofs.Moves.{said_marked}
 use Rattle.exchange_law.specs.Sent.{HasSent, message_of}
 use Rattle.exchange_law.proofs.LatestLaw.{sent_split}
-use Rattle.sent_law.proofs.Doing.{IsAllowed}
+use Rattle.component_law.proofs.Doing.{IsAllowed}
 use Rattle.fence_law.specs.State.{State, Event}
 use Rattle.file_simulation.specs.Components.{AreComponents}
 use Rattle.file_simulation.specs.EventLists.{where_so}

@@ -18,7 +18,7 @@ use Rattle.osd_drive.specs.State.{DriveState}
 use Rattle.osd_drive.specs.Table.{is_create, is_mutating, of_lane}
 use Rattle.osd_drive.specs.Effects.{lane_for, next_tag, effect_of, performed}
 use Rattle.history_law.proofs.Spending.{IsFree}
-use Rattle.fencing_law.proofs.Raising.{there_with}
+use Rattle.history_law.proofs.Raising.{there_with}
 
 -- ---- the object
 

@@ -20,14 +20,14 @@ use Rattle.world_history.specs.Sending.{Move, move}
 use Rattle.world_history.specs.Plans.{due}
 use Rattle.history_law.specs.BookMoments.{IsMoment, plan_at, lines_in}
 use Rattle.history_law.specs.Doing.{input_in}
-use Rattle.move_law.specs.Moments.{IsReached}
-use Rattle.move_law.specs.Steps.{answered_file, new_file, StepCases}
-use Rattle.move_law.proofs.Files.{in_at}
-use Rattle.move_law.proofs.Reached.{always}
-use Rattle.move_law.proofs.Steps.{each_step, each_request}
-use Rattle.calm_law.specs.Words.{Each}
-use Rattle.calm_law.specs.Performing.{AreDistinct}
-use Rattle.calm_law.proofs.Making.{none_there, distinct_added}
+use Rattle.history_law.specs.Moments.{IsReached}
+use Rattle.history_law.specs.Steps.{answered_file, new_file, StepCases}
+use Rattle.history_law.proofs.Files.{in_at}
+use Rattle.history_law.proofs.Reached.{always}
+use Rattle.history_law.proofs.Steps.{each_step, each_request}
+use Rattle.component_law.specs.Words.{Each}
+use Rattle.component_law.specs.Performing.{AreDistinct}
+use Rattle.component_law.proofs.Making.{none_there, distinct_added}
 use Rattle.exchange_law.specs.Shapes.{FilesHaveShape}
 use Rattle.exchange_law.proofs.CountMoments.{reached}
 use Rattle.exchange_law.proofs.HeldWorlds.{next_moment}

@@ -29,9 +29,9 @@ use Rattle.world_history.specs.Drives.{judges, command_in, raised, at_time, fall
 use Rattle.world_history.specs.Handed.{Handed, is_addressed, client_posts, handed_to, server_takes, drive_hears, drive_replies, client_did, client_hears, client_takes, for_server, for_client, quiet, pending_op, op_in, wrote_in, data_in, client_goes}
 use Rattle.world_history.specs.Moves as world
 use Rattle.world_history.specs.Moves.{Act, Action, Opens, Delivers, TimesOut, Pends, acts, marked, told_delivered, op_of}
-use Rattle.move_law.specs.Said.{said}
-use Rattle.move_law.specs.Moves.{IsForClient, number_in}
-use Rattle.move_law.proofs.Moves.{said_marked}
+use Rattle.history_law.specs.Said.{said}
+use Rattle.history_law.specs.Moves.{IsForClient, number_in}
+use Rattle.history_law.proofs.Moves.{said_marked}
 use Rattle.exchange_law.specs.InStep.{state_of}
 use Rattle.exchange_law.proofs.Each.{stopped_same, come_same}
 use Rattle.file_simulation.specs.ClientEvents.{going, hearing, hearing_at, delivered, leaving, opened, going_in}

@@ -33,7 +33,7 @@ use Rattle.exchange_law.specs.InStep.{state_of}
 use Rattle.exchange_law.specs.Text.{AreOfText}
 use Rattle.exchange_law.proofs.CountGrowing.{text_front, text_behind}
 use Rattle.exchange_law.proofs.CountMoments.{at_moment}
-use Rattle.ending_law.proofs.Moves.{AllClients, IsKeptGiven, Given, acts_go}
+use Rattle.cause_law.proofs.Moves.{AllClients, IsKeptGiven, Given, acts_go}
 use Rattle.fence_law.specs.State.{State}
 use Rattle.file_simulation.specs.Calls.{CallAt, CallOn, WaitsCommit}
 use Rattle.file_simulation.specs.EventLists.{entry_in, entry_of}

@@ -4,7 +4,7 @@ use Rattle.std.proofs.Common.{◌≡◌, ◌⊎◌, ◌==◌, ◌||◌, ℕ, ◌
 use Rattle.std.proofs.lemmas.Bool.{cases_Bool, eqb-true, ne_eqb}
 use Rattle.data_map.specs.declared.check.RawMap.{RawMap}
 use Rattle.plan_law.specs.FileLayout.{stripe_of_column}
-use Rattle.sent_law.specs.Tagged.{is_fence, fence_open}
+use Rattle.component_law.specs.Tagged.{is_fence, fence_open}
 use Rattle.server_rules.specs.Going.{Going}
 use Rattle.server_rules.specs.Grants.{grant_of}
 use Rattle.server_rules.specs.Jobs.{ending, fencing, fence_begins}
@@ -20,9 +20,9 @@ use Rattle.file_simulation.specs.EventLists.{where_so}
 use Rattle.file_simulation.specs.Phases.{OutstandingIs, IsStill, IsEnded, IsFencing, IsRepairing, PhaseIs, AreBelowHigh}
 use Rattle.file_simulation.specs.ServerEvents.{begins_fence, fences}
 use Rattle.relation_law.specs.KeptSteps.{core, IsSoFar, IsKeptAt}
-use Rattle.sent_law.specs.KeptWalk.{IsWalked}
+use Rattle.component_law.specs.KeptWalk.{IsWalked}
 use Rattle.relation_law.proofs.KeptHigh.{high_after}
-use Rattle.sent_law.proofs.KeptJobs.{ends_fence}
+use Rattle.component_law.proofs.KeptJobs.{ends_fence}
 
 -- ---- in and out of a step
 

@@ -5,7 +5,7 @@ use Rattle.std.proofs.lemmas.Bool.{true≢false, cases_Bool, eq-eqb}
 use Rattle.std.proofs.lemmas.Bool.Decides.{nat_tests}
 use Rattle.layout_ops.specs.declared.statuses.TheConstants.{LAYOUTIOMODE4_READ, LAYOUTIOMODE4_RW, NFS4_OK}
 use Rattle.server_rules.specs.declared.limits.TheConstants.{GREATEST_TAG, GREATEST_GRANT}
-use Rattle.sent_law.specs.Tagged.{fence_open}
+use Rattle.component_law.specs.Tagged.{fence_open}
 use Rattle.client_rules.specs.Results.{status_of}
 use Rattle.server_rules.specs.Answers.{result_of}
 use Rattle.server_rules.specs.Files.{at_file}
@@ -27,8 +27,8 @@ use Rattle.data_map.specs.declared.ranges.TheConstants.{MAX_FILE_SIZE}
 use Rattle.relation_law.proofs.KeptOpens.{none_shows}
 use Rattle.relation_law.specs.KeptGets.{GetsAs, Refused, Given_}
 use Rattle.relation_law.specs.KeptSteps.{notes_events, behind_notes, IsSoFar, IsKeptAt, IsDone}
-use Rattle.sent_law.specs.KeptWalk.{IsWalked, FileFits, JobFits}
-use Rattle.sent_law.proofs.KeptJobs.{fence_by}
+use Rattle.component_law.specs.KeptWalk.{IsWalked, FileFits, JobFits}
+use Rattle.component_law.proofs.KeptJobs.{fence_by}
 use Rattle.relation_law.proofs.KeptNotes.{AreSupplied, IsBehind, walked}
 use Rattle.relation_law.proofs.KeptEnds.{so_far_from, begins_so_far, fence_shows}
 use Rattle.relation_law.proofs.KeptRounds.{begun, done}

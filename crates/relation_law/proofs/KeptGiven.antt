@@ -28,7 +28,7 @@ use Rattle.world_history.specs.Sending.{Move}
 use Rattle.world_history.proofs.Causes.{no_cause, is_up}
 use Rattle.history_law.specs.BookMoments.{lines_in}
 use Rattle.history_law.specs.Doing.{heard_of, brought_to, brought, input_in}
-use Rattle.calm_law.specs.Naming.{IsNamed, AreNamed}
+use Rattle.component_law.specs.Naming.{IsNamed, AreNamed}
 use Rattle.exchange_law.specs.Counters.{CountersStayLow}
 use Rattle.exchange_law.specs.InStep.{ClientsAreInStep}
 use Rattle.exchange_law.specs.Meeting.{IsReadable, IsReadableThrough, ClientsAgree, KeptGood}
@@ -36,10 +36,10 @@ use Rattle.exchange_law.specs.Text.{IsOfText, AreOfText, AreFew}
 use Rattle.exchange_law.proofs.CountGrowing.{fewer, text_front}
 use Rattle.exchange_law.proofs.CountMoments.{reached}
 use Rattle.exchange_law.proofs.Knowing.{lawful_at}
-use Rattle.ending_law.specs.Readable.{FilesAndAnswersAreReadable}
-use Rattle.sent_law.specs.Turns.{in_turn}
-use Rattle.sent_law.proofs.Doing.{IsAllowed}
-use Rattle.sent_law.proofs.Moments.{allowed_at}
+use Rattle.cause_law.specs.Readable.{FilesAndAnswersAreReadable}
+use Rattle.component_law.specs.Turns.{in_turn}
+use Rattle.component_law.proofs.Doing.{IsAllowed}
+use Rattle.component_law.proofs.Moments.{allowed_at}
 use Rattle.fence_law.specs.State.{State}
 use Rattle.file_simulation.specs.Relation.{client_of}
 use Rattle.file_simulation.specs.Requests.{kept_for}

@@ -2,7 +2,7 @@
 -- Towards `EventsAreLawful` (`specs/Steps.antt`).
 use Rattle.std.proofs.Common.{◌≡◌, ◌⊎◌, ◌&&◌, ℕ, ◌<◌, Bool, true, false, not, length, List, [], ◌∷◌, Option, Some, None, refl, sym, ap, subst, ◌∙◌, arith, inl, inr, if◌then◌else◌}
 use Rattle.std.proofs.lemmas.Bool.{true≢false, cases_Bool, ne_eqb}
-use Rattle.sent_law.specs.Tagged.{is_fence, fence_open}
+use Rattle.component_law.specs.Tagged.{is_fence, fence_open}
 use Rattle.server_rules.specs.Grants.{grant_of}
 use Rattle.server_rules.specs.Laws.{In}
 use Rattle.world_history.specs.ServerNames.{File, Kept, Grant, Phase, Still, Fencing, Repairing, FencingAgain}

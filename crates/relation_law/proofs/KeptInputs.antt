@@ -6,7 +6,7 @@ use Rattle.std.proofs.lemmas.Option.{same_Some}
 use Rattle.osd_lists.specs.declared.node.Node.{Node}
 use Rattle.osd_lists.specs.declared.node.Node.TheVariants.{Server as FromServer, Client as FromClient, Drive as FromDrive}
 use Rattle.server_rules.specs.declared.limits.TheConstants.{GREATEST_TAG}
-use Rattle.sent_law.specs.Tagged.{fence_open}
+use Rattle.component_law.specs.Tagged.{fence_open}
 use Rattle.server_rules.specs.Files.{Step, still, begins, file_at, at_file}
 use Rattle.server_rules.specs.Going.{Going}
 use Rattle.server_rules.specs.History.{Input, Hears, Makes, Obeys, Adds, Zones, Formats, Resends, Crashes, Opens, step, unless_made}
@@ -17,10 +17,10 @@ use Rattle.server_rules.specs.Openings.{crash, crashed_file, opens, opens_each, 
 use Rattle.server_rules.specs.Orders.{ordered}
 use Rattle.server_rules.specs.Rounds.{step_round}
 use Rattle.server_rules.proofs.FileLaws.{put_other, add_other, not_there}
-use Rattle.move_law.specs.Steps.{IsOrder, Here, Sent, StepCases, new_file}
-use Rattle.move_law.proofs.Steps.{each_step}
-use Rattle.calm_law.proofs.Rounds.{each_at}
-use Rattle.calm_law.specs.Words.{Each}
+use Rattle.history_law.specs.Steps.{IsOrder, Here, Sent, StepCases, new_file}
+use Rattle.history_law.proofs.Steps.{each_step}
+use Rattle.component_law.proofs.Rounds.{each_at}
+use Rattle.component_law.specs.Words.{Each}
 use Rattle.world_history.specs.ServerNames.{Server, File, Note, Effects, Drive, Revoking, Rebuilding, Auditing, Reply, OrderKind, ToRecall, ToRevoke, ToDeclare, ToRebuild, ToAudit, RawMap, Refusal}
 use Rattle.world_history.specs.State.{World}
 use Rattle.fence_law.specs.State.{State, Event}
@@ -30,12 +30,12 @@ use Rattle.fence_law.proofs.Safe.{Safe, safe_all}
 use Rattle.file_simulation.specs.EventLists.{where_so}
 use Rattle.file_simulation.specs.ServerEvents.{begins_fence, fences, declared_from}
 use Rattle.relation_law.specs.KeptSteps.{AllLight, notes_events, IsSoFar, IsKeptAt, GoesAs, IsDone, first_of, HearsNoOrder}
-use Rattle.sent_law.specs.KeptWalk.{FileFits}
-use Rattle.sent_law.proofs.KeptJobs.{ends_making}
+use Rattle.component_law.specs.KeptWalk.{FileFits}
+use Rattle.component_law.proofs.KeptJobs.{ends_making}
 use Rattle.relation_law.proofs.KeptNotes.{AreSupplied, IsBehind, walked}
 use Rattle.relation_law.proofs.KeptEnds.{so_far_from, kept_from, begins_so_far}
 use Rattle.relation_law.proofs.KeptRounds.{Quiet, quiet_walked, begun, done, goes_as}
-use Rattle.sent_law.proofs.KeptOpening.{IsIdle, has_to_fence, ends_opens}
+use Rattle.component_law.proofs.KeptOpening.{IsIdle, has_to_fence, ends_opens}
 use Rattle.relation_law.proofs.KeptOpens.{opening_fences, opening_shows, opened_round}
 use Rattle.relation_law.proofs.KeptServer.{IsReady, light_first, HasNumber, number_walked, Makes_, quiet_goes, stays_goes, answered_goes, starts_goes, recalls_goes, known_goes}
 

@@ -11,7 +11,7 @@ use Rattle.file_simulation.specs.Phases.{OutstandingIs, PhaseIs, AreBelowHigh}
 use Rattle.server_rules.specs.Grants.{grant_of}
 use Rattle.relation_law.specs.KeptHigh.{HighNeeds}
 use Rattle.relation_law.specs.KeptSteps.{is_light, AllLight, core, IsSoFar}
-use Rattle.sent_law.specs.KeptWalk.{AreAlike}
+use Rattle.component_law.specs.KeptWalk.{AreAlike}
 use Rattle.relation_law.proofs.KeptHigh.{AllNeed, high_after_all}
 
 -- ---- an event

@@ -4,8 +4,8 @@ use Rattle.std.proofs.Common.{◌≡◌, ℕ, ◌+◌, ◌≤◌, true, List, []
 use Rattle.std.proofs.lemmas.List.{append-nil}
 use Rattle.server_rules.specs.Files.{Step, file_at}
 use Rattle.server_rules.specs.History.{Input, step}
-use Rattle.move_law.specs.Answers.{ServerDid, Quiet, Asked}
-use Rattle.move_law.proofs.Answers.{step_did}
+use Rattle.history_law.specs.Answers.{ServerDid, Quiet, Asked}
+use Rattle.history_law.proofs.Answers.{step_did}
 use Rattle.world_history.specs.ServerNames.{Server, File, Note}
 use Rattle.world_history.specs.State.{World}
 use Rattle.world_history.specs.Sending.{Move, move}

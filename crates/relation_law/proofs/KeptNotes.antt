@@ -3,7 +3,7 @@
 use Rattle.std.proofs.Common.{◌≡◌, ℕ, ◌+◌, Bool, true, false, List, [], ◌∷◌, ◌++◌, Option, Some, None, refl, sym, ap, subst, ◌∙◌, arith, append_assoc, if◌then◌else◌}
 use Rattle.std.proofs.lemmas.Bool.{true≢false, eq-eqb}
 use Rattle.std.proofs.lemmas.List.{append-nil}
-use Rattle.sent_law.specs.Tagged.{is_fence}
+use Rattle.component_law.specs.Tagged.{is_fence}
 use Rattle.server_rules.specs.History.{Input}
 use Rattle.world_history.specs.ServerNames.{File, Kept, Phase, Still, Fencing, Repairing, FencingAgain, Note, NoteKind, Fenced as IsFenced, Repaired as IsRepaired, Rebuilt, NoSpace, Reported}
 use Rattle.world_history.specs.State.{World, at_number}
@@ -17,7 +17,7 @@ use Rattle.file_simulation.specs.EventLists.{where_so}
 use Rattle.file_simulation.specs.Phases.{IsFencing, IsRepairing, PhaseIs, IsEndedAt, AreBelowHigh}
 use Rattle.file_simulation.specs.ServerEvents.{noted, noted_here, lacks_space, reported, asker}
 use Rattle.relation_law.specs.KeptSteps.{AllLight, notes_events, behind_notes, core, IsSoFar}
-use Rattle.sent_law.specs.KeptWalk.{is_plain, noted_of, IsWalked}
+use Rattle.component_law.specs.KeptWalk.{is_plain, noted_of, IsWalked}
 use Rattle.relation_law.proofs.KeptHigh.{high_after}
 use Rattle.relation_law.proofs.KeptLight.{so_far_light, so_far_alike}
 

@@ -4,23 +4,23 @@ use Rattle.std.proofs.Common.{◌≡◌, ◌==◌, ◌&&◌, ◌||◌, ℕ, Bool
 use Rattle.std.proofs.lemmas.Bool.{cases_Bool, eqb-true, eq-eqb, eqb-false, true≢false}
 use Rattle.std.proofs.lemmas.List.{append-nil}
 use Rattle.server_rules.specs.declared.limits.TheConstants.{GREATEST_TAG}
-use Rattle.sent_law.specs.Tagged.{is_fence, fence_open}
+use Rattle.component_law.specs.Tagged.{is_fence, fence_open}
 use Rattle.server_rules.specs.Files.{file_at}
 use Rattle.server_rules.specs.Going.{Going}
 use Rattle.server_rules.specs.History.{Input}
 use Rattle.server_rules.specs.Openings.{is_unsettled, opens_made, opens_fenced, opens, opens_each}
-use Rattle.calm_law.specs.Words.{Each}
-use Rattle.calm_law.specs.Performing.{AreDistinct}
+use Rattle.component_law.specs.Words.{Each}
+use Rattle.component_law.specs.Performing.{AreDistinct}
 use Rattle.world_history.specs.ServerNames.{File, Kept, Still, Note, Effects, Drive, Revoking, Phase, Fencing, Repairing, FencingAgain}
 use Rattle.world_history.specs.State.{World}
 use Rattle.fence_law.specs.State.{State, Event}
 use Rattle.file_simulation.specs.ServerEvents.{begins_fence}
 use Rattle.relation_law.specs.KeptSteps.{notes_events}
-use Rattle.sent_law.specs.KeptWalk.{IsWalked}
-use Rattle.sent_law.proofs.KeptJobs.{ends_opened}
+use Rattle.component_law.specs.KeptWalk.{IsWalked}
+use Rattle.component_law.proofs.KeptJobs.{ends_opened}
 use Rattle.relation_law.proofs.KeptEnds.{fence_shows}
 use Rattle.relation_law.proofs.KeptRounds.{IsFrom, Quiet, quiet_walked, AllOther, HasGone, AddsNone, front_is, behind_is}
-use Rattle.sent_law.proofs.KeptOpening.{IsIdle, has_to_fence, ends_opens}
+use Rattle.component_law.proofs.KeptOpening.{IsIdle, has_to_fence, ends_opens}
 
 -- what has nothing to fence is still
 settled : (k : Kept) (p : Phase) → k.phase ≡ p → is_unsettled k ≡ false → k.phase ≡ Still

@@ -24,11 +24,11 @@ use Rattle.world_history.specs.Moves.{Act, acts}
 use Rattle.world_history.specs.Sending.{Move, move}
 use Rattle.world_history.specs.Spelled.{spelled}
 use Rattle.world_history.specs.State.{World}
-use Rattle.move_law.specs.Goes.{Goes, Others, AServer, AClient, Stops, Comes, IsOneStep, AreReplies, Nothing, OneReply}
-use Rattle.move_law.specs.Moments.{IsReached}
-use Rattle.move_law.specs.Said.{said, posted, IsHeardByServer}
-use Rattle.move_law.proofs.Goes.{moves_are_steps}
-use Rattle.move_law.proofs.Reached.{always}
+use Rattle.history_law.specs.Goes.{Goes, Others, AServer, AClient, Stops, Comes, IsOneStep, AreReplies, Nothing, OneReply}
+use Rattle.history_law.specs.Moments.{IsReached}
+use Rattle.history_law.specs.Said.{said, posted, IsHeardByServer}
+use Rattle.history_law.proofs.Goes.{moves_are_steps}
+use Rattle.history_law.proofs.Reached.{always}
 use Rattle.exchange_law.proofs.SlotLists.{said_more}
 use Rattle.relation_law.specs.KeptSteps.{HearsNoOrder}
 

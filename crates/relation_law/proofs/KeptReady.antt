@@ -14,26 +14,26 @@ use Rattle.world_history.specs.ServerNames.{Server, File, ClientRequest}
 use Rattle.world_history.specs.History.{OneEventMore}
 use Rattle.world_history.specs.State.{World}
 use Rattle.history_law.specs.BookMoments.{IsMoment}
-use Rattle.job_law.specs.Fencing.{Reached}
-use Rattle.move_law.specs.Moments.{IsReached}
-use Rattle.move_law.specs.Said.{IsHeardByServer}
-use Rattle.calm_law.specs.Naming.{AreNamed}
-use Rattle.calm_law.specs.Performing.{AreDistinct}
-use Rattle.calm_law.specs.Words.{Each}
+use Rattle.history_law.specs.Fencing.{Reached}
+use Rattle.history_law.specs.Moments.{IsReached}
+use Rattle.history_law.specs.Said.{IsHeardByServer}
+use Rattle.component_law.specs.Naming.{AreNamed}
+use Rattle.component_law.specs.Performing.{AreDistinct}
+use Rattle.component_law.specs.Words.{Each}
 use Rattle.exchange_law.specs.Counters.{CountersStayLow}
 use Rattle.exchange_law.specs.Text.{AreOfText, AreFew}
-use Rattle.sent_law.specs.Sent.{IsSentByRun}
-use Rattle.sent_law.specs.Standing.{is_new, AreStanding}
-use Rattle.sent_law.specs.Turns.{in_turn, down_after}
-use Rattle.sent_law.proofs.Moments.{server_sent_its_run}
-use Rattle.sent_law.proofs.StandRuns.{IsAt, starts}
+use Rattle.component_law.specs.Sent.{IsSentByRun}
+use Rattle.component_law.specs.Standing.{is_new, AreStanding}
+use Rattle.component_law.specs.Turns.{in_turn, down_after}
+use Rattle.component_law.proofs.Moments.{server_sent_its_run}
+use Rattle.component_law.proofs.StandRuns.{IsAt, starts}
 use Rattle.fence_law.specs.State.{State}
 use Rattle.file_simulation.specs.ServerEvents.{is_served}
 use Rattle.relation_law.specs.KeptAsked.{AsksRightly}
-use Rattle.sent_law.specs.KeptWalk.{FileFits}
-use Rattle.sent_law.proofs.KeptFits.{FitsBy, fits_run}
+use Rattle.component_law.specs.KeptWalk.{FileFits}
+use Rattle.component_law.proofs.KeptFits.{FitsBy, fits_run}
 use Rattle.relation_law.proofs.KeptInputs.{IsIdleAt, FitsAt}
-use Rattle.sent_law.proofs.KeptOpening.{IsIdle}
+use Rattle.component_law.proofs.KeptOpening.{IsIdle}
 use Rattle.relation_law.proofs.KeptOrders.{no_order_is_heard}
 use Rattle.relation_law.proofs.KeptWhole.{IsServed}
 

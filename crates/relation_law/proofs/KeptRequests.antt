@@ -19,9 +19,9 @@ use Rattle.server_rules.specs.Messages.{Asks}
 use Rattle.server_rules.specs.Requests.{serves, answer_with, carried_out}
 use Rattle.server_rules.specs.Return.{Returned, NoGrant, Clean, Taken, TooMany, Fencing, return_row, by_return, takes_loss, returns_on}
 use Rattle.server_rules.specs.Served.{Served}
-use Rattle.move_law.proofs.Files.{put_gives}
-use Rattle.calm_law.specs.Words.{Each}
-use Rattle.calm_law.proofs.Rounds.{each_at}
+use Rattle.history_law.proofs.Files.{put_gives}
+use Rattle.component_law.specs.Words.{Each}
+use Rattle.component_law.proofs.Rounds.{each_at}
 use Rattle.world_history.specs.ServerNames.{Server, File, Kept, Grant, Note, Spent, Job, Revoking, ClientRequest, RequestArgs, Get as Gets, Commit as Commits_, Return as Returns, Outgoing, Answers}
 use Rattle.world_history.specs.State.{World}
 use Rattle.fence_law.specs.State.{State, Event}
@@ -31,8 +31,8 @@ use Rattle.file_simulation.specs.Events.{joined}
 use Rattle.file_simulation.specs.ServerEvents.{answer_of, served_here, is_served, answered_here, answered_to, sends_all, notes_all, at_first, server_goes}
 use Rattle.relation_law.specs.KeptAsked.{AsksAs, AsksRightly}
 use Rattle.relation_law.specs.KeptSteps.{AllLight, notes_events, behind_notes, IsKeptAt}
-use Rattle.sent_law.specs.KeptWalk.{IsWalked, FileFits}
-use Rattle.sent_law.proofs.KeptJobs.{ends_fence}
+use Rattle.component_law.specs.KeptWalk.{IsWalked, FileFits}
+use Rattle.component_law.proofs.KeptJobs.{ends_fence}
 use Rattle.relation_law.proofs.KeptNotes.{AreSupplied, lawful_supplies, after_both, lawful_front, lawful_back}
 use Rattle.relation_law.proofs.KeptLines.{drives_none, recalls_none, answer_alone, notes_joined}
 use Rattle.relation_law.proofs.KeptMoves.{later_kept}

@@ -5,7 +5,7 @@ use Rattle.std.proofs.lemmas.Bool.{true≢false, cases_Bool, eq-eqb}
 use Rattle.std.proofs.lemmas.List.{append-nil}
 use Rattle.layout_ops.specs.declared.statuses.TheConstants.{NFS4_OK, NFS4ERR_LAYOUTUNAVAILABLE}
 use Rattle.server_rules.specs.declared.limits.TheConstants.{GREATEST_TAG, NO_COMPONENT, LOSS_TAKEN}
-use Rattle.sent_law.specs.Tagged.{fence_open}
+use Rattle.component_law.specs.Tagged.{fence_open}
 use Rattle.client_rules.specs.Answers.{is_loss_taken}
 use Rattle.server_rules.specs.Files.{at_file}
 use Rattle.server_rules.specs.Going.{Going, noting, noting_if, with_components}
@@ -30,8 +30,8 @@ use Rattle.file_simulation.specs.EventLists.{where_so, entry_of}
 use Rattle.file_simulation.specs.ServerEvents.{fences, returned, answered_here, noted, noted_here, reported, asker, lacks_space, cells_made}
 use Rattle.relation_law.specs.KeptAsked.{AsksAs, ReturnIs, IsClean, IsNothing, IsBroken, IsReport}
 use Rattle.relation_law.specs.KeptSteps.{AllLight, notes_events, behind_notes, IsSoFar, IsKeptAt, IsDone}
-use Rattle.sent_law.specs.KeptWalk.{AreAlike, is_plain, noted_of}
-use Rattle.sent_law.proofs.KeptJobs.{ends_fence}
+use Rattle.component_law.specs.KeptWalk.{AreAlike, is_plain, noted_of}
+use Rattle.component_law.proofs.KeptJobs.{ends_fence}
 use Rattle.relation_law.proofs.KeptHigh.{high_after}
 use Rattle.relation_law.proofs.KeptLight.{so_far_light}
 use Rattle.relation_law.proofs.KeptNotes.{AreSupplied, IsBehind, walked, events_more, after_both, lawful_front, lawful_back}

@@ -8,16 +8,16 @@ use Rattle.server_rules.specs.Going.{Going}
 use Rattle.server_rules.specs.History.{Input}
 use Rattle.server_rules.specs.Jobs.{declares}
 use Rattle.server_rules.specs.Orders.{declares_each}
-use Rattle.calm_law.specs.Words.{Each}
-use Rattle.calm_law.specs.Performing.{AreDistinct}
+use Rattle.component_law.specs.Words.{Each}
+use Rattle.component_law.specs.Performing.{AreDistinct}
 use Rattle.world_history.specs.ServerNames.{File, Kept, Still, Repairing, Note, NoteKind, Fenced, Repaired, Effects, Drive}
 use Rattle.world_history.specs.State.{World}
 use Rattle.fence_law.specs.State.{State, Event}
 use Rattle.fence_law.specs.Machine.{Lawful, after_all}
 use Rattle.file_simulation.specs.ServerEvents.{noted}
 use Rattle.relation_law.specs.KeptSteps.{notes_events, behind_notes, IsSoFar, IsKeptAt, GoesAs, IsDone}
-use Rattle.sent_law.specs.KeptWalk.{noted_of, IsWalked, FileFits}
-use Rattle.sent_law.proofs.KeptJobs.{ends_declares}
+use Rattle.component_law.specs.KeptWalk.{noted_of, IsWalked, FileFits}
+use Rattle.component_law.proofs.KeptJobs.{ends_declares}
 use Rattle.relation_law.proofs.KeptNotes.{events_more, AreSupplied, IsBehind}
 use Rattle.relation_law.proofs.KeptEnds.{kept_from}
 

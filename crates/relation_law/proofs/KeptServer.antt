@@ -4,7 +4,7 @@ use Rattle.std.proofs.Common.{◌≡◌, ◌==◌, ◌||◌, ℕ, ◌+◌, Bool,
 use Rattle.std.proofs.lemmas.Bool.{true≢false, cases_Bool, cases_eq, eq-eqb, ne_eqb}
 use Rattle.std.proofs.lemmas.Option.{same_Some}
 use Rattle.server_rules.specs.declared.limits.TheConstants.{GREATEST_TAG}
-use Rattle.sent_law.specs.Tagged.{fence_open}
+use Rattle.component_law.specs.Tagged.{fence_open}
 use Rattle.server_rules.specs.Files.{Step, still, begins, file_at, put_file, at_file, step_at}
 use Rattle.server_rules.specs.Get.{lowest}
 use Rattle.server_rules.specs.Going.{Going, noting, with_components}
@@ -15,11 +15,11 @@ use Rattle.server_rules.specs.Orders.{offline, declare, begins_job, starts, reca
 use Rattle.server_rules.specs.Replies.{hears, hearing, Hearing}
 use Rattle.server_rules.specs.Standing.{any_on, lose_on}
 use Rattle.server_rules.proofs.FileLaws.{number_at, put_same, put_other}
-use Rattle.move_law.specs.Steps.{IsAnswering, answered_file, Answering}
-use Rattle.move_law.proofs.Files.{put_gives}
-use Rattle.calm_law.proofs.Rounds.{each_at}
-use Rattle.calm_law.specs.Words.{Each}
-use Rattle.calm_law.specs.Performing.{AreDistinct}
+use Rattle.history_law.specs.Steps.{IsAnswering, answered_file, Answering}
+use Rattle.history_law.proofs.Files.{put_gives}
+use Rattle.component_law.proofs.Rounds.{each_at}
+use Rattle.component_law.specs.Words.{Each}
+use Rattle.component_law.specs.Performing.{AreDistinct}
 use Rattle.world_history.specs.ServerNames.{File, Kept, Note, NoteKind, Busy, Spent, Effects, Drive, Job, JobKind, Awaited, Reply, ToRecall, ToRevoke, ToDeclare, ToRebuild, ToAudit, Component}
 use Rattle.world_history.specs.State.{World}
 use Rattle.fence_law.specs.State.{State, Event}
@@ -29,8 +29,8 @@ use Rattle.fence_law.proofs.Safe.{Safe, safe_all}
 use Rattle.file_simulation.specs.EventLists.{where_so}
 use Rattle.file_simulation.specs.ServerEvents.{begins_fence, fences, declared_from, noted_here}
 use Rattle.relation_law.specs.KeptSteps.{AllLight, notes_events, IsKeptAt, GoesAs, IsDone, first_of}
-use Rattle.sent_law.specs.KeptWalk.{IsWalked, FileFits}
-use Rattle.sent_law.proofs.KeptJobs.{ends_hears, ends_declares, ends_fence}
+use Rattle.component_law.specs.KeptWalk.{IsWalked, FileFits}
+use Rattle.component_law.proofs.KeptJobs.{ends_hears, ends_declares, ends_fence}
 use Rattle.relation_law.proofs.KeptLight.{so_far_light}
 use Rattle.relation_law.proofs.KeptNotes.{AreSupplied, IsBehind, walked, both_light, where_light}
 use Rattle.relation_law.proofs.KeptEnds.{so_far_from, kept_from, begins_so_far, fence_shows}

@@ -17,8 +17,8 @@ use Rattle.client_rules.specs.Steps.{new_client, writes_nothing, is_bad_range, i
 use Rattle.client_rules.specs.History.{Input, Calls, unless_refused, step, state_after}
 use Rattle.client_rules.proofs.ReadSteps.{report_fits, any_fits, fits_answer}
 use Rattle.world_history.specs.ClientNames.{Client, Call, CallOp, Busy, BadRange, SlotSpent, Held, Write, Read, Awaited, Reply, Need, First, Get, Commit, Report, Close, Phase, Starts, Needs, Waits, Reads, Probes, Gathers, Scatters, WriteOk, ReadOk, Done}
-use Rattle.move_law.specs.Turns.{TurnCases, IsReplied, IsTimed, with_start}
-use Rattle.move_law.proofs.Turns.{each_turn}
+use Rattle.history_law.specs.Turns.{TurnCases, IsReplied, IsTimed, with_start}
+use Rattle.history_law.proofs.Turns.{each_turn}
 use Rattle.relation_law.proofs.MessagesClients.{IsFit, ReadEnds}
 use Rattle.relation_law.proofs.MessagesGathers.{HasBytes}
 use Rattle.relation_law.proofs.MessagesTurns.{got_by, replied_fits, timed_fits}

@@ -19,8 +19,8 @@ use Rattle.client_rules.proofs.ReadMoves.{FitsOutcome, weaker}
 use Rattle.client_rules.proofs.ReadSteps.{held_file, put_at, Fits, Refuses, refused_with_refuses}
 use Rattle.world_history.specs.ClientNames.{Client, Call, CallOp, Held, Due, TimedOut, Column, Need, Get, Commit, Phase, Needs, Outcome, Status, Why, Turn, Goes, Ends, Forgets, Moved, Done}
 use Rattle.exchange_law.proofs.ClientKeeping.{put_read, without_read}
-use Rattle.move_law.specs.Turns.{FinishCases}
-use Rattle.move_law.proofs.Turns.{each_finish}
+use Rattle.history_law.specs.Turns.{FinishCases}
+use Rattle.history_law.proofs.Turns.{each_finish}
 use Rattle.relation_law.proofs.MessagesClients.{IsUsable, AreUsable, IsFit, ReadEnds, TurnFits, IsSameGrant, MovedFits}
 use Rattle.relation_law.proofs.MessagesGathers.{HasBytes}
 use Rattle.relation_law.proofs.MessagesTurns.{begun_fits}

@@ -26,7 +26,7 @@ use Rattle.world_history.specs.Names.{is_tellable}
 use Rattle.world_history.specs.Handed.{Post, ended_by}
 use Rattle.world_history.specs.ReadLog.{Pending, Log, starts, begins, begins_beside, sends_write, sends_read, sends_command, sends_in, sends_as, sends, ends, ended, log_after}
 use Rattle.world_history.specs.Sending.{sent_line, sent_lines}
-use Rattle.move_law.specs.Moves.{IsQuiet, AreQuiet}
+use Rattle.history_law.specs.Moves.{IsQuiet, AreQuiet}
 use Rattle.relation_law.specs.Pending.{logged_op}
 use Rattle.relation_law.proofs.PendingEntries.{AreRising, rising_inserted}
 

@@ -34,9 +34,9 @@ use Rattle.world_history.specs.Runs.{world_after, plan_after}
 use Rattle.world_history.specs.History.{OneEventMore}
 use Rattle.world_history.proofs.Runs.{no_opening}
 use Rattle.world_history.proofs.ReadMessages.{never_opens}
-use Rattle.move_law.specs.Said.{with_marks}
-use Rattle.move_law.specs.Moves.{ForClient, IsForClient, asked_in, front_of, fronted, serving, drive_more}
-use Rattle.move_law.proofs.Moves.{each_act, front_cases}
+use Rattle.history_law.specs.Said.{with_marks}
+use Rattle.history_law.specs.Moves.{ForClient, IsForClient, asked_in, front_of, fronted, serving, drive_more}
+use Rattle.history_law.proofs.Moves.{each_act, front_cases}
 use Rattle.history_law.specs.BookMoments.{IsMoment, with_event, lines_in, plan_at}
 use Rattle.exchange_law.specs.InStep.{state_of}
 use Rattle.exchange_law.proofs.Each.{stopped_same, come_same}

@@ -14,8 +14,8 @@ use Rattle.client_rules.specs.Results.{status_of}
 use Rattle.client_rules.specs.Steps.{is_bad_range, is_spent, writes_nothing, starts, calls}
 use Rattle.world_history.specs.ClientNames.{Client, Call, CallOp, Busy, BadRange, SlotSpent, Held, Why, Due, Need, First, Get, Commit, Report, Close, Phase, Starts, Needs, Waits, Reads, Probes, Gathers, Scatters, Outcome, WriteOk, Turn, Goes, Ends, Forgets, Moved, Done}
 use Rattle.world_history.specs.Handed.{pending_op}
-use Rattle.move_law.specs.Turns.{with_start}
-use Rattle.move_law.proofs.Turns.{each_turn, each_finish}
+use Rattle.history_law.specs.Turns.{with_start}
+use Rattle.history_law.proofs.Turns.{each_turn, each_finish}
 
 -- where no outcome was told the call is still pending, and none is where one was
 abbrev pub EndsAs : Option CallOp → Option Outcome → Option Call → Type 0

@@ -18,10 +18,10 @@ use Rattle.server_rules.specs.History as server
 use Rattle.client_rules.specs.History as client
 use Rattle.world_history.specs.Moves.{Act, Action, Opens, Delivers, TimesOut, Pends, acts}
 use Rattle.world_history.specs.Sending.{Move, move}
-use Rattle.move_law.specs.Said.{said, posted, IsDelivered}
-use Rattle.move_law.specs.Moves.{MoveCases, number_in}
-use Rattle.move_law.proofs.Moves.{each_act}
-use Rattle.move_law.proofs.Goes.{moves_are_steps}
+use Rattle.history_law.specs.Said.{said, posted, IsDelivered}
+use Rattle.history_law.specs.Moves.{MoveCases, number_in}
+use Rattle.history_law.proofs.Moves.{each_act}
+use Rattle.history_law.proofs.Goes.{moves_are_steps}
 use Rattle.exchange_law.proofs.LatestLaw.{sent_split}
 use Rattle.exchange_law.proofs.Replied.{from_server, from_client}
 use Rattle.history_law.specs.Read.{leads}

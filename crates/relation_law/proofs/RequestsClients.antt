@@ -21,8 +21,8 @@ use Rattle.world_history.specs.State.{ClientAt, at_number}
 use Rattle.exchange_law.specs.Calls.{Has}
 use Rattle.exchange_law.specs.InStep.{state_of}
 use Rattle.exchange_law.proofs.ClientMoves.{IsKeptByClients, clients_always}
-use Rattle.move_law.specs.Turns.{with_start, TurnCases}
-use Rattle.move_law.proofs.Turns.{each_turn}
+use Rattle.history_law.specs.Turns.{with_start, TurnCases}
+use Rattle.history_law.proofs.Turns.{each_turn}
 use Rattle.relation_law.specs.Requests.{Works}
 use Rattle.relation_law.specs.RequestsClients.{NeedsHeld, AsksFor, ClientsAskFor}
 use Rattle.relation_law.proofs.RequestsDealt.{KeepsFile, file_of_moved, same_file, replied_file, timed_out_file}

@@ -23,7 +23,7 @@ use Rattle.world_history.specs.Spelled.{spelled}
 use Rattle.world_history.specs.Moves.{Action, Opens, Delivers, TimesOut, Pends, knows_drive, raw_of, has_algorithm}
 use Rattle.history_law.specs.BookMoments.{IsMoment}
 use Rattle.history_law.specs.Doing.{heard_of, brought_to, brought, input_in}
-use Rattle.move_law.specs.Said.{IsHeardByServer}
+use Rattle.history_law.specs.Said.{IsHeardByServer}
 use Rattle.exchange_law.specs.InStep.{IsInStep}
 use Rattle.exchange_law.specs.Messages.{AsksOf}
 use Rattle.exchange_law.specs.Meeting.{IsReadable}

@@ -8,7 +8,7 @@ use Rattle.client_rules.specs.Messages.{finished}
 use Rattle.client_rules.proofs.ReadSteps.{held_file}
 use Rattle.world_history.specs.ClientNames.{CallOp, Held, Due, Request, Need, Turn, Goes, Ends, Forgets, Moved, Done}
 use Rattle.exchange_law.proofs.ClientKeeping.{put_read, without_read}
-use Rattle.move_law.proofs.Turns.{each_begin, each_progress}
+use Rattle.history_law.proofs.Turns.{each_begin, each_progress}
 use Rattle.relation_law.specs.Requests.{IsReturning}
 use Rattle.relation_law.proofs.RequestsDealt.{file_of_moved, begins_file}
 use Rattle.relation_law.proofs.RequestsHolds.{return_is_held}

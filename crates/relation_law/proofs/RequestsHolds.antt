@@ -10,7 +10,7 @@ use Rattle.client_rules.specs.Calls.{file_of}
 use Rattle.client_rules.specs.Going.{asks_under, returns, requests, progressed, is_held}
 use Rattle.client_rules.specs.Grants.{held_of}
 use Rattle.world_history.specs.ClientNames.{Client, CallOp, Held, Due, Request, Need, Done}
-use Rattle.move_law.proofs.Turns.{each_progress}
+use Rattle.history_law.proofs.Turns.{each_progress}
 use Rattle.fence_law.specs.State.{State}
 use Rattle.file_simulation.specs.Calls.{HeldIs}
 use Rattle.file_simulation.specs.Requests.{phase_of}

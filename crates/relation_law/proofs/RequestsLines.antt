@@ -15,7 +15,7 @@ use Rattle.world_history.specs.State.{World, at_number}
 use Rattle.fence_law.specs.State.{State, Event}
 use Rattle.fence_law.specs.State.Event.{Commits, Fences, Fenced, Refenced}
 use Rattle.fence_law.specs.Machine.{after, after_all}
-use Rattle.move_law.specs.Answers.{AnswersOnly, Never}
+use Rattle.history_law.specs.Answers.{AnswersOnly, Never}
 use Rattle.file_simulation.specs.Components.{has_failed}
 use Rattle.file_simulation.specs.EventLists.{where_so}
 use Rattle.file_simulation.specs.Events.{joined}

@@ -34,7 +34,7 @@ use Rattle.exchange_law.specs.Messages.{last_before}
 use Rattle.exchange_law.specs.Taking.{TakesOwn}
 use Rattle.exchange_law.proofs.CountGrowing.{fewer, text_front}
 use Rattle.exchange_law.proofs.Knowing.{lawful_at}
-use Rattle.move_law.specs.Moves.{IsForClient}
+use Rattle.history_law.specs.Moves.{IsForClient}
 use Rattle.fence_law.specs.State.{State}
 use Rattle.fence_law.specs.State.{Event as event}
 use Rattle.fence_law.specs.Machine.{Allowed, after_all}

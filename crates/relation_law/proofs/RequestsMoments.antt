@@ -21,7 +21,7 @@ use Rattle.history_law.specs.Doing.{input_in}
 use Rattle.history_law.specs.Read.{leads}
 use Rattle.exchange_law.specs.Calls.{IsNoGet, Knows, CallFine, PhaseFine}
 use Rattle.data_map.specs.declared.check.RawMap.{RawMap}
-use Rattle.move_law.specs.Moves.{IsForClient}
+use Rattle.history_law.specs.Moves.{IsForClient}
 use Rattle.exchange_law.specs.InStep.{StandsAt}
 use Rattle.exchange_law.specs.Taking.{TakesOwn}
 use Rattle.exchange_law.specs.Meeting.{KeptGood, IsMet, IsReadableThrough}

@@ -14,10 +14,10 @@ use Rattle.server_rules.specs.Served.{Served}
 use Rattle.server_rules.specs.Slots.{Admit, New, Again, Misordered, slot_of, admit}
 use Rattle.server_rules.proofs.FileLaws.{number_at, put_same}
 use Rattle.world_history.specs.ServerNames.{Server, File, Slot, ClientRequest, Answers}
-use Rattle.move_law.specs.Answers.{Never, ServerDid, Quiet, Asked}
-use Rattle.move_law.specs.Steps.{IsAsked}
-use Rattle.move_law.proofs.Answers.{more_only, drives_only, recalls_only, step_did}
-use Rattle.move_law.proofs.Steps.{each_request}
+use Rattle.history_law.specs.Answers.{Never, ServerDid, Quiet, Asked}
+use Rattle.history_law.specs.Steps.{IsAsked}
+use Rattle.history_law.proofs.Answers.{more_only, drives_only, recalls_only, step_did}
+use Rattle.history_law.proofs.Steps.{each_request}
 use Rattle.file_simulation.specs.ServerEvents.{is_served, is_new}
 use Rattle.relation_law.specs.RequestsGoing.{is_served_in, IsAnsweredBy}
 use Rattle.relation_law.proofs.FramesRan.{same_serves}

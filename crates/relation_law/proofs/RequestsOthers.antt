@@ -7,9 +7,9 @@ use Rattle.server_rules.specs.Requests.{on_request}
 use Rattle.server_rules.specs.Slots.{slot_of}
 use Rattle.server_rules.proofs.FileLaws.{keep_other}
 use Rattle.world_history.specs.ServerNames.{Server, Slot, ClientRequest}
-use Rattle.move_law.specs.Answers.{ServerDid, Quiet, Asked}
-use Rattle.move_law.proofs.Answers.{step_did}
-use Rattle.move_law.proofs.Steps.{each_request}
+use Rattle.history_law.specs.Answers.{ServerDid, Quiet, Asked}
+use Rattle.history_law.proofs.Answers.{step_did}
+use Rattle.history_law.proofs.Steps.{each_request}
 use Rattle.fence_law.specs.State.{State, Event}
 use Rattle.fence_law.specs.Machine.{after_all}
 use Rattle.file_simulation.specs.ServerEvents.{asker}

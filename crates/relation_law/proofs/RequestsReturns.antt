@@ -34,8 +34,8 @@ use Rattle.world_history.specs.State.{World}
 use Rattle.world_history.specs.Moves.{acts}
 use Rattle.world_history.specs.Sending.{Move}
 use Rattle.history_law.specs.BookMoments.{lines_in}
-use Rattle.move_law.specs.Moves.{IsForClient}
-use Rattle.move_law.specs.Turns.{with_start, IsReplied, IsAnswered}
+use Rattle.history_law.specs.Moves.{IsForClient}
+use Rattle.history_law.specs.Turns.{with_start, IsReplied, IsAnswered}
 use Rattle.exchange_law.specs.Calls.{CallFine, PhaseFine}
 use Rattle.exchange_law.specs.Meeting.{KeptGood, IsMet, IsReadable, IsReadableThrough}
 use Rattle.exchange_law.specs.Messages.{last_before}

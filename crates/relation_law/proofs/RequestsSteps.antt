@@ -16,8 +16,8 @@ use Rattle.client_rules.specs.Replies.{answers, replied, timed_out}
 use Rattle.client_rules.specs.Results.{status_of}
 use Rattle.client_rules.specs.Steps.{all_due}
 use Rattle.world_history.specs.ClientNames.{Client, Call, CallOp, Held, Awaited, Reply, Need, First, Get, Commit, Report, Close, Phase, Starts, Needs, Waits, Reads, Probes, Gathers, Scatters, Turn, Why, Done}
-use Rattle.move_law.specs.Turns.{IsReplied, IsTimed, with_start, TurnCases}
-use Rattle.move_law.proofs.Turns.{each_turn}
+use Rattle.history_law.specs.Turns.{IsReplied, IsTimed, with_start, TurnCases}
+use Rattle.history_law.proofs.Turns.{each_turn}
 use Rattle.relation_law.specs.Requests.{Works, WorksCall, Turned, NothingAsked, HasTurned}
 use Rattle.relation_law.proofs.RequestsMoves.{replied_works, timed_out_works}
 use Rattle.relation_law.proofs.RequestsTurns.{turn_stays, moved_turned, finished_turned, quiet_turned}

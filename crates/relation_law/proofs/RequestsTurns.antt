@@ -7,8 +7,8 @@ use Rattle.client_rules.specs.Grants.{covers, held_of, put_held}
 use Rattle.client_rules.specs.Messages.{finished}
 use Rattle.client_rules.specs.Requests.{args_of, get_args, return_args}
 use Rattle.world_history.specs.ClientNames.{Client, Call, CallOp, Held, Due, Request, Need, Needs, Waits, Turn, Goes, Ends, Forgets, Moved, Done}
-use Rattle.move_law.specs.Turns.{IsBeginning, IsNeeding, FinishCases}
-use Rattle.move_law.proofs.Turns.{each_finish}
+use Rattle.history_law.specs.Turns.{IsBeginning, IsNeeding, FinishCases}
+use Rattle.history_law.proofs.Turns.{each_finish}
 use Rattle.relation_law.specs.Requests.{WorksCall, IsAsBefore, Turned, NothingAsked, OneAsked, HasTurned}
 use Rattle.relation_law.proofs.RequestsMoves.{WorksTurn, WorksMoved, turn_of, begins_works}
 

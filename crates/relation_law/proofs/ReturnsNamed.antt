@@ -25,9 +25,9 @@ use Rattle.server_rules.specs.Maps.{group_with}
 use Rattle.server_rules.specs.Numbers.{among}
 use Rattle.server_rules.specs.Return.{Taken, TooMany, Fencing, is_device, is_at, is_unreachable, named_from, and_others, named, none_beyond, bearable, loss, by_loss, by_grant, return_row}
 use Rattle.server_rules.specs.Standing.{is_beyond, lose_from}
-use Rattle.sent_law.specs.Objects.{objects_of, NoneIs, AllDiffer}
-use Rattle.party_law.specs.Listed.{ListsComponents}
-use Rattle.party_law.proofs.Keeping.{IsAlike}
+use Rattle.component_law.specs.Objects.{objects_of, NoneIs, AllDiffer}
+use Rattle.component_law.specs.Listed.{ListsComponents}
+use Rattle.component_law.proofs.PartyKeeping.{IsAlike}
 use Rattle.relation_law.specs.Returns.{as_written, error_read, report_read, IsBeyondBearing, IsTooShort, IsOfRefusal}
 use Rattle.relation_law.proofs.ComponentsNotes.{lost_at}
 use Rattle.relation_law.proofs.ReturnsShort.{AreMissing, beyond_too, beyond_still, newly_out, shortened}

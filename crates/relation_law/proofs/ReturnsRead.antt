@@ -13,8 +13,8 @@ use Rattle.layout_types.specs.Spelling.{ioerr_item, ioerrs_item}
 use Rattle.layout_types.proofs.Steps.{count_law}
 use Rattle.server_rules.specs.Envelopes.{return_in}
 use Rattle.world_history.specs.ServerNames.{Return as Returns}
-use Rattle.ending_law.proofs.Lengths.{ReportShort}
-use Rattle.ending_law.proofs.Reported.{as_errors, read_whole}
+use Rattle.cause_law.proofs.Lengths.{ReportShort}
+use Rattle.cause_law.proofs.Reported.{as_errors, read_whole}
 use Rattle.relation_law.specs.Returns.{report_read}
 
 -- what the server reads of a report that is short

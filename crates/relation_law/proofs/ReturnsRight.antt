@@ -38,10 +38,10 @@ use Rattle.exchange_law.proofs.CountGrowing.{fewer, text_front}
 use Rattle.exchange_law.proofs.CountMoments.{reached}
 use Rattle.exchange_law.proofs.HeldWorlds.{readable_there}
 use Rattle.exchange_law.proofs.Knowing.{lawful_at}
-use Rattle.ending_law.specs.Readable.{FilesAndAnswersAreReadable}
-use Rattle.ending_law.proofs.Going.{CallShort, ClientShort}
-use Rattle.ending_law.proofs.Moving.{none_short}
-use Rattle.ending_law.proofs.ReportSteps.{step_short, new_short}
+use Rattle.cause_law.specs.Readable.{FilesAndAnswersAreReadable}
+use Rattle.cause_law.proofs.Going.{CallShort, ClientShort}
+use Rattle.cause_law.proofs.Moving.{none_short}
+use Rattle.cause_law.proofs.ReportSteps.{step_short, new_short}
 use Rattle.fence_law.specs.State.{State}
 use Rattle.fence_law.specs.State.RequestKind.{Return}
 use Rattle.file_simulation.specs.Calls.{HeldIs, HoldsNone, HoldsReported, reports_on, is_taken}

@@ -18,8 +18,8 @@ use Rattle.client_rules.specs.Turns.{turned}
 use Rattle.client_rules.specs.Writes.{is_too_short}
 use Rattle.client_rules.proofs.ReadSteps.{held_file, put_at, Refuses, refused_with_refuses}
 use Rattle.world_history.specs.ClientNames.{Client, Call, CallOp, Held, Due, TimedOut, Request, Need, First, Get, Commit, Report, Close, Phase, Starts, Needs, Waits, Reads, Probes, Gathers, Scatters, Turn, Goes, Ends, Forgets, Moved, Done, Why, Status}
-use Rattle.move_law.specs.Turns.{with_start, TurnCases}
-use Rattle.move_law.proofs.Turns.{each_turn, each_progress}
+use Rattle.history_law.specs.Turns.{with_start, TurnCases}
+use Rattle.history_law.proofs.Turns.{each_turn, each_progress}
 use Rattle.exchange_law.proofs.PlaceMoving.{covered}
 use Rattle.relation_law.specs.Returns.{BreaksOff, NeedReports, PhaseReports, HasEnough, WritesEnough, ReportsWell, CallReports}
 use Rattle.relation_law.proofs.MessagesClients.{IsUsable, AreUsable}

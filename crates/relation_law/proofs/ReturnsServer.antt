@@ -21,11 +21,11 @@ use Rattle.client_rules.specs.Grants.{held_of}
 use Rattle.exchange_law.specs.Calls.{Knows, IsNoGet, NoGet, PhaseFine, CallFine}
 use Rattle.exchange_law.specs.Meeting.{Reads as IsReadAs}
 use Rattle.exchange_law.proofs.HeldAsking.{IsOwn, no_get_asked, none_told}
-use Rattle.move_law.specs.Files.{Quiet, Asked}
-use Rattle.party_law.specs.Listed.{IsOffline}
-use Rattle.party_law.proofs.Keeping.{IsAlike}
-use Rattle.party_law.proofs.ListedServing.{MayGive, serves_may}
-use Rattle.party_law.proofs.ListedSteps.{FewerAt, Did, step_did}
+use Rattle.history_law.specs.Files.{Quiet, Asked}
+use Rattle.component_law.specs.Listed.{IsOffline}
+use Rattle.component_law.proofs.PartyKeeping.{IsAlike}
+use Rattle.component_law.proofs.ListedServing.{MayGive, serves_may}
+use Rattle.component_law.proofs.ListedSteps.{FewerAt, Did, step_did}
 use Rattle.relation_law.specs.Returns.{CantBeBorne, IsBeyondBearing, ReportsBy, NeedReports, PhaseReports, CallReports}
 use Rattle.relation_law.proofs.ReturnsNamed.{beyond_alike}
 

@@ -21,10 +21,10 @@ use Rattle.world_history.specs.State.{World, ClientAt, at_number}
 use Rattle.history_law.specs.Grants.{GrantsAreSafe}
 use Rattle.history_law.specs.BookMoments.{IsMoment, lines_in, plan_at}
 use Rattle.history_law.proofs.Running.{parties_run}
-use Rattle.move_law.specs.Moments.{IsReached}
-use Rattle.move_law.proofs.Goes.{moves_are_steps}
-use Rattle.sent_law.specs.Objects.{objects_of, AllDiffer, AreOwned}
-use Rattle.sent_law.proofs.ObjectRuns.{each_object_is_owned}
+use Rattle.history_law.specs.Moments.{IsReached}
+use Rattle.history_law.proofs.Goes.{moves_are_steps}
+use Rattle.component_law.specs.Objects.{objects_of, AllDiffer, AreOwned}
+use Rattle.component_law.proofs.ObjectRuns.{each_object_is_owned}
 use Rattle.exchange_law.specs.Calls.{CallFine}
 use Rattle.exchange_law.specs.Doing.{IsHeardByServer, OthersGo, ServerGoes, ClientGoes, ClientStops, ClientComes, Goes, Others, AServer, AClient, Stops, Comes}
 use Rattle.exchange_law.specs.InStep.{ClientsAreInStep, state_of}
@@ -36,7 +36,7 @@ use Rattle.exchange_law.proofs.HeldAsking.{IsOwn}
 use Rattle.exchange_law.proofs.HeldWorlds.{readable_fronts, readable_there, reached}
 use Rattle.exchange_law.proofs.Shapes.{files_have_shape}
 use Rattle.exchange_law.proofs.SlotMoments.{comes_new, always}
-use Rattle.party_law.specs.Listed.{ComponentsAgree}
+use Rattle.component_law.specs.Listed.{ComponentsAgree}
 use Rattle.file_simulation.specs.Relation.{client_of}
 use Rattle.relation_law.specs.Returns.{report_read, BreaksOff, CantBeBorne, CallReports}
 use Rattle.relation_law.proofs.MessagesRun.{IsFine}

@@ -11,7 +11,7 @@ use Rattle.client_rules.specs.Messages.{Step, Recalls, still, finished, on_call,
 use Rattle.client_rules.specs.Replies.{answers, replied, timed_out}
 use Rattle.client_rules.specs.Steps.{writes_nothing, all_due}
 use Rattle.world_history.specs.ClientNames.{Client, Call, CallOp, Done, Held, Awaited, Recall, Reply, WriteOk}
-use Rattle.move_law.specs.Turns.{IsReplied, IsTimed, IsAnswered, with_start}
+use Rattle.history_law.specs.Turns.{IsReplied, IsTimed, IsAnswered, with_start}
 use Rattle.fence_law.specs.State.{State, Event}
 use Rattle.file_simulation.specs.EventLists.{where_so}
 use Rattle.file_simulation.specs.ClientEvents as table

@@ -7,7 +7,7 @@ use Rattle.server_rules.specs.Laws.{In}
 use Rattle.server_rules.specs.Messages.{awaited_by}
 use Rattle.world_history.specs.ServerNames.{File, Component, Note, Rebuilt}
 use Rattle.world_history.specs.State.{World}
-use Rattle.sent_law.specs.Standing.{IsCreating}
+use Rattle.component_law.specs.Standing.{IsCreating}
 use Rattle.fence_law.specs.State.{State}
 use Rattle.file_simulation.specs.Components.{StandsAs, is_lost_in, object_of}
 

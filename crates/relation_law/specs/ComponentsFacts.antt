@@ -7,9 +7,9 @@ use Rattle.server_rules.specs.History.{Input, Hears, Obeys}
 use Rattle.server_rules.specs.Laws.{In}
 use Rattle.server_rules.specs.Messages.{Orders}
 use Rattle.server_rules.specs.Standing.{any_on}
-use Rattle.calm_law.specs.Components.{is_lacking}
-use Rattle.calm_law.specs.Performing.{AreDistinct}
-use Rattle.calm_law.specs.Sound.{target_in}
+use Rattle.component_law.specs.Components.{is_lacking}
+use Rattle.component_law.specs.Performing.{AreDistinct}
+use Rattle.component_law.specs.Sound.{target_in}
 use Rattle.world_history.specs.ServerNames.{File, Component, Drive, Job, Target, ToDeclare}
 use Rattle.world_history.specs.State.{World, at_number}
 use Rattle.exchange_law.specs.Sent.{HasSent}
@@ -19,7 +19,7 @@ use Rattle.scenario_text.specs.declared.names.TheConstants.{CLIENTS}
 use Rattle.fence_law.specs.State.{State}
 use Rattle.fence_law.specs.Words.{In as InRun}
 use Rattle.file_simulation.specs.Components.{has_failed, object_of}
-use Rattle.sent_law.specs.Tagged.{fence_open}
+use Rattle.component_law.specs.Tagged.{fence_open}
 use Rattle.file_simulation.specs.Messages.{AreSent, HasCommanded}
 use Rattle.relation_law.specs.DriveHearing.{AreFirst, AreOfSenders, WereSent, DifferByNonce}
 use Rattle.relation_law.specs.ComponentsBehind.{AreUnready}
@@ -36,7 +36,7 @@ pub record OfClients (s t : State) (w v : World) (f : File) : Type 0 where
 
 -- ---- a drive's move
 
--- What drives perform is of its sender (`history_law::commands_are_issued`, `fencing_law::holder_is_server`), and CREATEs are
+-- What drives perform is of its sender (`history_law::commands_are_issued`, `history_law::holder_is_server`), and CREATEs are
 -- under the file's first tag.
 pub record OfDrives (s : State) (w : World) (f : File) : Type 0 where
   pub first : AreFirst w f
@@ -52,9 +52,9 @@ IsFair w f (Obeys ToDeclare d) =
     × (is_some (find (λ (x : Drive). x.number == d) w.server.drives) ≡ false → any_on d f.kept.components ≡ false)
 IsFair w f i = Unit {0}
 
--- No two files have one number, and what a rebuild makes anew is missing (`calm_law::seen_is_sound`); tags rise
--- (`calm_law::each_step_raises_tags`); behind the step what isn't made is of a file that isn't ready
--- (`tag_law::each_tag_is_its_files`).
+-- No two files have one number, and what a rebuild makes anew is missing (`component_law::seen_is_sound`); tags rise
+-- (`component_law::each_step_raises_tags`); behind the step what isn't made is of a file that isn't ready
+-- (`component_law::each_tag_is_its_files`).
 pub record OfServer (w v : World) (f g : File) (i : Input) : Type 0 where
   pub fair : IsFair w f i
   pub apart : AreDistinct w.server.files
@@ -81,7 +81,7 @@ pub record IsRaising (f : File) (tag : ℕ) : Type 0 where
   pub low : f.kept.first_tag ≤ tag
   pub high : (tag ≤ f.kept.tag) × ((tag < f.kept.tag) ⊎ (fence_open f.kept ≡ true))
 
--- so is each that the server sent to an object of the file (`sent_law::no_command_is_ahead`)
+-- so is each that the server sent to an object of the file (`component_law::no_command_is_ahead`)
 abbrev pub AreRaising : World → File → Type 0
 AreRaising w f =
     (d k : ℕ) (x : Command) (at : Component) → HasCommanded w d x → x.action ≡ SetTag →

@@ -4,7 +4,7 @@ use Rattle.server_rules.specs.Numbers.{among}
 use Rattle.server_rules.specs.Standing.{lose_from}
 use Rattle.server_rules.specs.Rebuild.{stands_at}
 use Rattle.world_history.specs.ServerNames.{File, Kept, Component, Note, NoteKind, Rebuilt, NoSpace, Reported, Target, ToDeclare}
-use Rattle.calm_law.specs.Components.{is_lacking}
+use Rattle.component_law.specs.Components.{is_lacking}
 use Rattle.osd_lists.specs.declared.node.Node.TheVariants as node
 use Rattle.server_rules.specs.History.{Input, Hears, Obeys}
 use Rattle.server_rules.specs.Messages.{Orders}

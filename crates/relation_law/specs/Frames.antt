@@ -6,8 +6,8 @@ use Rattle.world_history.specs.ServerNames.{File}
 use Rattle.world_history.specs.State.{World, ClientAt, at_number}
 use Rattle.world_history.specs.Handed.{is_addressed, client_posts}
 use Rattle.world_history.specs.Moves.{Act, Action}
-use Rattle.move_law.specs.Said.{said}
-use Rattle.move_law.specs.Moves.{IsForClient}
+use Rattle.history_law.specs.Said.{said}
+use Rattle.history_law.specs.Moves.{IsForClient}
 use Rattle.exchange_law.specs.InStep.{state_of}
 use Rattle.fence_law.specs.Words.{In}
 use Rattle.fence_law.specs.State.{State, Event, Request, Answer, Write}

@@ -26,3 +26,11 @@ pub mod RequestsClients
 pub mod ComponentsMove
 pub mod KeptFollows
 pub mod Returns
+pub mod Working
+pub mod Runs
+pub mod Growing
+pub mod Hearing
+pub mod Awaiting
+pub mod Owning
+pub mod Joined
+pub mod Quiet

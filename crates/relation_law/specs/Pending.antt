@@ -10,7 +10,7 @@ use Rattle.world_history.specs.Moves.{op_of}
 use Rattle.world_history.specs.ReadLog.{Pending, Log, log_in}
 use Rattle.world_history.specs.Sending.{Move}
 use Rattle.world_history.specs.Plans.{due}
-use Rattle.move_law.specs.Moves.{IsForClient}
+use Rattle.history_law.specs.Moves.{IsForClient}
 use Rattle.history_law.specs.BookMoments.{IsMoment, plan_at}
 use Rattle.file_simulation.specs.Relation.{client_of}
 

@@ -9,7 +9,7 @@ use Rattle.client_rules.specs.Requests.{return_args, report_of}
 use Rattle.world_history.specs.ClientNames.{Client, CallOp, Held, Request, Need, First, Get, Commit, Report, Close, Phase, Needs, Waits}
 use Rattle.world_history.specs.State.{World}
 use Rattle.exchange_law.specs.Calls.{Has}
-use Rattle.move_law.specs.Moments.{IsReached}
+use Rattle.history_law.specs.Moments.{IsReached}
 use Rattle.file_simulation.specs.Relation.{client_of}
 use Rattle.relation_law.specs.Requests.{IsReturning}
 

@@ -20,12 +20,12 @@ use Rattle.world_history.specs.Sending.{Move, move}
 use Rattle.server_rules.specs.History.{Input, Hears}
 use Rattle.server_rules.specs.Messages.{Asks}
 use Rattle.history_law.specs.Doing.{input_in}
-use Rattle.move_law.specs.Answers.{AnswersOnly, Never}
+use Rattle.history_law.specs.Answers.{AnswersOnly, Never}
 use Rattle.exchange_law.specs.Held.{IsGiven}
 use Rattle.exchange_law.specs.InStep.{ClientsAreInStep}
 use Rattle.exchange_law.specs.Meeting.{ClientsAgree, Reads}
 use Rattle.exchange_law.specs.Taking.{AnswersAreOwn}
-use Rattle.ending_law.specs.Readable.{FilesAndAnswersAreReadable}
+use Rattle.cause_law.specs.Readable.{FilesAndAnswersAreReadable}
 use Rattle.fence_law.specs.State.{State}
 use Rattle.fence_law.specs.Machine.{after_all}
 use Rattle.file_simulation.specs.Requests.{phase_of, kept_by, IsOutstanding, RequestsAgree}

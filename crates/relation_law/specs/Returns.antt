@@ -11,7 +11,7 @@ use Rattle.client_rules.specs.Calls.{file_of}
 use Rattle.client_rules.specs.Grants.{held_of}
 use Rattle.client_rules.specs.Requests.{report_of}
 use Rattle.client_rules.specs.Writes.{is_too_short}
-pub use Rattle.ending_law.specs.Reports.{as_written, error_read, report_read}
+pub use Rattle.cause_law.specs.Reports.{as_written, error_read, report_read}
 use Rattle.world_history.specs.ServerNames.{Server, File, Kept, Grant}
 use Rattle.world_history.specs.ClientNames.{Call, CallOp, Held, TimedOut, Need, Report, Close, Phase, Needs, Waits, Gathers, Scatters, Outcome, Refused, Silent}
 

@@ -1,13 +1,39 @@
 //! Moves of a calm history and the machine of a file (`fence_law`): towards the induction that each move keeps the
 //! relation between them (`file_simulation`).
 //!
+//! # The relation
+//!
+//! Moves of a calm history and the machine of a file (`fence_law`): towards the induction that each move keeps the
+//! relation between them (`file_simulation`).
+//!
 //! `specs/Steps.antt` states what each part of the relation is behind a move. Proved are, part by part, most moves:
 //! which events a move of each party can have and what these leave (`Frames`), requests (`Requests`), what the server
 //! keeps (`Kept`), components and drives (`Components`, `Drive`), calls (`Calls`), messages and reads (`Messages`,
 //! `Reads`), and what there is of a file when it is made (`Births`). The laws of this crate are what is whole. The other
 //! modules are lemmas that the induction will stand on; the head of each says towards which statement.
+//!
+//! # Calls
+//!
+//! Moves of a calm history and the calls of clients in the machine of a file (`fence_law`), a part of the induction of
+//! `relation_law`.
+//!
+//! `specs/Working.antt` says what a client's call awaits of the drives while it works. The proofs follow a client's turn
+//! from that: what it needs for its events and commands is there, and the plan of each write that it begins is that of the
+//! write's entry in the machine. A step of the server on the client's request leaves what the answer says.
+//!
+//! # Repairs
+//!
+//! Laws of the commands that the server's jobs send for a file, and of what may still come of them: towards the induction
+//! that each move keeps the relation between a file and its machine (`file_simulation`).
 #![tactic(auto)]
 
-mod laws;
+mod call_laws;
+mod relation_laws;
+mod repair_laws;
 
-pub use laws::{calls_are_pending, files_are_shaped, kept_goes_on, requests_go_on};
+pub use call_laws::{calls_go_on, clients_keep_runs};
+pub use relation_laws::{calls_are_pending, files_are_shaped, kept_goes_on, requests_go_on};
+pub use repair_laws::{
+    drives_grow, each_send_is_awaited, heard_tells_of_writes, jobs_ask_their_own, owned_follows,
+    quiet_follows, spent_stays,
+};

@@ -1,5 +1,0 @@
-use Rattle.calm_law.proofs.Pending.{pending_is_read}
-use Rattle.calm_law.proofs.laws.pending_is_read.Goals as goal
-
-pub returns : goal.returns
-returns c = pending_is_read

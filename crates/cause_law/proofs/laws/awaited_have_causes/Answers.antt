@@ -1,7 +1,0 @@
-use Rattle.cause_law.proofs.AwaitedLines.{each_awaited_has_its_causes}
-use Rattle.cause_law.proofs.laws.awaited_have_causes.Goals as goal
-
-pub returns : goal.returns
-returns c =
-    each_awaited_has_its_causes c.files_are_put.ensures c.server_moves.ensures c.seen_is_sound.ensures
-    c.book_is_read.ensures c.one_event_more.ensures c.step_is_read.ensures c.reading_goes_on.ensures.server

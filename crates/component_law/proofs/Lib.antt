@@ -1,0 +1,150 @@
+pub mod Lists
+mod Tables
+mod Noting
+mod CalmShowing
+mod Logging
+mod Taking
+mod Marking
+mod Mending
+mod Harming
+mod Performing
+mod Flagging
+mod Beginning
+mod CalmTelling
+mod Ending
+mod CalmFollowing
+mod CalmOpening
+mod Pending
+pub mod Components
+pub mod FileNotes
+mod Targets
+mod Jobs
+mod Reports
+mod Serving
+pub mod Rounds
+mod Lines
+pub mod Steps
+mod Finding
+pub mod Making
+mod Tags
+mod FenceTags
+mod Short
+mod Through
+pub mod FileFacts
+mod FileShowing
+pub mod Failed
+mod Outgoing
+mod Others
+pub mod Drives
+pub mod Placing
+pub mod Numbers
+pub mod Answering
+pub mod Trimming
+pub mod StepTelling
+pub mod Standing
+pub mod Heads
+pub mod Sighting
+pub mod Stepping
+pub mod Shapes
+pub mod MoveOpening
+mod MoveStepping
+pub mod MoveFollowing
+pub mod Events
+pub mod Inside
+mod Watching
+mod MoveNotes
+pub mod MoveFacts
+mod Giving
+pub mod MadeLines
+pub mod OnDrives
+pub mod Zones
+pub mod Holders
+pub mod Keeping
+pub mod Walking
+pub mod ZoneServing
+pub mod ZoneMaking
+pub mod Aiming
+pub mod ZoneStepping
+pub mod Failing
+pub mod Zoned
+mod Rows
+pub mod Rests
+pub mod Servers
+pub mod Moves
+pub mod Keys
+pub mod Sealing
+mod Fewer
+mod SizeSteps
+mod SizeServing
+pub mod Server
+mod Kept
+mod Client
+pub mod PartyAnswering
+mod Knowing
+pub mod SizeMoments
+pub mod Listing
+pub mod PartyKeeping
+pub mod Offline
+pub mod DrivesKnown
+pub mod ListedSteps
+pub mod ListedServing
+pub mod Given
+pub mod PartyStepping
+pub mod ListedMoments
+pub mod PartyLists
+pub mod PartyJobs
+pub mod OrderServing
+pub mod OrderSteps
+pub mod Histories
+pub mod SentNumbers
+pub mod ObjectJobs
+pub mod ObjectServing
+pub mod ObjectSteps
+pub mod ObjectRuns
+pub mod Sent
+pub mod Ends
+pub mod PhaseJobs
+pub mod PhaseServing
+pub mod Going
+pub mod PhaseSteps
+pub mod Every
+pub mod PhaseRuns
+pub mod Within
+pub mod BirthSent
+pub mod StandAwaited
+pub mod StandHeld
+pub mod StandJobs
+pub mod StandServing
+pub mod StandOpens
+pub mod StandSteps
+pub mod StandRuns
+pub mod BirthEnds
+pub mod BirthJobs
+pub mod BirthServing
+pub mod BirthGoing
+pub mod BirthSteps
+pub mod BirthEvery
+pub mod BirthRuns
+pub mod Doing
+pub mod Moments
+pub mod KeptJobs
+pub mod KeptOpening
+pub mod KeptFits
+pub mod Saying
+mod Aging
+mod Bodies
+mod Holding
+pub mod Telling
+mod BarredLaw
+mod HandedLaw
+pub mod Rights
+pub mod TagLines
+pub mod OriginLaw
+pub mod WithinLaw
+pub mod There
+pub mod Creating
+pub mod Letters
+pub mod Heard
+pub mod TagTags
+pub mod LeastLaw
+pub mod InLines

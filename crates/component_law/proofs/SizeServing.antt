@@ -1,0 +1,122 @@
+-- What a LAYOUTGET or a LAYOUTRETURN does to the grants of its file, and that it leaves the size.
+use Rattle.std.proofs.Common.{◌≡◌, ◌⊎◌, ◌==◌, ◌++◌, ℕ, Bool, true, false, List, [], ◌∷◌, Option, Some, None, inl, inr, refl, sym, ap, ◌∙◌, if◌then◌else◌}
+use Rattle.std.proofs.lemmas.Bool.{cases_eq, eq-eqb, ne_eqb}
+use Rattle.layout_ops.specs.declared.statuses.TheConstants.{LAYOUTIOMODE4_RW}
+use Rattle.server_rules.specs.declared.limits.TheConstants.{GREATEST_TAG}
+use Rattle.world_history.specs.ServerNames.{Kept, Grant, Job, Revoking, RequestArgs, Get, Commit, Return}
+use Rattle.server_rules.specs.Grants.{grant_of, asked}
+use Rattle.server_rules.specs.Jobs.{fence_begins}
+use Rattle.server_rules.specs.Going.{Going}
+use Rattle.server_rules.specs.Served.{Served}
+use Rattle.server_rules.specs.Get.{Early, BadMode, Invalid, Unable, Waits, On, Late, NoNumber, Lacks, Conflict, Gives, by_late, late, give_or_refuse, after_fence, fence_first, must_fence, on_grants, by_early, early, gets}
+use Rattle.server_rules.specs.Requests.{serves}
+use Rattle.server_rules.specs.Return.{return_row, returns_on}
+use Rattle.component_law.proofs.Fewer.{Fewer, fewer_itself, fence_fewer, return_fewer}
+
+-- ---- the grants of the file
+
+-- no other grant than before, but one of this client that is told
+pub record MayGive (f : Kept) (client : ℕ) (v : Served) : Type 0 where
+  pub number : v.going.file.kept.number ≡ f.number
+  pub size : v.going.file.kept.size ≡ f.size
+  pub grants : (c : ℕ) (g : Grant) → grant_of v.going.file.kept.grants c ≡ Some g
+      → (grant_of f.grants c ≡ Some g) ⊎ ((c ≡ client) × (v.told.grant ≡ Some g))
+
+gives_none : (f : Kept) (client : ℕ) (v : Served) → Fewer f v.going.file.kept → MayGive f client v
+gives_none f client v x = record { number = x.number; size = x.size; grants = λ c g e. inl (x.grants c g e) }
+
+-- where a fence came first
+fewer_first : (f k : Kept) (client : ℕ) (v : Served) → Fewer f k → MayGive k client v → MayGive f client v
+fewer_first f k client v x m = record {
+  number = m.number ∙ x.number;
+  size = m.size ∙ x.size;
+  grants = λ c g e. before c g (m.grants c g e);
+}
+  where
+    before : (c : ℕ) (g : Grant) → (grant_of k.grants c ≡ Some g) ⊎ ((c ≡ client) × (v.told.grant ≡ Some g))
+        → (grant_of f.grants c ≡ Some g) ⊎ ((c ≡ client) × (v.told.grant ≡ Some g))
+    before c g (inl old) = inl (x.grants c g old)
+    before c g (inr new) = inr new
+
+-- one more grant
+found_more : (gs : List Grant) (n g : Grant) (c : ℕ) → grant_of (gs ++ (n ∷ [])) c ≡ Some g
+    → (grant_of gs c ≡ Some g) ⊎ ((n.client ≡ c) × (n ≡ g))
+found_more [] n g c e = elim (cases_eq n.client c) [
+  | inl is ↦ inr (is, cc (rw (eq-eqb n.client c is) at e))
+  | inr other ↦ absurd (cc (rw (ne_eqb n.client c other) at e))
+]
+found_more (x ∷ xs) n g c e = elim (cases_eq x.client c) [
+  | inl is ↦ rw (eq-eqb x.client c is) (inl (rw (eq-eqb x.client c is) at e))
+  | inr other ↦ rw (ne_eqb x.client c other) (found_more xs n g c (rw (ne_eqb x.client c other) at e))
+]
+
+either_may : (f : Kept) (client : ℕ) (b : Bool) (x y : Served) → MayGive f client x → MayGive f client y
+    → MayGive f client (if b then x else y)
+either_may f client true x y p q = p
+either_may f client false x y p q = q
+
+module _ (client next : ℕ) (g : Grant) (its : g.client ≡ client) where
+  late_may : (go : Going) (l : Late) → MayGive go.file.kept client (by_late go g l)
+  late_may go NoNumber = gives_none go.file.kept client _ (fewer_itself go.file.kept)
+  late_may go (Lacks k) = gives_none go.file.kept client _ (fewer_itself go.file.kept)
+  late_may go (Conflict holder) = gives_none go.file.kept client _ (fewer_itself go.file.kept)
+  late_may go Gives = record {
+    number = refl;
+    size = refl;
+    grants = λ c x e. told c x (found_more go.file.kept.grants g x c e);
+  }
+    where
+      told : (c : ℕ) (x : Grant) → (grant_of go.file.kept.grants c ≡ Some x) ⊎ ((g.client ≡ c) × (g ≡ x))
+          → (grant_of go.file.kept.grants c ≡ Some x) ⊎ ((c ≡ client) × (Some g ≡ Some x))
+      told c x (inl old) = inl old
+      told c x (inr new) = inr (sym new.0 ∙ its, ap (λ (y : Grant). Some y) new.1)
+
+  give_may : (go : Going) → MayGive go.file.kept client (give_or_refuse go next g)
+  unfolding give_or_refuse
+  give_may go = late_may go (late go.file.kept next g)
+
+  after_may : (go : Going) (j : Option Job) → MayGive go.file.kept client (after_fence go next g j)
+  after_may go None = give_may go
+  after_may go (Some j) = gives_none go.file.kept client _ (fewer_itself go.file.kept)
+
+  first_may : (go : Going) (format : ℕ) → MayGive go.file.kept client (fence_first go next format g)
+  unfolding fence_first
+  first_may go format =
+      let fenced : Going = fence_begins Revoking format go in
+      either_may go.file.kept client (go.file.kept.tag == GREATEST_TAG) _ _
+      (gives_none go.file.kept client _ (fewer_itself go.file.kept))
+      (fewer_first go.file.kept fenced.file.kept client _ (fence_fewer Revoking format go)
+      (after_may fenced fenced.file.job))
+
+  grants_may : (go : Going) (format now : ℕ) → MayGive go.file.kept client (on_grants go next format now g)
+  unfolding on_grants
+  grants_may go format now =
+      either_may go.file.kept client (must_fence now go.file.kept.grants g) _ _ (first_may go format) (give_may go)
+
+  early_may : (go : Going) (format now : ℕ) (e : Early) → MayGive go.file.kept client (by_early go next format now g e)
+  early_may go format now BadMode = gives_none go.file.kept client _ (fewer_itself go.file.kept)
+  early_may go format now Invalid = gives_none go.file.kept client _ (fewer_itself go.file.kept)
+  early_may go format now Unable = gives_none go.file.kept client _ (fewer_itself go.file.kept)
+  early_may go format now (Waits k) = gives_none go.file.kept client _ (fewer_itself go.file.kept)
+  early_may go format now On = grants_may go format now
+
+asked_client : (f : Kept) (number client now offset count : ℕ) (b : Bool)
+    → (asked f number client now offset count b).client ≡ client
+unfolding asked
+asked_client f number client now offset count b = refl
+
+-- it is no LAYOUTCOMMIT
+abbrev pub NoCommit : RequestArgs → Type 0
+NoCommit (Commit last) = ⊥
+NoCommit a = Unit {0}
+
+pub serves_may : (go : Going) (next format now client : ℕ) (a : RequestArgs) → NoCommit a
+    → MayGive go.file.kept client (serves go next format now client a)
+unfolding gets returns_on
+serves_may go next format now client (Get iomode offset count) none =
+    early_may client next (asked go.file.kept next client now offset count (iomode == LAYOUTIOMODE4_RW))
+    (asked_client go.file.kept next client now offset count (iomode == LAYOUTIOMODE4_RW)) go format now
+    (early go.file iomode offset count)
+serves_may go next format now client (Commit last) none = absurd none
+serves_may go next format now client (Return report) none =
+    gives_none go.file.kept client _ (return_fewer go format client (return_row go.file.kept client report))

@@ -1,0 +1,5 @@
+use Rattle.component_law.proofs.Histories.{grants_are_in_order}
+use Rattle.component_law.proofs.party_laws.grants_are_in_order.Goals as goal
+
+pub returns : goal.returns
+returns c = grants_are_in_order c.parties_run.ensures

@@ -1,5 +1,0 @@
-use Rattle.ending_law.proofs.Answers.{answers_are_fit}
-use Rattle.ending_law.proofs.laws.answers_are_fit.Goals as goal
-
-pub returns : goal.returns
-returns c = answers_are_fit c.messages_fit.ensures

@@ -1,7 +1,0 @@
-use Rattle.ending_law.proofs.Through.{all_readable}
-use Rattle.ending_law.proofs.laws.files_and_answers_are_readable.Goals as goal
-
-pub returns : goal.returns
-returns c =
-    all_readable c.files_are_fit.ensures c.kept_answers_fit.ensures c.short_requests_fit.ensures
-    c.reports_are_always_short.ensures

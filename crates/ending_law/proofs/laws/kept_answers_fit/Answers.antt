@@ -1,5 +1,0 @@
-use Rattle.ending_law.proofs.Files.{kept_answers_fit}
-use Rattle.ending_law.proofs.laws.kept_answers_fit.Goals as goal
-
-pub returns : goal.returns
-returns c = kept_answers_fit

@@ -1,5 +1,0 @@
-use Rattle.ending_law.proofs.Endings.{ends_rightly}
-use Rattle.ending_law.proofs.laws.no_call_ends_misplaced.Goals as goal
-
-pub returns : goal.returns
-returns c = ends_rightly c.commands_are_placed.ensures c.refusals_were_judged.ensures

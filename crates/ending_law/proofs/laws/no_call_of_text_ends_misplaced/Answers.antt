@@ -1,5 +1,0 @@
-use Rattle.ending_law.proofs.Texts.{texts_end_rightly}
-use Rattle.ending_law.proofs.laws.no_call_of_text_ends_misplaced.Goals as goal
-
-pub returns : goal.returns
-returns c = texts_end_rightly c.messages_fit.ensures c.no_call_ends_misplaced.ensures

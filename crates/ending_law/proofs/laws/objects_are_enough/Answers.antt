@@ -1,5 +1,0 @@
-use Rattle.ending_law.proofs.Objects.{objects_are_enough}
-use Rattle.ending_law.proofs.laws.objects_are_enough.Goals as goal
-
-pub returns : goal.returns
-returns c = objects_are_enough c.answers_are_fit.ensures

@@ -1,5 +1,0 @@
-use Rattle.ending_law.proofs.ReportsLaw.{requests_can_be_read}
-use Rattle.ending_law.proofs.laws.requests_can_be_read.Goals as goal
-
-pub returns : goal.returns
-returns c = requests_can_be_read

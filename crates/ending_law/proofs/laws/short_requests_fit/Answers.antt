@@ -1,5 +1,0 @@
-use Rattle.ending_law.proofs.Requests.{short_requests_fit}
-use Rattle.ending_law.proofs.laws.short_requests_fit.Goals as goal
-
-pub returns : goal.returns
-returns c = short_requests_fit c.clients_are_in_step.ensures

@@ -1,4 +1,0 @@
-pub mod Reaching
-pub mod Fenced
-pub mod Holder
-pub mod Fences

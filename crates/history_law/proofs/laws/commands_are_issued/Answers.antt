@@ -1,5 +1,0 @@
-use Rattle.history_law.proofs.IssuedLaw.{commands_are_issued}
-use Rattle.history_law.proofs.laws.commands_are_issued.Goals as goal
-
-pub returns : goal.returns
-returns c = commands_are_issued

@@ -1,5 +1,0 @@
-use Rattle.history_law.proofs.Counting.{grants_are_counted}
-use Rattle.history_law.proofs.laws.grants_are_counted.Goals as goal
-
-pub returns : goal.returns
-returns c = grants_are_counted

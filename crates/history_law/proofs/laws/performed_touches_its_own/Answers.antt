@@ -1,5 +1,0 @@
-use Rattle.history_law.proofs.Touching.{touches_its_own}
-use Rattle.history_law.proofs.laws.performed_touches_its_own.Goals as goal
-
-pub returns : goal.returns
-returns c = touches_its_own

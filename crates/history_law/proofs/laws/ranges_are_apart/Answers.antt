@@ -1,5 +1,0 @@
-use Rattle.history_law.proofs.Ranges.{ranges_are_apart}
-use Rattle.history_law.proofs.laws.ranges_are_apart.Goals as goal
-
-pub returns : goal.returns
-returns c = ranges_are_apart c.histories_are_safe.ensures

@@ -1,5 +1,0 @@
-use Rattle.history_law.proofs.HistoryTelling.{replies_tell}
-use Rattle.history_law.proofs.laws.replies_tell.Goals as goal
-
-pub returns : goal.returns
-returns c = replies_tell

@@ -1,5 +1,0 @@
-use Rattle.history_law.proofs.Unforged.{unforged_are_issued}
-use Rattle.history_law.proofs.laws.unforged_are_issued.Goals as goal
-
-pub returns : goal.returns
-returns c = unforged_are_issued

@@ -1,0 +1,5 @@
+use Rattle.history_law.proofs.Goes.{moves_are_steps}
+use Rattle.history_law.proofs.move_laws.moves_are_steps.Goals as goal
+
+pub returns : goal.returns
+returns c = moves_are_steps

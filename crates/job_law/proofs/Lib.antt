@@ -1,9 +1,0 @@
-pub mod Lists
-pub mod Owned
-pub mod Quiet
-pub mod Fences
-pub mod Hearing
-pub mod Asking
-pub mod Files
-pub mod Steps
-pub mod Recalling

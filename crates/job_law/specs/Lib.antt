@@ -1,5 +1,0 @@
-pub mod Names
-pub mod Numbered
-pub mod Fencing
-pub mod Owned
-pub mod Recalled

@@ -1,5 +1,0 @@
-use Rattle.move_law.proofs.Goes.{moves_are_steps}
-use Rattle.move_law.proofs.laws.moves_are_steps.Goals as goal
-
-pub returns : goal.returns
-returns c = moves_are_steps

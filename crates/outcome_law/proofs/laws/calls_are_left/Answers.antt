@@ -1,5 +1,0 @@
-use Rattle.outcome_law.proofs.PendingMoves.{each_call_is_left_so}
-use Rattle.outcome_law.proofs.laws.calls_are_left.Goals as goal
-
-pub returns : goal.returns
-returns c = each_call_is_left_so

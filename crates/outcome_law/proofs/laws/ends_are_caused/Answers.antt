@@ -1,5 +1,0 @@
-use Rattle.outcome_law.proofs.CallHistories.{ends_are_caused}
-use Rattle.outcome_law.proofs.laws.ends_are_caused.Goals as goal
-
-pub returns : goal.returns
-returns c = ends_are_caused

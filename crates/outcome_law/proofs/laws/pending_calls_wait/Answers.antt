@@ -1,5 +1,0 @@
-use Rattle.outcome_law.proofs.AwaitingMoments.{pending_calls_wait}
-use Rattle.outcome_law.proofs.laws.pending_calls_wait.Goals as goal
-
-pub returns : goal.returns
-returns c = pending_calls_wait c.each_rest_awaits_something.ensures c.clients_agree.ensures

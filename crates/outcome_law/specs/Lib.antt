@@ -1,9 +1,0 @@
-pub mod Met
-pub mod Caused
-pub mod ReadClients
-pub mod ReadCalls
-pub mod Ended
-pub mod Read
-pub mod ReadBytes
-pub mod Pending
-pub mod Waiting

@@ -1,7 +1,0 @@
-use Rattle.party_law.proofs.ListedMoments.{components_agree}
-use Rattle.party_law.proofs.laws.components_agree.Goals as goal
-
-pub returns : goal.returns
-returns c =
-    components_agree c.slots_are_kept.ensures c.one_event_more.ensures c.parties_run.ensures c.grants_are_safe.ensures
-    c.answers_are_own.ensures c.clients_agree.ensures

@@ -1,4 +1,0 @@
-pub mod Lines
-pub mod Queue
-pub mod Down
-pub mod Unanswered

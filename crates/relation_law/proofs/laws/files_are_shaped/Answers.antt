@@ -1,5 +1,0 @@
-use Rattle.relation_law.proofs.BirthsShaped.{files_are_shaped}
-use Rattle.relation_law.proofs.laws.files_are_shaped.Goals as goal
-
-pub returns : goal.returns
-returns c = files_are_shaped

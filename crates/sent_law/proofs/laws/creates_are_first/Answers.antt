@@ -1,5 +1,0 @@
-use Rattle.sent_law.proofs.BirthRuns.{creates_are_first}
-use Rattle.sent_law.proofs.laws.creates_are_first.Goals as goal
-
-pub returns : goal.returns
-returns c = creates_are_first

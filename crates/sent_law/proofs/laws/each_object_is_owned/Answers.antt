@@ -1,5 +1,0 @@
-use Rattle.sent_law.proofs.ObjectRuns.{each_object_is_owned}
-use Rattle.sent_law.proofs.laws.each_object_is_owned.Goals as goal
-
-pub returns : goal.returns
-returns c = each_object_is_owned

@@ -1,5 +1,0 @@
-use Rattle.sent_law.proofs.PhaseRuns.{no_command_is_ahead}
-use Rattle.sent_law.proofs.laws.no_command_is_ahead.Goals as goal
-
-pub returns : goal.returns
-returns c = no_command_is_ahead c.each_step_is_sound.ensures c.each_step_raises_tags.ensures

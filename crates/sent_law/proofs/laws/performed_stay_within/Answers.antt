@@ -1,5 +1,0 @@
-use Rattle.sent_law.proofs.Within.{performed_stay_within}
-use Rattle.sent_law.proofs.laws.performed_stay_within.Goals as goal
-
-pub returns : goal.returns
-returns c = performed_stay_within

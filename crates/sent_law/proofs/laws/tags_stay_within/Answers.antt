@@ -1,5 +1,0 @@
-use Rattle.sent_law.proofs.PhaseRuns.{tags_stay_within}
-use Rattle.sent_law.proofs.laws.tags_stay_within.Goals as goal
-
-pub returns : goal.returns
-returns c = tags_stay_within c.each_step_is_sound.ensures c.each_step_raises_tags.ensures

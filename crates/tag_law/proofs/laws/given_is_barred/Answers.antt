@@ -1,7 +1,0 @@
-use Rattle.tag_law.proofs.BarredLaw.{given_is_barred}
-use Rattle.tag_law.proofs.laws.given_is_barred.Goals as goal
-
-pub returns : goal.returns
-returns c =
-    given_is_barred c.book_is_read.ensures c.one_event_more.ensures c.fences_end.ensures c.reached_refuses.ensures
-    c.holder_is_server.ensures c.grants_are_older.ensures

@@ -1,5 +1,0 @@
-use Rattle.zone_law.proofs.Zoned.{each_step_zones}
-use Rattle.zone_law.proofs.laws.each_step_zones.Goals as goal
-
-pub returns : goal.returns
-returns c = each_step_zones

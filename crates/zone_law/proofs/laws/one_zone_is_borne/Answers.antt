@@ -1,5 +1,0 @@
-use Rattle.zone_law.proofs.Failing.{one_zone_is_borne}
-use Rattle.zone_law.proofs.laws.one_zone_is_borne.Goals as goal
-
-pub returns : goal.returns
-returns c = one_zone_is_borne

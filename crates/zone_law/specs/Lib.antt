@@ -1,3 +1,0 @@
-pub mod Spread
-pub mod Failing
-pub mod Zoned
