@@ -125,7 +125,8 @@ module _ (run : List ServerAct) (owner : ℕ → ℕ)
       owned x.there.before x.there.after x.there.run x.file
       (file_in (state_after (new_server []) x.there.before).files n x.file x.there.found)
 
-  owner_is : (n : ℕ) (h : Held) → WasHeld run n h → (k o : ℕ) → Names h k o → owner o ≡ n
+  -- what a grant names is its file's
+  pub owner_is : (n : ℕ) (h : Held) → WasHeld run n h → (k o : ℕ) → Names h k o → owner o ≡ n
   owner_is n h x k o names =
       let p = x.lists k o names in
       let i : In p.at.object (objects_of x.file.kept.components) =
@@ -147,7 +148,7 @@ rise x a b less = omega (arith, less)
 module _ (more : OneEventMore) (own : AnswersAreOwn) (agree : ClientsAgree) (w : World) (h : List Line)
     (k : IsMoment w h) (t : IsReadableThrough h) (c : ℕ) (a : ClientAt) (found : at_number w.clients c ≡ Some a)
     (g : Held) (can : CanTake w c a g) where
-  s : Stands w
+  abbrev pub s : Stands w
   s = stands more own agree w h k t
 
   p : IsPosted w.network.messages can.message
@@ -200,7 +201,7 @@ module _ (more : OneEventMore) (own : AnswersAreOwn) (agree : ClientsAgree) (w :
       made_file h c it.request it.slot.kept fits it.made ∙ request_file
       ∙ sym (taken_covers it.slot.kept can.op g takes_kept).0
 
-  new_held : WasHeld s.run g.file g
+  pub new_held : WasHeld s.run g.file g
   new_held =
       subst (λ (n : ℕ). WasHeld s.run n g) answer_on
       (taken_held s.run it.slot.kept can.op g (s.slots c it.slot it.kept) takes_kept)

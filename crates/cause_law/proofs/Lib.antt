@@ -11,8 +11,8 @@ pub mod ReportsLaw
 pub mod Rooms
 mod Listed
 mod Made
-mod Moments
-mod Fresh
+pub mod Moments
+pub mod Fresh
 pub mod Answers
 pub mod Files
 pub mod Moves

@@ -37,7 +37,7 @@ use Rattle.cause_law.specs.Readable.{AnswersAreFit, ObjectsFit, ObjectsAreEnough
 
 -- ---- messages
 
-abbrev IsPlacedMessage : Message → Type 0
+abbrev pub IsPlacedMessage : Message → Type 0
 IsPlacedMessage m = PostPlaced m.from m.to m.body
 
 abbrev AllMessages : List Message → Type 0
@@ -114,6 +114,13 @@ objects_there w h m fit =
           object_fits x.drive x.command
           (awaited_placed a.state.held a.state.call x (k.placed.clients fit c a there).call i);
     }
+
+-- each message of a client to a drive is a placed command
+pub placed_there : (w : World) (h : List Line) → IsMoment w h → AnswersFit (sent_in h) → (m : Message)
+    → In m (map (λ (p : Posted). p.message) w.network.messages) → IsPlacedMessage m
+placed_there w h k fit m i =
+    one_in IsPlacedMessage (sent_by w) m ((at_moment AreThere all_there w h k).sent fit)
+    (subst (In m) (same_bodies w.network.messages) i)
 
 pub objects_are_enough : AnswersAreFit → ObjectsAreEnough
 objects_are_enough answers h lawful text few w before after is m =

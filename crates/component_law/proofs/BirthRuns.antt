@@ -5,8 +5,9 @@ use Rattle.server_rules.specs.Laws.{In}
 use Rattle.server_rules.specs.Making.{new_server}
 use Rattle.server_rules.specs.Messages.{counters_have_room}
 use Rattle.server_rules.proofs.Members.{in_either}
-use Rattle.history_law.specs.Names.{Server, Command, ToDrive}
+use Rattle.history_law.specs.Names.{Server, File, Command, ToDrive}
 use Rattle.component_law.proofs.ObjectSteps.{Agree}
+use Rattle.component_law.specs.Objects.{objects_of}
 use Rattle.component_law.specs.Tagged.{sent_over}
 use Rattle.history_law.specs.Moves.{down_behind}
 use Rattle.component_law.specs.Turns.{AreInTurn}
@@ -64,3 +65,23 @@ creates_are_first acts turns low f i a w create drive c j object =
     let made : f.kept.tag ≤ r.later a.command.object = ((r.fine f i).2 a w).1 create in
     let sent = r.sent drive c j in
     omega (arith, made, ap r.later object, sent.1)
+
+-- a file that isn't ready has its first tag at the end of such a run
+pub firsts_over : (s : Server) (down : Bool) (acts : List Act) → IsAt down s → AreInTurn down acts
+    → counters_have_room (state_after s acts) ≡ true → HaveFirst (state_after s acts).files
+firsts_over s down [] at turns low = firsts down s at
+firsts_over s down (a ∷ acts) at turns low =
+    firsts_over (step s a.chosen a.input).state (down_behind down a.input) acts
+    (goes_on down s a at turns.0 (λ is. room_before down s (a ∷ acts) at low)) turns.1 low
+
+-- and nothing that was sent to an object of a file is under an earlier tag than the file's first
+pub none_is_earlier : (acts : List Act) → AreInTurn false acts
+    → counters_have_room (state_after (new_server []) acts) ≡ true → (f : File)
+    → In f (state_after (new_server []) acts).files → (drive : ℕ) (c : Command)
+    → In (ToDrive drive c) (sent_over (new_server []) acts) → In c.object (objects_of f.kept.components)
+    → f.kept.first_tag ≤ c.capability.tag
+none_is_earlier acts turns low f i drive c j object =
+    let r = runs (λ o. o) (new_server []) false acts starts turns low (λ g k. absurd k) in
+    let since : f.kept.first_tag ≤ r.later c.object = (r.fine f i).3 c.object object in
+    let sent = r.sent drive c j in
+    omega (arith, since, sent.1)

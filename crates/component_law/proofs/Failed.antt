@@ -51,7 +51,7 @@ by_steps s (t ∷ ts) =
     (through_failed (mended_in (server_step s.server t))
     (watched (record { moment = s.moment; calm = s.calm }) (begins s t (server_step s.server t))) t.rest)
 
-failed_in : (h : List Line) → (seen h).moment.failed ≡ fold failed_after [] h
+pub failed_in : (h : List Line) → (seen h).moment.failed ≡ fold failed_after [] h
 failed_in h = by_steps first_seen (steps_of h) ∙ by_lines [] h
 
 -- ---- a drive that failed is among them
@@ -129,7 +129,7 @@ lines_failed d ds s [] h q = h q
 lines_failed d ds s (l ∷ ls) h q =
     lines_failed d (failed_after ds l) (sees_drive d s l) ls (line_failed d ds s l h) q
 
-failed_seen : (h : List Line) (d : ℕ) → has_failed (drive_after h d) ≡ true → among d (seen h).moment.failed ≡ true
+pub failed_seen : (h : List Line) (d : ℕ) → has_failed (drive_after h d) ≡ true → among d (seen h).moment.failed ≡ true
 failed_seen h d e =
     ap (λ (ds : List ℕ). among d ds) (failed_in h)
     ∙ lines_failed d [] (record { sent = []; injected = []; drive = None }) h (λ q. absurd (cc q)) e

@@ -79,7 +79,7 @@ own_each first (l ∷ lines) own = (
 )
 
 -- what was reached, as far as the numbers fit their places
-fits_reached : (object tag : ℕ) (b : Bool) → object < 2 ^ 64 → tag < 2 ^ 32
+pub fits_reached : (object tag : ℕ) (b : Bool) → object < 2 ^ 64 → tag < 2 ^ 32
     → (not (is_spellable object tag) || b) ≡ true → b ≡ true
 fits_reached object tag b object_fits tag_fits e =
     sym (ap (λ (fits : Bool). not fits || b) (both (nat_lt object (2 ^ 64)) (nat_lt tag (2 ^ 32))
@@ -95,7 +95,7 @@ fits_reached object tag b object_fits tag_fits e =
 -- ---- all moves
 
 -- each file stands so behind the lines, where these are of a scenario's text and nothing is forged
-abbrev Stand : World → List Line → Type 0
+abbrev pub Stand : World → List Line → Type 0
 Stand w h =
     AreNamed h → AreOfText h → AreFew h → AreUnforged h → AreStanding w.down (reached_in h) w.server.files
 
@@ -216,7 +216,8 @@ module _ (run : ServerSentItsRun) (given : EachTagWasSent) (ahead : NoCommandIsA
   -- ---- at each moment
 
   module _ (more : OneEventMore) where
-    reached_there : (w : World) (h : List Line) (k : IsMoment w h) → AreOfText h → AreFew h → (f : File)
+    -- what is reached of a component's object is so at its drive
+    pub reached_there : (w : World) (h : List Line) (k : IsMoment w h) → AreOfText h → AreFew h → (f : File)
         → In f w.server.files → (at : Component) → In at f.kept.components
         → reached_in h at.drive at.object f.kept.tag ≡ true
         → has_reached at.object f.kept.tag (at_number w.drives at.drive) ≡ true
@@ -248,12 +249,14 @@ module _ (run : ServerSentItsRun) (given : EachTagWasSent) (ahead : NoCommandIsA
       | inr unready ↦ inr (inr (unready, stands.quiet))
     ]
 
+    pub stand_at : (w : World) (h : List Line) → IsMoment w h → Stand w h
+    stand_at w h k = always Stand (record {
+      starts = at_first;
+      moves = λ v g l m d before named_g text_g few_g fair_g.
+          stands_behind v g l m d before named_g text_g few_g fair_g;
+    }) more w h k
+
     pub no_tag_is_behind : NoTagIsBehind
     no_tag_is_behind w h k named text few fair n f there at j stays_there =
         let i : In f w.server.files = (found_file w.server.files n f there).0 in
-        let all : Stand w h = always Stand (record {
-          starts = at_first;
-          moves = λ v g l m d before named_g text_g few_g fair_g.
-              stands_behind v g l m d before named_g text_g few_g fair_g;
-        }) more w h k in
-        is_there w h k text few f i at j stays_there w.down (all named text few fair f i)
+        is_there w h k text few f i at j stays_there w.down (stand_at w h k named text few fair f i)

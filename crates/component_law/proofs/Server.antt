@@ -25,6 +25,21 @@ same_some x y o e f = cc (sym e ∙ f)
 
 -- ---- grants
 
+-- a client's one grant is the one that is found
+pub found_own : (gs : List Grant) (g : Grant) → Apart gs → In g gs → grant_of gs g.client ≡ Some g
+found_own [] g apart i = absurd i
+found_own (x ∷ gs) g apart i = elim (cases_eq x.client g.client) [
+  | inl same ↦
+      rw (eq-eqb x.client g.client same) (ap (λ (y : Grant). Some y) ((apart x g (inl refl) i).1 same))
+  | inr other ↦
+      rw (ne_eqb x.client g.client other)
+      (found_own gs g (λ y z j l. apart y z (inr j) (inr l)) (behind i other))
+]
+  where
+    behind : In g (x ∷ gs) → (x.client ≡ g.client → ⊥) → In g gs
+    behind (inl e) other = absurd (other (ap (λ (y : Grant). y.client) (sym e)))
+    behind (inr j) other = j
+
 pub grant_in : (gs : List Grant) (c : ℕ) (g : Grant) → grant_of gs c ≡ Some g → In g gs × (g.client ≡ c)
 grant_in [] c g e = absurd (cc e)
 grant_in (x ∷ xs) c g e = elim (cases_eq x.client c) [

@@ -1,6 +1,6 @@
 -- What a request leaves of its file fits, and so do the numbers that it is told.
 use Rattle.std.specs.List.{AllByRecursion}
-use Rattle.std.proofs.Common.{◌≡◌, ◌||◌, ◌&&◌, ◌==◌, ℕ, ◌+◌, ◌-◌, ◌*◌, ◌/◌, ◌^◌, ◌≤◌, ◌<◌, ◌++◌, Bool, true, false, not, List, [], ◌∷◌, Option, Some, None, find, length, nat_lt, refl, sym, ap, subst, ◌∙◌, append_assoc, arith, if◌then◌else◌}
+use Rattle.std.proofs.Common.{◌≡◌, ◌||◌, ◌&&◌, ◌==◌, ℕ, ◌+◌, ◌-◌, ◌*◌, ◌/◌, ◌^◌, ◌≤◌, ◌<◌, ◌++◌, Bool, true, false, not, List, [], ◌∷◌, Option, Some, None, find, length, nat_lt, max, inl, inr, refl, sym, ap, subst, ◌∙◌, append_assoc, arith, if◌then◌else◌}
 use Rattle.std.proofs.lemmas.Bool.Decides.{nat_tests}
 use Rattle.std.proofs.lemmas.List.{length-append}
 use Rattle.std.proofs.Math.Nat.{div-mul-le_self}
@@ -19,7 +19,9 @@ use Rattle.server_rules.specs.Jobs.{fence_begins}
 use Rattle.server_rules.specs.Served.{Served, says}
 use Rattle.server_rules.specs.Get.{lesser, lowest_after, or_zero, lowest, Early, BadMode, Invalid, Unable, Waits, On, by_job, early, must_fence, Late, NoNumber, Lacks, Conflict, Gives, by_first, by_lacked, lacked, late, by_late, give_or_refuse, after_fence, fence_then, fence_first, on_grants, by_early, gets}
 use Rattle.history_law.specs.Placed.{AreNamed}
-use Rattle.exchange_law.specs.Files.{GrantFits, KeptFits}
+use Rattle.exchange_law.specs.Files.{GrantFits, KeptFits, EndFits}
+use Rattle.std.proofs.Math.Nat.{max-eq_left, max-eq_right}
+use Rattle.std.proofs.lemmas.Bool.{cases_lt}
 use Rattle.exchange_law.proofs.Parts.{each_more, each_filtered, IsNear, AllNear, JobFits}
 use Rattle.exchange_law.proofs.Running.{Sound, From, here, noted}
 use Rattle.exchange_law.proofs.Mending.{fence_runs}
@@ -165,6 +167,18 @@ late_fits n f next g k =
     (lacked_fits f.map f.components g.first g.end f.components 0 (omega (arith, k.few))) tt)
     (find_fits f.number f.map (conflicts g) f.grants k.grants))
 
+-- where the grant is for writing, `high` is its end at least
+max_fits : (m : RawMap) (high end : ℕ) → EndFits m high → EndFits m end → EndFits m (max high end)
+max_fits m high end h e = elim (cases_lt high end) [
+  | inl low ↦ subst (EndFits m) (sym (max-eq_right (omega (arith, low)))) e
+  | inr above ↦ subst (EndFits m) (sym (max-eq_left above)) h
+]
+
+high_fits : (m : RawMap) (high end : ℕ) → EndFits m high → EndFits m end → (b : Bool) →
+    EndFits m (if b then max high end else high)
+high_fits m high end h e true = max_fits m high end h e
+high_fits m high end h e false = h
+
 -- the grant is one of the file's
 pub given : (go : Going) (g : Grant) → Sound go → JobFits go.effects.object go.file.kept.tag go.file.job
     → GrantFits go.file.kept.number go.file.kept.map g → From go (by_late go g Gives).going
@@ -181,6 +195,8 @@ given go g s j f = here (by_late go g Gives).going (record {
       f,
       tt,
     );
+    ended = s.kept.ended;
+    high = high_fits go.file.kept.map go.file.kept.high g.end s.kept.high f.end g.rw;
   };
   drives = s.drives;
 }) j

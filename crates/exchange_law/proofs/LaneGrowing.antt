@@ -75,7 +75,7 @@ at_end h k n same counted = omega (arith, same, counted)
 
 module _ (S : Command → Type 0) (h : Held) (m : Moved) (numbers : IsNumbered h m) where
   -- a new nonce is above the former last, and no greater than the new one
-  new_nonce : (x : Awaited) → In x m.sent
+  pub new_nonce : (x : Awaited) → In x m.sent
       → (nonce_at h h.count < x.command.nonce) × (x.command.nonce ≤ nonce_at m.held m.held.count)
   new_nonce x i =
       let there : In x.command.nonce (range_with_len (nonce_at h h.count + 1) (length m.sent)) =

@@ -117,6 +117,8 @@ module _ (s : Server) (number : ℕ) (m : RawMap) (tag : ℕ) (zoned : Bool) (ch
             components_fit (drives_for zoned s.drives m chosen) s.next_object _ (omega (arith, many))
             (for_named zoned s.drives m chosen k.drives);
         grants = tt;
+        ended = tt;
+        high = omega arith;
       }
 
   made_sent : ((making start).effects.sent ≡ to_all new.kept All Creating s.next_nonce)

@@ -12,7 +12,8 @@ use Rattle.server_rules.specs.Jobs.{is_made, making, ending, fenced, fences, fen
 use Rattle.server_rules.specs.Replies.{Hearing, Older, Full, Done, Nothing, others, renewed, renews, fills_up, heard_with, hears}
 use Rattle.server_rules.proofs.Components.{length_lost, length_lost_on}
 use Rattle.history_law.proofs.Placing.{greater_format}
-use Rattle.exchange_law.proofs.Parts.{each_filtered, PartsFit, fit_lost_on, fit_lost, IsNear, AllNear, either_near, each_near, stores_near, TargetFits, WorkFits, JobFits}
+use Rattle.exchange_law.specs.Files.{GrantFits}
+use Rattle.exchange_law.proofs.Parts.{each_more, each_filtered, PartsFit, fit_lost_on, fit_lost, IsNear, AllNear, either_near, each_near, stores_near, TargetFits, WorkFits, JobFits}
 use Rattle.exchange_law.proofs.Running.{with_parts, Sound, From, here, over_runs, rests_or_runs, noted, audits_run, audit_runs, audited_runs, rebuilds_run, fills_run, gathered_runs, filled_runs, gone_runs, full_runs}
 
 -- ---- repair
@@ -34,6 +35,8 @@ mended_sound g short s = record {
     size = s.kept.size;
     components = s.kept.components;
     grants = s.kept.grants;
+    ended = tt;
+    high = s.kept.high;
   };
   drives = s.drives;
 }
@@ -90,6 +93,8 @@ fenced_runs kind g s l =
         size = s.kept.size;
         components = s.kept.components;
         grants = s.kept.grants;
+        ended = s.kept.ended;
+        high = s.kept.high;
       };
       drives = s.drives;
     }))
@@ -113,6 +118,10 @@ fence_runs kind format g known s l =
         size = s.kept.size;
         components = s.kept.components;
         grants = tt;
+        ended =
+            each_more (GrantFits g.file.kept.number g.file.kept.map) g.file.kept.ended g.file.kept.grants s.kept.ended
+            s.kept.grants;
+        high = s.kept.high;
       };
       drives = s.drives;
     }) l
@@ -130,6 +139,8 @@ made_runs g s = over_runs (noting (keeping g (record g.file.kept { ready = true 
     size = s.kept.size;
     components = s.kept.components;
     grants = s.kept.grants;
+    ended = s.kept.ended;
+    high = s.kept.high;
   };
   drives = s.drives;
 })
@@ -255,6 +266,8 @@ renews_run g j a s n w k = record {
     size = s.kept.size;
     components = s.kept.components;
     grants = s.kept.grants;
+    ended = s.kept.ended;
+    high = s.kept.high;
   };
   job = (w, renewed_near a (again_in_2 a g.effects.nonce) j.awaited (again_near g a n) k);
 }

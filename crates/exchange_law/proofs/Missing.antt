@@ -18,7 +18,7 @@ none_there : (o : Option ℕ) → is_none o ≡ true → o ≡ None
 none_there None e = refl
 none_there (Some n) e = absurd (cc e)
 
-all_missing : (m : RawMap) (p : ℕ) (cs : List Component) (k : ℕ) → replica_from m p cs k ≡ None
+pub all_missing : (m : RawMap) (p : ℕ) (cs : List Component) (k : ℕ) → replica_from m p cs k ≡ None
     → (i : ℕ) (at : Component) → slice_get cs i ≡ Some at → (k + i) / replicas m ≡ p → at.missing ≡ true
 unfolding replica_from
 all_missing m p [] k e i at found here = absurd (cc found)

@@ -59,6 +59,8 @@ commit_served go (Sizes size) s j f =
         size = f;
         components = s.kept.components;
         grants = s.kept.grants;
+        ended = s.kept.ended;
+        high = s.kept.high;
       };
       drives = s.drives;
     }) j) (omega arith) (omega arith)
@@ -86,6 +88,8 @@ ended_behind g h client r = record {
     size = r.kept.size;
     components = r.kept.components;
     grants = each_filtered (GrantFits h.file.kept.number h.file.kept.map) _ h.file.kept.grants r.kept.grants;
+    ended = r.kept.ended;
+    high = r.kept.high;
   };
   job = r.job;
 }

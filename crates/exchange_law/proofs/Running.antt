@@ -29,6 +29,8 @@ wider_kept m n f l k = record {
   size = k.size;
   components = wider_parts m n f.components l k.components;
   grants = k.grants;
+  ended = k.ended;
+  high = k.high;
 }
 
 -- with other components
@@ -43,6 +45,8 @@ with_parts n f cs k same fit = record {
   size = k.size;
   components = fit;
   grants = k.grants;
+  ended = k.ended;
+  high = k.high;
 }
 
 -- ---- a run

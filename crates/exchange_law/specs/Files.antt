@@ -29,6 +29,10 @@ pub record GrantFits (file : ℕ) (m : RawMap) (g : Grant) : Type 0 where
   pub end : g.end * stripe_length m ≤ MAX_FILE_SIZE + stripe_length m
   pub expiry : g.expiry ≤ NO_EXPIRY
 
+-- these stripes end no more than a stripe behind a file of the greatest size
+abbrev pub EndFits : RawMap → (end : ℕ) → Type 0
+EndFits m end = end * stripe_length m ≤ MAX_FILE_SIZE + stripe_length m
+
 -- what is kept of a file
 pub record KeptFits (objects : ℕ) (f : Kept) : Type 0 where
   pub number : f.number < FILES
@@ -39,6 +43,8 @@ pub record KeptFits (objects : ℕ) (f : Kept) : Type 0 where
   pub size : f.size ≤ MAX_FILE_SIZE
   pub components : AllByRecursion (ComponentFits objects) f.components
   pub grants : AllByRecursion (GrantFits f.number f.map) f.grants
+  pub ended : AllByRecursion (GrantFits f.number f.map) f.ended
+  pub high : EndFits f.map f.high
 
 -- so it is of each file, whose objects have numbers that the server used
 abbrev pub FilesFit : Server → Type 0

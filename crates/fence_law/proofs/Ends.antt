@@ -120,7 +120,7 @@ keep_mixed b Refenced a calm code t f r run n u kd dead late m q lt us co cells 
 keep_mixed b (Repaired done e0) a calm code t f r run n u kd dead late m q lt us co cells sound aw ml re gl h = mixed_mended b done e0 a calm gl code f dead lt m q co cells ml h
 keep_mixed b e a calm code t f r run n u kd dead late m q lt us co cells sound aw ml re gl h = h
 
-late_added : (b : State) (s : Start) (row : ℕ → ℕ → Bool) → (s.is_write ≡ true → s.alive ≡ true → s.tag ≡ b.tag) → Late_ack b → Late_ack (added b s row)
+pub late_added : (b : State) (s : Start) (row : ℕ → ℕ → Bool) → (s.is_write ≡ true → s.alive ≡ true → s.tag ≡ b.tag) → Late_ack b → Late_ack (added b s row)
 late_added b s row new h j p v o full byte1 = elim (cases_eq j b.count) [
   | inl e ↦ let st : updated b.start b.count s j ≡ s = updated_at b.start b.count s j e in absurd (grind (arith, new (rw st at o.1) (rw st at o.2), rw st at o.4))
   | inr ne ↦ let st : updated b.start b.count s j ≡ b.start j = updated_other b.start b.count s j ne in

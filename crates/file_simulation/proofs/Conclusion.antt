@@ -13,7 +13,7 @@ use Rattle.fence_law.specs.State.{Layout}
 use Rattle.fence_law.specs.Law.{IsCode, IsJudged, IsWholeAt}
 use Rattle.fence_law.specs.Law as machine
 use Rattle.plan_law.specs.Layouts.{LayoutsAreCodes, ColumnsHaveStripes}
-use Rattle.file_simulation.specs.Claim.{IsWhole}
+use Rattle.file_simulation.specs.Claim.{IsWhole, IsRight}
 use Rattle.file_simulation.specs.Showing.{GoesAsRun, ShowsLines}
 use Rattle.file_simulation.specs.Conclusion.{RunsGiveTheHeadline}
 use Rattle.file_simulation.proofs.ShownCells.{accepted}
@@ -77,10 +77,19 @@ module _ (codes : LayoutsAreCodes) (columns : ColumnsHaveStripes) (judge : IsJud
   whole_file h file st shaped goes none quiet (Some f) e =
       whole_there h file st f (shaped f e).0 (shaped f e).1 e quiet (goes f e)
 
-  pub runs_give_the_headline : RunsGiveTheHeadline
-  runs_give_the_headline runs shaped none = λ h lawful calm. record {
-    accepted = λ file. accepts_file h file (λ f e. (shaped h lawful calm.scenario file f e).0) (runs h lawful calm file)
-        (none h lawful calm.scenario file) (file_at (moment_of h).server.files file) refl;
-    whole = λ file st quiet. whole_file h file st (shaped h lawful calm.scenario file) (runs h lawful calm file)
-        (none h lawful calm.scenario file) quiet (file_at (moment_of h).server.files file) refl;
+  -- a history of which each file goes as a run
+  pub right : (h : List Line) →
+      ((file : ℕ) (f : File) → file_at (moment_of h).server.files file ≡ Some f →
+      IsChecked f.kept.map × (length f.kept.components ≡ f.kept.map.comps)) →
+      ((file : ℕ) (f : File) → file_at (moment_of h).server.files file ≡ Some f → GoesAsRun h file) →
+      ((file : ℕ) → file_at (moment_of h).server.files file ≡ None → log_of h file ≡ []) → IsRight h
+  right h shaped goes none = record {
+    accepted = λ file. accepts_file h file (λ f e. (shaped file f e).0) (goes file) (none file)
+        (file_at (moment_of h).server.files file) refl;
+    whole = λ file st quiet. whole_file h file st (shaped file) (goes file) (none file) quiet
+        (file_at (moment_of h).server.files file) refl;
   }
+
+  pub runs_give_the_headline : RunsGiveTheHeadline
+  runs_give_the_headline runs shaped none = λ h lawful calm.
+      right h (shaped h lawful calm.scenario) (runs h lawful calm) (none h lawful calm.scenario)

@@ -51,7 +51,7 @@ unguessed_before lines h more e =
 
 -- ---- a scenario's text
 
-scenario_before : (h more : List Line) → IsOfScenario (h ++ more) → IsOfScenario h
+pub scenario_before : (h more : List Line) → IsOfScenario (h ++ more) → IsOfScenario h
 scenario_before h more s = record {
   written = written_front h more s.written;
   text = text_front h more s.text;
@@ -96,7 +96,7 @@ front_begun (suc n) ls (Pending c k e) =
 front_begun (suc n) [] (Headed b) = absurd b
 front_begun (suc n) (l ∷ ls) (Headed b) = Headed b
 
-move_begun : (w : World) (m : Move) (n : ℕ) → Begun (take n (lines_in w m))
+pub move_begun : (w : World) (m : Move) (n : ℕ) → Begun (take n (lines_in w m))
 move_begun w m n = front_begun n (lines_in w m) (act_begun w m.chosen m.action)
 
 -- ---- the history before them

@@ -11,7 +11,7 @@ use Rattle.world_history.specs.Sending.{Move, move}
 use Rattle.world_history.specs.Calm.{moment_of}
 use Rattle.world_history.specs.History.{OneEventMore}
 use Rattle.world_history.specs.Laws.{MomentGoesOn, AllLinesGoOn}
-use Rattle.history_law.specs.BookMoments.{lines_in}
+use Rattle.history_law.specs.BookMoments.{IsMoment, lines_in}
 use Rattle.exchange_law.proofs.SlotMoments.{always}
 use Rattle.component_law.specs.Following.{PendingIsRead}
 use Rattle.fence_law.specs.State.{State}
@@ -24,11 +24,11 @@ use Rattle.file_simulation.proofs.Fronts.{before_move, before_all}
 use Rattle.file_simulation.proofs.Cutting.{IsCut, each_is_cut}
 
 -- some machine stands for a file
-abbrev Stands : World → List Line → File → Type 0
+abbrev pub Stands : World → List Line → File → Type 0
 Stands w h f = (s : State) × (pairs : Pairs) × StandsAt w h f s pairs
 
 -- so it is of each file of a world
-abbrev AllStand : World → List Line → Type 0
+abbrev pub AllStand : World → List Line → Type 0
 AllStand w h = (file : ℕ) (f : File) → file_at w.server.files file ≡ Some f → Stands w h f
 
 none_there : (file : ℕ) → file_at [] file ≡ None
@@ -89,7 +89,7 @@ shows_cut w h more m count cuts creates next low calm all file f e (Some g) befo
 
 module _ (more : OneEventMore) (moments : MomentGoesOn) (lines : AllLinesGoOn) (pending : PendingIsRead) where
   module _ (goes : EachMoveGoesOn) (creates : EachFileIsCreated) where
-    abbrev Holds : World → List Line → Type 0
+    abbrev pub Holds : World → List Line → Type 0
     Holds w h = IsCalmHistory h → AllStand w h
 
     none_stands : (file : ℕ) (f : File) → file_at [] file ≡ Some f → ⊥
@@ -101,12 +101,16 @@ module _ (more : OneEventMore) (moments : MomentGoesOn) (lines : AllLinesGoOn) (
         stands_behind w h (lines_in w m) m goes creates next calm (holds (before_all moments lines pending w h m calm)) file f e
         (file_at w.server.files file) refl
 
-    all_stand : (w : World) (h : List Line) (m : Move) (ls : List Line) → IsNext w h m ls → Holds w h
-    all_stand w h m ls next =
+    -- at each moment of a calm history
+    pub all_at : (w : World) (h : List Line) → IsMoment w h → IsCalmHistory h → AllStand w h
+    all_at w h k =
         always Holds (record {
           starts = λ calm file f e. absurd (none_stands file f e);
-          moves = λ u g k n d holds. moves_on u g n (record { moment = k; is_due = d; lines = refl }) holds;
-        }) more w h next.moment
+          moves = λ u g j n d holds. moves_on u g n (record { moment = j; is_due = d; lines = refl }) holds;
+        }) more w h k
+
+    pub all_stand : (w : World) (h : List Line) (m : Move) (ls : List Line) → IsNext w h m ls → Holds w h
+    all_stand w h m ls next = all_at w h next.moment
 
   cut_runs : EachMoveGoesOn → EachFileIsCreated → EachCutIsShown → EachCreationIsShown → (h : List Line) (c : IsCut h) →
       IsCalmHistory (c.before ++ take c.count c.more) → (file : ℕ) (f : File) →

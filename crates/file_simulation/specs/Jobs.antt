@@ -12,6 +12,7 @@ use Rattle.osd_commands.specs.declared.replies.Reply.{Reply}
 use Rattle.server_rules.specs.declared.limits.TheConstants.{SERVER_HOLDER, PERFORMED}
 use Rattle.server_rules.specs.Laws.{In}
 use Rattle.server_rules.specs.Maps.{group_with, pieces_in}
+use Rattle.server_rules.specs.Messages.{awaited_by}
 use Rattle.server_rules.specs.Replies.{answers}
 use Rattle.world_history.specs.ServerNames.{File, Component, Piece, Job, JobKind, Making, Target, Work, Fetches, Stores, Targets, Gathers, Fills, Checks, Awaited, Heard, Phase, Still, Fencing, Repairing, FencingAgain}
 use Rattle.world_history.specs.declared.messages.Body.TheVariants.{Reply as OfReply}
@@ -24,7 +25,7 @@ use Rattle.fence_law.specs.Columns.{Short, Stands}
 use Rattle.fence_law.specs.Law.{byte_before}
 use Rattle.plan_law.specs.FileLayout.{has_parity, position_in, stripe_of_column, column_of_cell}
 use Rattle.plan_law.specs.Known.{HasSource}
-use Rattle.file_simulation.specs.Components.{object_on, object_of}
+use Rattle.file_simulation.specs.Components.{object_on, object_of, has_failed}
 use Rattle.file_simulation.specs.Phases.{IsEndedAt}
 use Rattle.file_simulation.specs.Messages.{HasCommanded}
 
@@ -128,9 +129,16 @@ AreDue s w f e awaited p =
     HasColumn f.kept.map p (column_of_cell f.kept.map k z) →
     (s.cell k z ≡ s.layout.word k z e) ⊎ IsDue s w at e awaited k z
 
+-- Each of these awaited WRITEs, spent or not, has words of e, each byte of which is that of a copy that isn't gone: a drive may
+-- refuse one for its format, and then the server sends it again.
+abbrev pub AreWritten : machine.State → (e : ℕ → ℕ) → List Awaited → Type 0
+AreWritten s e ws =
+    (a : Awaited) → In a ws → AreWords s e a.component a.command.offset a.command.payload ×
+    AreSourced s e a.component a.command.offset a.command.payload
+
 -- by the work; only a repair that writes owes words
 abbrev pub DueIn : machine.State → World → File → (e : ℕ → ℕ) → List Awaited → Work → Type 0
-DueIn s w f e awaited (Stores (p ∷ ps) short broken) = AreDue s w f e awaited p
+DueIn s w f e awaited (Stores (p ∷ ps) short broken) = AreDue s w f e awaited p × AreWritten s e awaited
 DueIn s w f e awaited work = Unit {0}
 
 -- by the job, if one runs
@@ -232,16 +240,42 @@ pub record IsTarget (s : machine.State) (w : World) (f : File) (t : Target) (tod
   pub words : (x : Command) → IsFill w t x → AreWords s (byte_before s s.count) t.component x.offset x.payload
   pub head : (x : Command) → IsFill w t x → (IsSpent (at_number w.drives t.drive) x → ⊥) →
       IsInHead f.kept.map todo t.component x
-  pub object : (o : StoredObject) → object_on (at_number w.drives t.drive) t.object ≡ Some o → IsFilled s f t todo o
+  pub object : has_failed (at_number w.drives t.drive) ≡ false → (o : StoredObject) →
+      object_on (at_number w.drives t.drive) t.object ≡ Some o → IsFilled s f t todo o
   -- where a piece was done, there was something to make it of: a replica that isn't gone, or enough of each stripe
   pub source : HasBegun f t todo → (out : List ℕ) × ((z : ℕ) → HasSource f.kept.map s.gone out t.component z)
+
+-- what a WRITE to the target leaves out of a piece is zeros
+abbrev pub HasAllOf : machine.State → RawMap → Piece → (k : ℕ) → Command → Type 0
+HasAllOf s m p k x =
+    (z : ℕ) → HasColumn m p (column_of_cell m k z) →
+    ((x.offset ≤ z) × (z < x.offset + length x.payload)) ⊎ (word_now s k z ≡ 0)
+
+-- so it is of each WRITE that the file's job awaits, and the first of these pieces, of which it has the words
+abbrev pub AwaitedHaveAll : machine.State → File → Target → List Piece → Type 0
+AwaitedHaveAll s f t [] = Unit {0}
+AwaitedHaveAll s f t (p ∷ ps) =
+    (a : Awaited) → In a (awaited_by f.job) →
+    AreWords s (byte_before s s.count) t.component a.command.offset a.command.payload
+    × HasAllOf s f.kept.map p t.component a.command
+
+-- There is something to make each cell of the target of: a replica that isn't gone, or enough of each stripe.
+pub record HasSources (s : machine.State) (f : File) (t : Target) : Type 0 where
+  pub out : List ℕ
+  pub each : (z : ℕ) → HasSource f.kept.map s.gone out t.component z
+
+-- a rebuild writes the first of these pieces
+pub record IsFilling (s : machine.State) (w : World) (f : File) (t : Target) (todo : List Piece) : Type 0 where
+  pub target : IsTarget s w f t todo
+  pub awaited : AwaitedHaveAll s f t todo
+  pub sources : HasSources s f t
 
 -- by the work of a rebuild; before its object is made all pieces are to be done
 abbrev pub TargetIn : machine.State → World → File → Work → Type 0
 TargetIn s w f (Targets t) =
     IsTarget s w f t (pieces_in f.kept.map (group_with f.kept.map t.component) f.kept.high)
 TargetIn s w f (Gathers t todo) = IsTarget s w f t todo
-TargetIn s w f (Fills t todo) = IsTarget s w f t todo
+TargetIn s w f (Fills t todo) = IsFilling s w f t todo
 TargetIn s w f work = Unit {0}
 
 -- ---- no client's WRITE comes any more

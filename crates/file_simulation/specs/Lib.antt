@@ -17,3 +17,4 @@ pub mod Events
 pub mod Cuts
 pub mod Simulation
 pub mod Conclusion
+pub mod Tied

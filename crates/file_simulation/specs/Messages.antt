@@ -1,5 +1,5 @@
 -- What clients and the server sent to the objects of a file, and what drives replied.
-use Rattle.std.specs.Prelude.{◌≡◌, ℕ, ◌+◌, ◌<◌, ◌≤◌, true, false, length, slice_get, slice_index, Some}
+use Rattle.std.specs.Prelude.{◌≡◌, ℕ, ◌+◌, ◌<◌, ◌≤◌, Bool, true, false, length, slice_get, slice_index, Some}
 use Rattle.osd_lists.specs.declared.node.Node.TheVariants as node
 use Rattle.osd_objects.specs.declared.lanes.LaneEntry.{LaneEntry}
 use Rattle.osd_objects.specs.Store.{lane_or_none}
@@ -10,9 +10,9 @@ use Rattle.scenario_text.specs.declared.names.TheConstants.{CLIENTS}
 use Rattle.server_rules.specs.Laws.{In}
 use Rattle.client_rules.specs.declared.limits.TheConstants.{PERFORMED}
 use Rattle.client_rules.specs.Replies.{answers}
-use Rattle.client_rules.specs.Io.{got_of}
+use Rattle.client_rules.specs.Io.{awaited_in, got_of}
 use Rattle.world_history.specs.ServerNames.{File, Component}
-use Rattle.world_history.specs.ClientNames.{Awaited, Column, Io, Phase, Reads, Probes, Gathers}
+use Rattle.world_history.specs.ClientNames.{Awaited, Column, Io, Phase, Reads, Probes, Gathers, Scatters}
 use Rattle.world_history.specs.declared.messages.Body.TheVariants.{Reply as OfReply}
 use Rattle.world_history.specs.State.{World}
 use Rattle.exchange_law.specs.Doing.{said}
@@ -87,3 +87,23 @@ ShownIn s w c j (Reads io) = AreShown s w c j io
 ShownIn s w c j (Probes io) = AreShown s w c j io
 ShownIn s w c j (Gathers io) = AreShown s w c j io
 ShownIn s w c j phase = Unit {0}
+
+-- ---- what drives told of WRITEs
+
+-- a drive replied to a client's command that it performed it
+pub record WasPerformed (w : World) (c : ℕ) (a : Awaited) (r : Reply) : Type 0 where
+  pub told : HasReplied w a.drive c r
+  pub answers : answers a.drive r a ≡ true
+  pub performed : r.verdict ≡ PERFORMED
+
+-- the phase sends WRITEs
+abbrev pub is_scatter : Phase → Bool
+is_scatter (Scatters io queue) = true
+is_scatter p = false
+
+-- Where a phase awaits a WRITE of which its drive replied that it was performed, the machine has a reply to it: also where the
+-- component is lost since.
+abbrev pub ToldIn : machine.State → World → (c : ℕ) → Phase → Type 0
+ToldIn s w c phase =
+    is_scatter phase ≡ true → (a : Awaited) (r : Reply) → In a (awaited_in phase) → WasPerformed w c a r →
+    InRun (record { holder = c; nonce = a.command.nonce; at = a.ask.component }) s.replies

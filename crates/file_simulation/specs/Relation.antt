@@ -15,20 +15,21 @@ use Rattle.file_simulation.specs.Components.{AreComponents}
 use Rattle.file_simulation.specs.Phases.{IsKept, AreBelowHigh}
 use Rattle.file_simulation.specs.Requests.{kept_for, RequestsAgree}
 use Rattle.file_simulation.specs.Calls.{IsClient}
-use Rattle.file_simulation.specs.Messages.{AreSent, ShownIn}
+use Rattle.file_simulation.specs.Messages.{AreSent, ShownIn, ToldIn}
 use Rattle.file_simulation.specs.Jobs.{AreJobs}
 
 -- client c of a world; one that there isn't yet is as it will begin
 abbrev pub client_of : World → (c : ℕ) → Client
 client_of w c = state_of c (at_number w.clients c)
 
--- what the machine has of a client: its slot, its call, and what its reads were shown
+-- what the machine has of a client: its slot, its call, what its reads were shown, and the replies to its WRITEs
 pub record IsClientOf (s : machine.State) (w : World) (f : File) (c : ℕ) : Type 0 where
   pub slot : RequestsAgree f.kept.number f.kept.map s w.server c (client_of w c)
   pub client : IsClient f.kept.number f.kept.map s c (client_of w c)
       (kept_for (slot_of w.server.slots c) (client_of w c).outstanding)
   pub shown : (call : Call) (j : ℕ) → (client_of w c).call ≡ Some call → file_of call.op ≡ f.kept.number →
       s.call c ≡ AtRead j → ShownIn s w c j call.phase
+  pub told : (call : Call) → (client_of w c).call ≡ Some call → file_of call.op ≡ f.kept.number → ToldIn s w c call.phase
 
 -- what the machine has of the file: its layout, components, phase and grants, its clients, what was sent, and its jobs
 pub record IsRelated (s : machine.State) (w : World) (f : File) : Type 0 where

@@ -17,14 +17,17 @@ use Rattle.file_simulation.specs.Creation.{created}
 use Rattle.file_simulation.specs.Events.{joined, events_of}
 use Rattle.file_simulation.specs.Cuts.{at_cut}
 use Rattle.file_simulation.specs.Showing.{Pairs, ShowsLines, IsRun, GoesAsRun}
+use Rattle.file_simulation.specs.Tied.{AreTied, WritesAreTied}
 
--- A machine stands for a file at a moment: it is reached by a lawful and calm run, it is related to the world, and it
--- shows the lines.
+-- A machine stands for a file at a moment: it is reached by a lawful and calm run, it is related to the world, it shows the
+-- lines, and pending calls and WRITEs are tied to its entries.
 pub record StandsAt (w : World) (h : List Line) (f : File) (s : State) (pairs : Pairs) : Type 0 where
   pub there : file_at w.server.files f.kept.number ≡ Some f
   pub run : IsRun s
   pub related : Relates s w f.kept.number
   pub shown : ShowsLines h s f.kept.number pairs
+  pub tied : AreTied w h s f.kept.number pairs
+  pub writes : WritesAreTied w h s f pairs
 
 -- a move that is due at a moment, with its lines
 pub record IsNext (w : World) (h : List Line) (m : Move) (more : List Line) : Type 0 where

@@ -142,7 +142,7 @@ line_fair before (line.Delivered n del) fair touches =
     arrived_fair (sent_in before) n (slice_get (sent_in before) n) refl fair
 line_fair before l fair touches = fair
 
-lines_fair : (before lines : List Line) → AreFair (sent_in before) → EachBehind HoldsAt before lines
+pub lines_fair : (before lines : List Line) → AreFair (sent_in before) → EachBehind HoldsAt before lines
     → AreFair (sent_in (before ++ lines))
 lines_fair before [] fair each = subst (λ (h : List Line). AreFair (sent_in h)) (sym (append-nil before)) fair
 lines_fair before (l ∷ lines) fair each =
@@ -150,7 +150,7 @@ lines_fair before (l ∷ lines) fair each =
     (lines_fair (before ++ l ∷ []) lines
     (subst AreFair (sym (sent_behind before l)) (line_fair before l fair (judges_of before l each.0))) each.1)
 
-none_fair : AreFair (sent_in [])
+pub none_fair : AreFair (sent_in [])
 unfolding sent_in
 none_fair n m is = absurd (cc is)
 

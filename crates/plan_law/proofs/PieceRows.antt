@@ -51,7 +51,7 @@ one_code m = elim (cases_eq m.algorithm 1) [
 
 -- ---- places
 
-place : (m : RawMap) (s b p : ℕ) → IsChecked m → b < m.unit → p / group_width m ≡ group_of m s →
+pub place : (m : RawMap) (s b p : ℕ) → IsChecked m → b < m.unit → p / group_width m ≡ group_of m s →
     (stripe_at m p (offset_of m s b) ≡ s) × (unit_at m p (offset_of m s b) ≡ unit_in m s (p % group_width m)) ×
     (offset_of m s b % m.unit ≡ b)
 place m s b p c bl group =
@@ -60,7 +60,7 @@ place m s b p c bl group =
     ∙ ap (λ r. stripe_in m (group_of m s) r) row ∙ stripe_again m s c in
     (stripe, ap (λ x. unit_in m x (p % group_width m)) stripe, mod-mul-add (row_of m s) m.unit b bl)
 
-word_there : (m : RawMap) (s b k : ℕ) (e : ℕ → ℕ) → IsChecked m → b < m.unit → (k / replicas m) / group_width m ≡ group_of m s →
+pub word_there : (m : RawMap) (s b k : ℕ) (e : ℕ → ℕ) → IsChecked m → b < m.unit → (k / replicas m) / group_width m ≡ group_of m s →
     word_in m k (offset_of m s b) e ≡ word_of m e s b (unit_with m s k)
 word_there m s b k e c bl group =
     let p : ℕ = k / replicas m in
@@ -92,7 +92,7 @@ repairs_write_words m cs heard s first count e c rows k group j bl lt =
 -- ---- a rebuild
 
 -- a replica stands at its position
-stands_at : (m : RawMap) (p : ℕ) (cs : List Component) (n f : ℕ) → replica_from m p cs n ≡ Some f → f / replicas m ≡ p
+pub stands_at : (m : RawMap) (p : ℕ) (cs : List Component) (n f : ℕ) → replica_from m p cs n ≡ Some f → f / replicas m ≡ p
 unfolding replica_from
 stands_at m p [] n f e = absurd (cc e)
 stands_at m p (at ∷ cs) n f e = elim (cases_Bool (not at.missing && (n / replicas m == p))) [

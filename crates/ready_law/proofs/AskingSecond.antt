@@ -19,6 +19,7 @@ use Rattle.history_law.specs.BookMoments.{lines_in}
 use Rattle.exchange_law.specs.InStep.{state_of}
 use Rattle.exchange_law.proofs.HeldWorlds.{reached}
 use Rattle.component_law.specs.Order.{Rise}
+use Rattle.component_law.proofs.Server.{found_own}
 use Rattle.cause_law.proofs.Sends.{outstanding_of}
 use Rattle.ready_law.proofs.Calls.{ReadyCall, file_at_call, kept_at, wanted_at, opposed_at, IsIn, DeliversHead, request_message, answer_message}
 use Rattle.ready_law.proofs.Going.{GoesOnBy}
@@ -30,22 +31,6 @@ use Rattle.ready_law.proofs.AskingForms.{AskingLaws}
 use Rattle.ready_law.proofs.AskingFrames.{HaveOwnClients, own_behind, own_opposed, opposed_in, serves_stays, caller_stays, IsKept, asked_stays, returning_stays, returns_stay, quiet_stays, taken_stay, taken_more, sent_more, delivery_silent}
 use Rattle.ready_law.proofs.AskingGives.{caller_named, gives_goes_on}
 use Rattle.ready_law.proofs.AskingServed.{Arrives, IsSent, IsDone, return_done, served_silent, served_queue, served_others, served_client, served_file}
-
--- ---- lists of grants
-
-pub found_own : (gs : List Grant) (g : Grant) → Apart gs → In g gs → grant_of gs g.client ≡ Some g
-found_own [] g apart i = absurd i
-found_own (x ∷ gs) g apart i = elim (cases_eq x.client g.client) [
-  | inl same ↦
-      rw (eq-eqb x.client g.client same) (ap (λ (y : Grant). Some y) ((apart x g (inl refl) i).1 same))
-  | inr other ↦
-      rw (ne_eqb x.client g.client other)
-      (found_own gs g (λ y z j l. apart y z (inr j) (inr l)) (behind i other))
-]
-  where
-    behind : In g (x ∷ gs) → (x.client ≡ g.client → ⊥) → In g gs
-    behind (inl e) other = absurd (other (ap (λ (y : Grant). y.client) (sym e)))
-    behind (inr j) other = j
 
 module _ (laws : AskingLaws) (s : ReadyCall) (w : World) (h : List Line) (k : IsIn s w h) (m : Move)
     (next : IsIn s (move w m).world (h ++ lines_in w m)) (a : AskingAgain s w) where

@@ -129,7 +129,7 @@ key_of_made : (h : Held) (k : ℕ) → AreKeyed h.components → HasKey (credent
 unfolding credential_of
 key_of_made h k a = has_key h.components k a
 
-made_read : (h : Held) (write : Bool) (w : Store) (nonce d : ℕ) → AreKeyed h.components → Carries write w
+pub made_read : (h : Held) (write : Bool) (w : Store) (nonce d : ℕ) → AreKeyed h.components → Carries write w
     → MaySend d (command h write w nonce) → nonce < 2 ^ 64 → w.ask.length < 2 ^ 32
     → reading (spelling (command h write w nonce)) ≡ Ok (command h write w nonce)
 unfolding command sealed
@@ -153,7 +153,7 @@ made_read h write w nonce d keyed carries may low few = reading-command (command
   capability = may.capability;
 })
 
-nonce_of : (h : Held) (write : Bool) (w : Store) (nonce : ℕ) → (command h write w nonce).nonce < 2 ^ 64
+pub nonce_of : (h : Held) (write : Bool) (w : Store) (nonce : ℕ) → (command h write w nonce).nonce < 2 ^ 64
     → nonce < 2 ^ 64
 unfolding command sealed
 nonce_of h write w nonce l = l

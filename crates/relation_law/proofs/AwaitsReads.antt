@@ -24,7 +24,8 @@ use Rattle.file_simulation.specs.Requests.{kept_for}
 use Rattle.relation_law.specs.CallsTurns.{IsWorking}
 use Rattle.relation_law.specs.ReadsDrive.{IsAwaitedBy, IsReadOf}
 use Rattle.relation_law.proofs.KeptCommits.{client_low}
-use Rattle.relation_law.specs.Working.{is_scatter, CallWorks, ClientWorks}
+use Rattle.relation_law.specs.Working.{CallWorks, ClientWorks}
+use Rattle.file_simulation.specs.Messages.{is_scatter}
 use Rattle.relation_law.proofs.OwnFacts.{works_kept}
 
 module _ (w : World) (h : List Line) (k : IsMoment w h) (text : AreOfText h) (s : State) (f : File) (r : IsRelated s w f) where
@@ -32,7 +33,7 @@ module _ (w : World) (h : List Line) (k : IsMoment w h) (text : AreOfText h) (s 
   works_at c None e = tt
   works_at c (Some a) e = clients_always (λ n y. ClientWorks y) works_kept w (reached w h k) c a e
 
-  low_at : (c : ℕ) (call : Call) (o : Option ClientAt) → at_number w.clients c ≡ o → (state_of c o).call ≡ Some call → c < CLIENTS
+  pub low_at : (c : ℕ) (call : Call) (o : Option ClientAt) → at_number w.clients c ≡ o → (state_of c o).call ≡ Some call → c < CLIENTS
   low_at c call None e is = absurd (cc is)
   low_at c call (Some a) e is = client_low w h k text c a e
 

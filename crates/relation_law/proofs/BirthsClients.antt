@@ -168,7 +168,7 @@ pub data StandsSo (c n : ℕ) (s : State) : Option RequestClass → Bool → Typ
   IsAsking : (rw answered : Bool) → HasAsked c n rw answered s → StandsSo c n s (Some (Own (Get rw))) answered
   IsElsewhere : (answered : Bool) → IsOut c n answered s → StandsSo c n s (Some Other) answered
 
-stands_still : (c n : ℕ) (s t : State) (o : Option RequestClass) (b : Bool) → HasStill c s t → StandsSo c n s o b →
+pub stands_still : (c n : ℕ) (s t : State) (o : Option RequestClass) (b : Bool) → HasStill c s t → StandsSo c n s o b →
     StandsSo c n t o b
 stands_still c n s t o b h (IsFree r x) = IsFree (ready_still c n s t h r) x
 stands_still c n s t o b h (IsAsking mode x a) = IsAsking mode x (record {
@@ -260,17 +260,17 @@ module _ (m : Layout) (number : ℕ → ℕ) (class : ℕ → Option RequestClas
   of_one c = of_client c (number c) (class c) (told c)
 
   -- from client a on, none was heard of
-  abbrev AreFresh : (a : ℕ) → State → Type 0
+  abbrev pub AreFresh : (a : ℕ) → State → Type 0
   AreFresh a s = (c : ℕ) → a ≤ c → IsReady c 0 s
 
   -- n clients from client a on stand so, and the machine has the others still
-  record AllStand (a n : ℕ) (s : State) (es : List Event) : Type 0 where
-    lawful : IsLawfulRun s es
-    early : AreEarly es
-    stands : (c : ℕ) → a ≤ c → c < a + n → StandsSo c (number c) (after_all s es) (class c) (is_told (told c))
-    others : (c : ℕ) → (c < a) ⊎ (a + n ≤ c) → HasStill c s (after_all s es)
+  pub record AllStand (a n : ℕ) (s : State) (es : List Event) : Type 0 where
+    pub lawful : IsLawfulRun s es
+    pub early : AreEarly es
+    pub stands : (c : ℕ) → a ≤ c → c < a + n → StandsSo c (number c) (after_all s es) (class c) (is_told (told c))
+    pub others : (c : ℕ) → (c < a) ⊎ (a + n ≤ c) → HasStill c s (after_all s es)
 
-  stand_from : (a n : ℕ) (s : State) → IsYoung m s → AreFresh a s →
+  pub stand_from : (a n : ℕ) (s : State) → IsYoung m s → AreFresh a s →
       AllStand a n s (flat_map of_one (range_with_len a n))
   stand_from a zero s y fresh = record {
     lawful = tt;

@@ -35,6 +35,8 @@ pub record IsYoung (m : Layout) (s : State) : Type 0 where
   pub call : s.call ≡ (λ c. Idle)
   pub commit : s.commit ≡ (λ c. NoCommit)
   pub count : s.count ≡ 0
+  pub start : s.start ≡ (new_file_state m).start
+  pub writes : s.writes ≡ []
   pub answers : (a : Answer) → In a s.answers → a.grant ≡ None
 
 -- an event of the time before the file was made, or a failure
@@ -80,6 +82,8 @@ young_after m s (Asks c rw) i y = record {
   call = y.call;
   commit = y.commit;
   count = y.count;
+  start = y.start;
+  writes = y.writes;
   answers = y.answers;
 }
 young_after m s (Refuses c kind) i y = record {
@@ -101,6 +105,8 @@ young_after m s (Refuses c kind) i y = record {
   call = y.call;
   commit = y.commit;
   count = y.count;
+  start = y.start;
+  writes = y.writes;
   answers = refused_none s c y.answers;
 }
 young_after m s (AsksOther c) i y = record {
@@ -122,6 +128,8 @@ young_after m s (AsksOther c) i y = record {
   call = y.call;
   commit = y.commit;
   count = y.count;
+  start = y.start;
+  writes = y.writes;
   answers = y.answers;
 }
 young_after m s (ServesOther c) i y = record {
@@ -143,6 +151,8 @@ young_after m s (ServesOther c) i y = record {
   call = y.call;
   commit = y.commit;
   count = y.count;
+  start = y.start;
+  writes = y.writes;
   answers = y.answers;
 }
 young_after m s (TakesOther c) i y = record {
@@ -164,6 +174,8 @@ young_after m s (TakesOther c) i y = record {
   call = y.call;
   commit = y.commit;
   count = y.count;
+  start = y.start;
+  writes = y.writes;
   answers = y.answers;
 }
 young_after m s (Fails k) i y = record {
@@ -185,6 +197,8 @@ young_after m s (Fails k) i y = record {
   call = y.call;
   commit = y.commit;
   count = y.count;
+  start = y.start;
+  writes = y.writes;
   answers = y.answers;
 }
 young_after m s e i y = absurd i
@@ -213,6 +227,8 @@ new_young m = record {
   call = refl;
   commit = refl;
   count = refl;
+  start = refl;
+  writes = refl;
   answers = λ a i. absurd i;
 }
 

@@ -112,7 +112,7 @@ reads_all : (s : Seen) (ts : List Step) → Reads s → Reads (fold sees s ts)
 reads_all s [] h = h
 reads_all s (t ∷ ts) h = reads_all (sees s t) ts (reads_on s t h)
 
-fine_all : (h : List Line) → Each (Shaped IsFine) (moment_of h).server.files
+pub fine_all : (h : List Line) → Each (Shaped IsFine) (moment_of h).server.files
 fine_all h =
     let r : Reads (seen h) = reads_all first_seen (steps_of h) (refl, λ f i. absurd i) in
     subst (λ (s : Server). Each (Shaped IsFine) s.files) (sym r.0) r.1

@@ -27,7 +27,7 @@ use Rattle.relation_law.proofs.CallsMid.{held_as}
 none_of_none : (offset p : ℕ) → byte_for offset [] p ≡ None
 none_of_none offset p = elim (cases_Bool (nat_lt p offset)) [ inl t ↦ rw t refl | inr f ↦ rw f refl ]
 
-no_byte : (offset p v : ℕ) → byte_for offset [] p ≡ Some v → ⊥
+pub no_byte : (offset p v : ℕ) → byte_for offset [] p ≡ Some v → ⊥
 no_byte offset p v e = cc (sym (none_of_none offset p) ∙ e)
 
 bytes_some : (op : CallOp) (p v : ℕ) → byte_for (span_of op).offset (bytes_of op) p ≡ Some v → (span_of op).length ≡ 0 → ⊥

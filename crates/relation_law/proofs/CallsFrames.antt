@@ -78,7 +78,7 @@ last_below f x c m (suc n) low = rw (updated_other f m x n (λ e. absurd (omega 
     (ap (λ y. if (f n).is_write && ((f n).client == c) then n else y) (last_below f x c m n (omega (arith, low))))
 
 -- an entry that isn't a write of the client
-last_more : (s : State) (x : Start) (c : ℕ) → (x.is_write && (x.client == c)) ≡ false →
+pub last_more : (s : State) (x : Start) (c : ℕ) → (x.is_write && (x.client == c)) ≡ false →
     last_write (updated s.start s.count x) c (s.count + 1) ≡ last_write s.start c s.count
 unfolding last_write
 last_more s x c e = rw (add-one, updated_same s.start s.count x, e) (last_below s.start x c s.count s.count (omega arith))

@@ -60,6 +60,97 @@ module _ (file : ℕ) (m : RawMap) (c : ℕ) (s : State) (x : Client) (slot : Op
   abbrev o : Option Answer
   o = kept_for slot x.outstanding
 
+  -- ---- nothing comes to the call
+
+  -- what the call needs of the server it needs under its grant
+  abbrev pub HasNeeds : Type 0
+  HasNeeds =
+      (op : CallOp) (n : Need) → x.call ≡ Some (record { op = op; phase = Needs n }) → (file_of op == file) ≡ true →
+      NeedHas n (held_of x.held file)
+
+  -- the call that is pending
+  pub about_call : (call : Call) → x.call ≡ Some call → pending_op x ≡ Some call.op
+  about_call call is = rw is refl
+
+  pends : (p : Option CallOp) → PendsAt file m s c o p None [] x.call
+  pends p = by_call x.call refl
+    where
+      on_by : (b : Bool) (call : Call) → CallOn b m s c call o → PhaseOn b m s c call o []
+      on_by true call w = pends_all m s c call.op o call.phase w
+      on_by false call w = w
+
+      at_end : (q : Option CallOp) → IsIdle s c → EndIs file s c q None
+      at_end None w = w
+      at_end (Some q) w = w
+
+      at_call : (z : Option Call) → x.call ≡ z → CallAt file m s c o z
+      at_call z e = subst (λ y. CallAt file m s c o y) e k.call
+
+      by_call : (z : Option Call) → x.call ≡ z → PendsAt file m s c o p None [] x.call
+      by_call None e = rw e (at_end p (at_call None e))
+      by_call (Some call) e = rw e (on_by (file_of call.op == file) call (at_call (Some call) e))
+
+  -- with other grants that are due, and answers to recalls
+  pub as_it_is : HasNeeds → (d : Done) → d.client.call ≡ x.call → d.client.outstanding ≡ x.outstanding → d.client.held ≡ x.held →
+      d.outcome ≡ None → d.requests ≡ [] → d.commands ≡ [] → IsMid file m s c o (pending_op x) d
+  as_it_is has d call out held none unasked quiet_ = record {
+    held = rw held (held_same d.client call out);
+    call = rw (call, none, quiet_) (pends (pending_op x));
+    fresh = k.fresh;
+    used = k.used;
+    about = λ z e. about_call z (sym call ∙ e);
+    ended = λ u e. absurd (cc (sym none ∙ e));
+    unasked = unasked;
+    needs = λ p n e b. rw held (has p n (sym call ∙ e) b);
+  }
+    where
+      held_same : (z : Client) → z.call ≡ x.call → z.outstanding ≡ x.outstanding → HeldIs file m s c z o (held_of x.held file)
+      held_same z e f = by_held (held_of x.held file) k.held
+        where
+          by_held : (h : Option Held) → HeldIs file m s c x o h → HeldIs file m s c z o h
+          by_held (Some h) w = w
+          by_held None w = rw (e, f) w
+
+  -- ---- a call begins
+
+  pub starts : (op : CallOp) → x.call ≡ None → IsMid file m s c o (Some op) (quiet (with_start x op))
+  starts op none = record {
+    held =
+        held_plain file m s c x (with_start x op) o o (held_of x.held file) (ap (reports_on file) none)
+        (plain (file_of op == file)) k.held;
+    call = on_by (file_of op == file);
+    fresh = k.fresh;
+    used = k.used;
+    about = λ call e. ap (λ (z : Call). Some z.op) (same_call (record { op = op; phase = Starts }) call e);
+    ended = λ u e. absurd (cc e);
+    unasked = refl;
+    needs =
+        λ p n e b. absurd (starts_needs n (phase_same (record { op = op; phase = Starts }) (record {
+          op = p;
+          phase = Needs n;
+        }) e));
+  }
+    where
+      idle : IsIdle s c
+      idle = subst (λ z. CallAt file m s c o z) none k.call
+
+      plain : (b : Bool) → (b && waits_report Starts) ≡ false
+      plain true = refl
+      plain false = refl
+
+      on_by : (b : Bool) → PhaseOn b m s c (record { op = op; phase = Starts }) o []
+      on_by true = (refl, idle)
+      on_by false = idle
+
+      same_call : (y z : Call) → Some y ≡ Some z → y ≡ z
+      same_call y z q = cc q
+
+      phase_same : (y z : Call) → Some y ≡ Some z → y.phase ≡ z.phase
+      phase_same y z q = cc q
+
+      starts_needs : (n : Need) → Starts ≡ Needs n → ⊥
+      starts_needs n q = cc q
+
   -- What is asked of the begin and the end of the turn, behind the events of its first line.
   pub record EndsWell (es : List Event) (d : Done)
       (w : IsMid file m (after_all s es) c (kept_for slot d.client.outstanding) (op_in x i) d) : Type 0 where
@@ -72,8 +163,7 @@ module _ (file : ℕ) (m : RawMap) (c : ℕ) (s : State) (x : Client) (slot : Op
   -- What is asked of the client and its turn.
   pub record OwnFits : Type 0 where
     pub safe : Safe s
-    pub has : (op : CallOp) (n : Need) → x.call ≡ Some (record { op = op; phase = Needs n }) → (file_of op == file) ≡ true →
-        NeedHas n (held_of x.held file)
+    pub has : HasNeeds
     pub unheld : IsUnheld x i → ⊥
     pub answered : (a : Answer) (r : Request) → IsAnswered x i a → x.outstanding ≡ Some r →
         (kept_by slot r ≡ Some a) × IsOutstanding file m s slot c x r × (s.slot c ≡ last_of slot) × AnswerFits file x a r
@@ -101,102 +191,17 @@ module _ (file : ℕ) (m : RawMap) (c : ℕ) (s : State) (x : Client) (slot : Op
         let e : EndsWell es d w = fits.ends es first d is turn w in
         whole_turn file m c slot (after_all s es) (op_in x i) d w e.begin e.formed e.holding e.slots e.end
 
-    -- ---- nothing comes to the call
-
-    -- the call that is pending
-    about_call : (call : Call) → x.call ≡ Some call → pending_op x ≡ Some call.op
-    about_call call is = rw is refl
-
-    pends : (p : Option CallOp) → PendsAt file m s c o p None [] x.call
-    pends p = by_call x.call refl
-      where
-        on_by : (b : Bool) (call : Call) → CallOn b m s c call o → PhaseOn b m s c call o []
-        on_by true call w = pends_all m s c call.op o call.phase w
-        on_by false call w = w
-
-        at_end : (q : Option CallOp) → IsIdle s c → EndIs file s c q None
-        at_end None w = w
-        at_end (Some q) w = w
-
-        at_call : (z : Option Call) → x.call ≡ z → CallAt file m s c o z
-        at_call z e = subst (λ y. CallAt file m s c o y) e k.call
-
-        by_call : (z : Option Call) → x.call ≡ z → PendsAt file m s c o p None [] x.call
-        by_call None e = rw e (at_end p (at_call None e))
-        by_call (Some call) e = rw e (on_by (file_of call.op == file) call (at_call (Some call) e))
-
-    -- with other grants that are due, and answers to recalls
-    as_it_is : (d : Done) → d.client.call ≡ x.call → d.client.outstanding ≡ x.outstanding → d.client.held ≡ x.held →
-        d.outcome ≡ None → d.requests ≡ [] → d.commands ≡ [] → IsMid file m s c o (pending_op x) d
-    as_it_is d call out held none unasked quiet_ = record {
-      held = rw held (held_same d.client call out);
-      call = rw (call, none, quiet_) (pends (pending_op x));
-      fresh = k.fresh;
-      used = k.used;
-      about = λ z e. about_call z (sym call ∙ e);
-      ended = λ u e. absurd (cc (sym none ∙ e));
-      unasked = unasked;
-      needs = λ p n e b. rw held (fits.has p n (sym call ∙ e) b);
-    }
-      where
-        held_same : (z : Client) → z.call ≡ x.call → z.outstanding ≡ x.outstanding → HeldIs file m s c z o (held_of x.held file)
-        held_same z e f = by_held (held_of x.held file) k.held
-          where
-            by_held : (h : Option Held) → HeldIs file m s c x o h → HeldIs file m s c z o h
-            by_held (Some h) w = w
-            by_held None w = rw (e, f) w
-
-    -- ---- a call begins
-
-    starts : (op : CallOp) → x.call ≡ None → IsMid file m s c o (Some op) (quiet (with_start x op))
-    starts op none = record {
-      held =
-          held_plain file m s c x (with_start x op) o o (held_of x.held file) (ap (reports_on file) none)
-          (plain (file_of op == file)) k.held;
-      call = on_by (file_of op == file);
-      fresh = k.fresh;
-      used = k.used;
-      about = λ call e. ap (λ (z : Call). Some z.op) (same_call (record { op = op; phase = Starts }) call e);
-      ended = λ u e. absurd (cc e);
-      unasked = refl;
-      needs =
-          λ p n e b. absurd (starts_needs n (phase_same (record { op = op; phase = Starts }) (record {
-            op = p;
-            phase = Needs n;
-          }) e));
-    }
-      where
-        idle : IsIdle s c
-        idle = subst (λ z. CallAt file m s c o z) none k.call
-
-        plain : (b : Bool) → (b && waits_report Starts) ≡ false
-        plain true = refl
-        plain false = refl
-
-        on_by : (b : Bool) → PhaseOn b m s c (record { op = op; phase = Starts }) o []
-        on_by true = (refl, idle)
-        on_by false = idle
-
-        same_call : (y z : Call) → Some y ≡ Some z → y ≡ z
-        same_call y z q = cc q
-
-        phase_same : (y z : Call) → Some y ≡ Some z → y.phase ≡ z.phase
-        phase_same y z q = cc q
-
-        starts_needs : (n : Need) → Starts ≡ Needs n → ⊥
-        starts_needs n q = cc q
-
     -- ---- by what comes
 
     -- the machine's answer is the same where the outstanding request is
-    as_out : (es : List Event) (op : Option CallOp) (d : Done) (q : Option Answer) → kept_for slot d.client.outstanding ≡ q →
+    pub as_out : (es : List Event) (op : Option CallOp) (d : Done) (q : Option Answer) → kept_for slot d.client.outstanding ≡ q →
         op ≡ op_in x i → IsMid file m (after_all s es) c q op d →
         IsMid file m (after_all s es) c (kept_for slot d.client.outstanding) (op_in x i) d
     as_out es op d q e f w =
         subst (λ z. IsMid file m (after_all s es) c z (op_in x i) d) (sym e)
         (subst (λ p. IsMid file m (after_all s es) c q p d) f w)
 
-    heard_op : (from : Node) (b : Message) → i ≡ Hears from b → pending_op x ≡ op_in x i
+    pub heard_op : (from : Node) (b : Message) → i ≡ Hears from b → pending_op x ≡ op_in x i
     heard_op from b is = rw is refl
 
     answer_goes : (a : Answer) → (n : IsAnswered x i a) →
@@ -247,17 +252,17 @@ module _ (file : ℕ) (m : RawMap) (c : ℕ) (s : State) (x : Client) (slot : Op
     none_so : (n : ℕ) (es : List Event) → n ≡ 0 → where_so (not (n == 0)) es ≡ []
     none_so n es e = rw (eq-eqb n 0 e) refl
 
-    nothing_told : (op : Option CallOp) → table.ended s file c op (Some (WriteOk 0)) ≡ []
+    pub nothing_told : (op : Option CallOp) → table.ended s file c op (Some (WriteOk 0)) ≡ []
     nothing_told None = refl
     nothing_told (Some op) = elim (cases_Bool (file_of op == file)) [
       | inl t ↦ rw t (none_so 0 (table.write_told s c) refl)
       | inr n ↦ rw n refl
     ]
 
-    called_op : (op : CallOp) → i ≡ Calls op → Some op ≡ op_in x i
+    pub called_op : (op : CallOp) → i ≡ Calls op → Some op ≡ op_in x i
     called_op op is = rw is refl
 
-    left_op : i ≡ Leaves → pending_op x ≡ op_in x i
+    pub left_op : i ≡ Leaves → pending_op x ≡ op_in x i
     left_op is = rw is refl
 
     rests : Goes_ [] (still x)
@@ -297,14 +302,14 @@ module _ (file : ℕ) (m : RawMap) (c : ℕ) (s : State) (x : Client) (slot : Op
       replied = reply_goes;
       unheld = λ u es t. absurd (fits.unheld u);
       recalled = λ q is. finish [] (obeys x q) (Stays refl refl refl refl refl refl refl)
-          (as_out [] (pending_op x) (obeys x q) o refl (heard_op _ _ is) (as_it_is (obeys x q) refl refl refl refl refl refl));
+          (as_out [] (pending_op x) (obeys x q) o refl (heard_op _ _ is) (as_it_is fits.has (obeys x q) refl refl refl refl refl refl));
       unmatched = λ q is. finish [] (no_match x q) (Stays refl refl refl refl refl refl refl)
           (as_out [] (pending_op x) (no_match x q) o refl (heard_op _ _ is)
-          (as_it_is (no_match x q) refl refl refl refl refl refl));
+          (as_it_is fits.has (no_match x q) refl refl refl refl refl refl));
       timed = time_goes;
       leaves = λ is. finish [] (quiet (record x { due = all_due x.due x.held })) (Stays refl refl refl refl refl refl refl)
           (as_out [] (pending_op x) (quiet (record x { due = all_due x.due x.held })) o refl (left_op is)
-          (as_it_is (quiet (record x { due = all_due x.due x.held })) refl refl refl refl refl refl));
+          (as_it_is fits.has (quiet (record x { due = all_due x.due x.held })) refl refl refl refl refl refl));
       resends = λ is es t none. absurd (none is);
     }
 

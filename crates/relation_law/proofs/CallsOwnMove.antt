@@ -74,7 +74,7 @@ module _ (w : World) (h : List Line) (m : Move) (f g : File) (s : State) (k : Fo
       (client_before w m.action n (moves.acts w m.chosen m.action) by)
       (k.follows.related.clients n.client low).client
 
-  behind_is : whole_behind k
+  pub behind_is : whole_behind k
       ≡ after_all (after_all s (table.at_first s f.kept.number n.client n.state n.input))
       (joined (table.at_end (after_all s (table.at_first s f.kept.number n.client n.state n.input)) f.kept.number n.client
       (op_in n.state n.input) (step n.state n.input)))

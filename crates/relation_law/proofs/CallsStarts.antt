@@ -56,10 +56,10 @@ module _ (file c : ℕ) (x : Client) (call : Call) (call_is : x.call ≡ Some ca
         ((span_of call.op).offset + (span_of call.op).length) (part_of h.map (span_of call.op)) io.got io.timed
         (stores_of (a ∷ cs) ++ queue) k.commit has (λ p. refl) refl plan
 
-    sending : IsSending t c call.op io queue (a ∷ cs)
+    pub sending : IsSending t c call.op io queue (a ∷ cs)
     sending = record { entry = s.count; before = []; awaited = all; scattering = started }
 
-    first_events : table.sends s file c x (to_drive a)
+    pub first_events : table.sends s file c x (to_drive a)
         ≡ table.sends_first s c h call.op (Some a.ask.component) a.command g
     first_events = write_command file c x call call_is here h holds s g a has f.0 ∙ by_call (s.call c) k.at_
       where
@@ -70,7 +70,7 @@ module _ (file c : ℕ) (x : Client) (call : Call) (call_is : x.call ≡ Some ca
             ≡ table.sends_first s c h call.op (Some a.ask.component) a.command g
         by_call n e = rw e refl
 
-    same_behind : told s file c x (map to_drive (a ∷ cs)) ≡ told t file c x (map to_drive (a ∷ cs))
+    pub same_behind : told s file c x (map to_drive (a ∷ cs)) ≡ told t file c x (map to_drive (a ∷ cs))
     same_behind =
         told_by s file c x (to_drive a) (map to_drive cs)
         (table.sends_first s c h call.op (Some a.ask.component) a.command g) first_events
@@ -97,10 +97,10 @@ module _ (file c : ℕ) (x : Client) (call : Call) (call_is : x.call ≡ Some ca
     abbrev u : State
     u = gathered_none s c h call.op g
 
-    gathering : IsGathering h.map u c call.op s.count
+    pub gathering : IsGathering h.map u c call.op s.count
     gathering = gather_starts h.map s c call.op g idle has
 
-    idle_events : table.sends s file c x (to_drive a)
+    pub idle_events : table.sends s file c x (to_drive a)
         ≡ table.sends_behind s c h call.op (Some a.ask.component) a.command g
     idle_events = write_command file c x call call_is here h holds s g a has f.0 ∙ by_call (s.call c) idle.at_
       where
@@ -111,7 +111,7 @@ module _ (file c : ℕ) (x : Client) (call : Call) (call_is : x.call ≡ Some ca
             ≡ table.sends_behind s c h call.op (Some a.ask.component) a.command g
         by_call n e = rw e refl
 
-    same_none : told s file c x (map to_drive (a ∷ cs)) ≡ told u file c x (map to_drive (a ∷ cs))
+    pub same_none : told s file c x (map to_drive (a ∷ cs)) ≡ told u file c x (map to_drive (a ∷ cs))
     same_none =
         told_by s file c x (to_drive a) (map to_drive cs)
         (table.sends_behind s c h call.op (Some a.ask.component) a.command g) idle_events

@@ -101,7 +101,7 @@ module _ (file c : ℕ) (x : Client) (call : Call) (call_is : x.call ≡ Some ca
 
   -- ---- READs
 
-  read_command : (s : State) (g : Grant) (a : Awaited) → s.held c ≡ Some g → CommandFits x h false a →
+  pub read_command : (s : State) (g : Grant) (a : Awaited) → s.held c ≡ Some g → CommandFits x h false a →
       of_command s a ≡ where_so (is_idle (s.call c)) (table.starts c h call.op g)
   read_command s g a has f = under s g a has ∙ by_action (is_write_action a.command.action) f.action
     where
@@ -112,7 +112,7 @@ module _ (file c : ℕ) (x : Client) (call : Call) (call_is : x.call ≡ Some ca
       by_action true e = absurd (true≢false e)
 
   -- while an entry runs nothing more starts
-  reads_on : (s : State) (g : Grant) (cs : List Awaited) (j : ℕ) → s.held c ≡ Some g → s.call c ≡ AtRead j →
+  pub reads_on : (s : State) (g : Grant) (cs : List Awaited) (j : ℕ) → s.held c ≡ Some g → s.call c ≡ AtRead j →
       CommandsFit x h false cs → told s file c x (map to_drive cs) ≡ s
   unfolding told
   reads_on s g [] j has at_ f = refl

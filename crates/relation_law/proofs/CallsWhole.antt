@@ -102,7 +102,7 @@ module _ (file : ℕ) (m : RawMap) (c : ℕ) (slot : Option Slot) (s : State) (o
   abbrev e : Done
   e = begun d
 
-  mid : IsMid file m s c (kept_for slot e.client.outstanding) op e
+  pub mid : IsMid file m s c (kept_for slot e.client.outstanding) op e
   mid = subst (λ r. IsMid file m s c (kept_for slot r) op e) (sym (begun_outstanding d))
       (begun_mid file m c (kept_for slot d.client.outstanding) s op d k begin)
 
@@ -123,7 +123,7 @@ module _ (file : ℕ) (m : RawMap) (c : ℕ) (slot : Option Slot) (s : State) (o
   IsWholeTurn t =
       IsClient file m (after_all s (joined (table.at_end s file c op t))) c t.client (kept_for slot t.client.outstanding)
 
-  mid_by : (u : Option Outcome) → e.outcome ≡ u → Formed s →
+  pub mid_by : (u : Option Outcome) → e.outcome ≡ u → Formed s →
       IsMid file m (told_end u) c (kept_for slot e.client.outstanding) op (with_outcome e None)
   mid_by None is formed = subst (λ z. IsMid file m s c (kept_for slot e.client.outstanding) op (with_outcome e z)) is mid
   mid_by (Some u) is formed = ended_mid file m c (kept_for slot e.client.outstanding) s op e u is formed mid
@@ -139,7 +139,7 @@ module _ (file : ℕ) (m : RawMap) (c : ℕ) (slot : Option Slot) (s : State) (o
       (kept_for slot y.client.outstanding))
       (outcome_apart e None) z
 
-  lines_by : (u : Option Outcome) → e.outcome ≡ u →
+  pub lines_by : (u : Option Outcome) → e.outcome ≡ u →
       after_all s (joined (table.at_end s file c op (finished d)))
       ≡ told (told_end u) file c (progressed e).client (sends_of (progressed e))
   unfolding finished

@@ -106,11 +106,11 @@ client_calms c s (e ∷ es) all calm = (calm, client_calms c (after s e) es all.
 
 -- ---- runs
 
-calms_more : (s : State) (es fs : List Event) → Calms s es → Calms (after_all s es) fs → Calms s (es ++ fs)
+pub calms_more : (s : State) (es fs : List Event) → Calms s es → Calms (after_all s es) fs → Calms s (es ++ fs)
 calms_more s [] fs k m = m
 calms_more s (e ∷ es) fs k m = (k.0, calms_more (after s e) es fs k.1 m)
 
-calm_end : (s : State) (es : List Event) → Calms s es → IsCalm (after_all s es)
+pub calm_end : (s : State) (es : List Event) → Calms s es → IsCalm (after_all s es)
 calm_end s [] k = k
 calm_end s (e ∷ es) k = calm_end (after s e) es k.1
 

@@ -1,21 +1,18 @@
 -- A move of a client: the components are as they were, where each WRITE that it newly sends has a nonce above all that the
 -- machine's client had used.
 -- Towards `ComponentsGoOn` (`specs/Steps.antt`).
-use Rattle.std.proofs.Common.{◌≡◌, ◌⊎◌, ℕ, ◌<◌, ◌≤◌, ◌||◌, Bool, false, List, [], ◌∷◌, slice_get, Some, sym, ap, subst, ◌∙◌, inl, inr, arith}
-use Rattle.osd_commands.specs.declared.commands.Command.{Command}
+use Rattle.std.proofs.Common.{◌≡◌, ℕ, ◌≤◌, ◌||◌, Bool, false, List, [], ◌∷◌, slice_get, Some, sym, ap, subst, ◌∙◌, arith}
 use Rattle.world_history.specs.ServerNames.{File, Component}
 use Rattle.world_history.specs.State.{World, at_number}
-use Rattle.exchange_law.specs.Sent.{HasSent}
 use Rattle.fence_law.specs.Words.{In}
-use Rattle.fence_law.specs.State.{State, Event, Write}
+use Rattle.fence_law.specs.State.{State, Event}
 use Rattle.fence_law.specs.State.Event.{Sends}
 use Rattle.fence_law.specs.Machine.{Allowed, Lawful, after, after_all}
 use Rattle.fence_law.proofs.Words.{updated_read}
 use Rattle.file_simulation.specs.Components.{AreComponents, object_on, has_failed}
-use Rattle.file_simulation.specs.Messages.{AreSent, WasSent}
-use Rattle.relation_law.specs.DriveHearing.{WereSent, DifferByNonce}
+use Rattle.relation_law.specs.DriveHearing.{SendsAbove}
 use Rattle.relation_law.specs.Frames.{ServerStays}
-use Rattle.relation_law.proofs.ComponentsKept.{SendsAbove, stands_kept, place_kept}
+use Rattle.relation_law.proofs.ComponentsKept.{stands_kept, place_kept}
 
 -- ---- the nonces of the machine's clients
 
@@ -30,22 +27,6 @@ nonce_grows b (e ∷ es) l d =
     let one = nonce_one b e l.0 d in
     let rest = nonce_grows (after b e) es l.1 d in
     omega (arith, one, rest)
-
-grown_one : (b : State) (e : Event) → Allowed b e → (m : Write) → In m (after b e).writes →
-    In m b.writes ⊎ (b.nonce m.holder < m.nonce)
-grown_one b (Sends c k g j i v) a m (inl e) =
-    inr (omega (arith, a.new, ap (λ (w : Write). w.nonce) e, ap (λ (w : Write). b.nonce w.holder) e))
-grown_one b (Sends c k g j i v) a m (inr o) = inl o
-grown_one b e a m i = inl i
-
--- a WRITE that was sent meanwhile is above them
-pub grown : (b : State) (es : List Event) → Lawful b es → (m : Write) → In m (after_all b es).writes →
-    In m b.writes ⊎ (b.nonce m.holder < m.nonce)
-grown b [] l m i = inl i
-grown b (e ∷ es) l m i = elim (grown (after b e) es l.1 m i) [
-  | inl old ↦ grown_one b e l.0 m old
-  | inr high ↦ let one = nonce_one b e l.0 m.holder in inr (omega (arith, high, one))
-]
 
 -- ---- a move of a client
 
@@ -86,28 +67,3 @@ module _ (s : State) (w v : World) (f : File) (es : List Event) (l : Lawful s es
         };
         next = λ e. e;
       }) stands)
-
-  -- and so they are: the machine sent each of them under its nonce, and no two commands of a client have one
-  pub sends_above : AreSent (after_all s es) v f → WereSent s w → DifferByNonce v →
-      ((c d : ℕ) (x : Command) → HasSent w c d x → HasSent v c d x) → (k : ℕ) (at : Component) →
-      slice_get f.kept.components k ≡ Some at → s.lost k ≡ false → SendsAbove w v (after_all s es) k at.object
-  sends_above sent were differ later k at there lost c d x below has write object =
-      let was : WasSent t c k x =
-      sent.writes c d k x at has write there object (ap (λ (q : ℕ → Bool). q k) stay.lost ∙ lost) in
-      elim (grown s es l was.write was.sent) [
-        | inl old ↦
-            let y = were was.write old in
-            let mine : HasSent w c y.0 y.1 = subst (λ (n : ℕ). HasSent w n y.0 y.1) was.holder y.2 in
-            let same = differ c d y.0 x y.1 has (later c y.0 y.1 mine) (sym was.nonce ∙ sym y.3) in
-            inl (subst (λ (n : ℕ). HasSent w c n x) (sym same.0) (subst (λ (z : Command). HasSent w c y.0 z) (sym same.1) mine))
-        | inr high ↦
-            let low = (is k at there).nonces c below in
-            inr (omega (
-              arith,
-              high,
-              low,
-              was.nonce,
-              ap s.nonce was.holder,
-              ap (λ (q : ℕ → ℕ → ℕ). q k c) stay.last_nonce,
-            ))
-      ]

@@ -1,9 +1,13 @@
 -- Behind each whole move the components are as the machine has them, and it has the replies to what stands in lanes.
 -- Towards `ComponentsGoOn` (`specs/Steps.antt`).
-use Rattle.std.proofs.Common.{◌≡◌, ◌++◌, ℕ, ◌<◌, Bool, true, false, List, [], ◌∷◌, length, take, zero, suc, Option, Some, None, refl, sym, ap, subst, ◌∙◌, inl, inr, arith}
+use Rattle.std.proofs.Common.{◌≡◌, ◌⊎◌, ◌++◌, ℕ, ◌<◌, Bool, true, false, List, [], ◌∷◌, length, take, zero, suc, Option, Some, None, refl, sym, ap, subst, ◌∙◌, inl, inr, arith}
 use Rattle.std.proofs.lemmas.List.{append-nil}
 use Rattle.std.proofs.lemmas.Option.{slice_get_within}
+use Rattle.osd_commands.specs.declared.actions.Action.TheVariants.{Write}
+use Rattle.osd_commands.specs.declared.commands.Command.{Command}
 use Rattle.osd_objects.specs.Store.{lane_or_none}
+use Rattle.scenario_text.specs.declared.names.TheConstants.{CLIENTS}
+use Rattle.exchange_law.specs.Sent.{HasSent}
 use Rattle.scenario_text.specs.declared.line.Line.{Line}
 use Rattle.server_rules.specs.Files.{file_at}
 use Rattle.server_rules.specs.History.{Input, step}
@@ -41,7 +45,7 @@ use Rattle.relation_law.specs.Frames.{AreAll, IsOfClient, IsOfDrive, ServerStays
 use Rattle.relation_law.specs.Steps.{Follows, FollowsWhole, owed, whole_behind}
 use Rattle.relation_law.proofs.FramesStay.{all_joined, server_stays_all}
 use Rattle.relation_law.proofs.FramesParties.{by_client_lines, by_drive_lines, client_goes, server_alone, server_rests, server_steps, drive_quiet}
-use Rattle.relation_law.proofs.ComponentsClients.{client_components, sends_above}
+use Rattle.relation_law.proofs.ComponentsClients.{client_components}
 use Rattle.relation_law.proofs.ComponentsMachine.{right_run, single_run}
 use Rattle.relation_law.proofs.RequestsMoments.{joined_led}
 use Rattle.relation_law.proofs.ComponentsMoves.{none_joined, joined_more, step_components, step_replied}
@@ -137,12 +141,13 @@ module _ (w : World) (h : List Line) (m : Move) (f g : File) (s : State) (moment
     by = client_goes w h moment m is_due x is
 
     pub by_client : Lawful s (joined (events_of s w (owed k) f m)) →
-        OfClients s (after_all s (joined (events_of s w (owed k) f m))) w (move w m).world f →
+        OfClients s w (move w m).world f →
         AreComponents (after_all s (joined (events_of s w (owed k) f m))) (move w m).world f
     by_client lawful o =
         client_components s w v f (joined (events_of s w (owed k) f m)) lawful stay by.drives k.components
-        (sends_above s w v f (joined (events_of s w (owed k) f m)) lawful stay by.drives k.components o.sent o.were o.differ
-        o.later)
+        (λ n at there stands.
+        subst (λ (q : ℕ → ℕ → ℕ). (c d : ℕ) (y : Command) → c < CLIENTS → HasSent v c d y → y.action ≡ Write →
+        y.object ≡ at.object → HasSent w c d y ⊎ (q n c < y.nonce)) (sym stay.last_nonce) (o n at there stands))
 
     pub client_replied : AreReplied (after_all s (joined (events_of s w (owed k) f m))) (move w m).world f
     client_replied c i at l below found lost lane =
@@ -156,7 +161,7 @@ module _ (w : World) (h : List Line) (m : Move) (f g : File) (s : State) (moment
   -- ---- of a drive
 
   module _ (none : going_in w m.action ≡ None) (nothing : input_in w m.action ≡ None) where
-    its_events : joined (events_of s w (owed k) f m) ≡ joined (drive_events s w (owed k) f m.action)
+    pub its_events : joined (events_of s w (owed k) f m) ≡ joined (drive_events s w (owed k) f m.action)
     its_events =
         joined_led m.action (events_at s w (owed k) f m (going_in w m.action))
         ∙ ap (λ (o : Option Going). joined (events_at s w (owed k) f m o)) none
@@ -207,10 +212,10 @@ module _ (w : World) (h : List Line) (m : Move) (f g : File) (s : State) (moment
       none : going_in w m.action ≡ None
       none = server_alone w m.action i is
 
-      goes_there : file_at (step w.server m.chosen i).state.files f.kept.number ≡ Some g
+      pub goes_there : file_at (step w.server m.chosen i).state.files f.kept.number ≡ Some g
       goes_there = ap (λ (x : Server). file_at x.files f.kept.number) (sym (server_steps w m i is)) ∙ goes
 
-      events_are : joined (events_of s w (owed k) f m)
+      pub events_are : joined (events_of s w (owed k) f m)
           ≡ joined (table.server_goes s w (step w.server m.chosen i) i (Some f) (Some g))
       events_are =
           joined_led m.action (events_at s w (owed k) f m (going_in w m.action))
@@ -225,7 +230,7 @@ module _ (w : World) (h : List Line) (m : Move) (f g : File) (s : State) (moment
           (file_at (step w.server m.chosen i).state.files f.kept.number))) there
           ∙ ap (λ (o : Option File). joined (table.server_goes s w (step w.server m.chosen i) i (Some f) o)) goes_there
 
-      alike : AwaitedAreSent w → IsAlike w (move w m).world
+      pub alike : AwaitedAreSent w → IsAlike w (move w m).world
       alike sent = server_move_alike w m.chosen sent m.action (allowed_at w h moment m.action is_due) none i is
 
       abbrev Rebuilt : List Event → Type 0

@@ -4,21 +4,13 @@ use Rattle.std.proofs.Common.{◌≡◌, ◌⊎◌, ℕ, ◌+◌, ◌<◌, ◌�
 use Rattle.osd_objects.specs.declared.lanes.LaneEntry.{LaneEntry}
 use Rattle.osd_objects.specs.declared.object.StoredObject.{StoredObject}
 use Rattle.osd_objects.specs.Store.{lane_or_none}
-use Rattle.osd_commands.specs.declared.actions.Action.TheVariants.{Write}
-use Rattle.osd_commands.specs.declared.commands.Command.{Command}
 use Rattle.scenario_text.specs.declared.names.TheConstants.{CLIENTS}
 use Rattle.world_history.specs.ServerNames.{File, Component}
 use Rattle.world_history.specs.State.{World}
-use Rattle.exchange_law.specs.Sent.{HasSent}
 use Rattle.fence_law.specs.State.{State}
 use Rattle.fence_law.specs.Words.{In as InRun}
 use Rattle.file_simulation.specs.Components.{IsUnmade, ObjectIs, LaneIs, StandsAs, IsComponent, is_lost_in, object_of}
-
--- no client sent a new WRITE to the object, but with a nonce above the last
-abbrev pub SendsAbove : (w v : World) → State → (k object : ℕ) → Type 0
-SendsAbove w v t k object =
-    (c d : ℕ) (x : Command) → c < CLIENTS → HasSent v c d x → x.action ≡ Write → x.object ≡ object →
-    HasSent w c d x ⊎ (t.last_nonce k c < x.nonce)
+use Rattle.relation_law.specs.DriveHearing.{SendsAbove}
 
 -- nothing of a component that stands is changed but what the network has
 pub record KeepsObject (s t : State) (w v : World) (f g : File) (k : ℕ) (at : Component) : Type 0 where

@@ -162,7 +162,7 @@ module _ (s : State) (w v : World) (f g : File) (i : Input) (chosen : List ℕ) 
   told : AreTold s t0 w f i g.kept did.notes
   told = step_told s w f g chosen is there r.apart r.aimed i r.fair goes
 
-  told_then : (k : ℕ) (at : Component) → slice_get g.kept.components k ≡ Some at →
+  pub told_then : (k : ℕ) (at : Component) → slice_get g.kept.components k ≡ Some at →
       Told s (after_all s step_events) w f did.notes k at
   told_then k at found =
       subst (λ (u : State). Told s u w f did.notes k at) (sym state_is)

@@ -165,13 +165,13 @@ none_among : (j n : ℕ) → (j ≡ n → ⊥) → among j (n ∷ []) ≡ false
 unfolding among
 none_among j n other = rw (ne_eqb j n other) refl
 
-lacking_at : (cs : List Component) (n : ℕ) (at : Component) → is_lacking cs n ≡ true → slice_get cs n ≡ Some at →
+pub lacking_at : (cs : List Component) (n : ℕ) (at : Component) → is_lacking cs n ≡ true → slice_get cs n ≡ Some at →
     at.missing ≡ true
 lacking_at [] n at lacks e = absurd (cc e)
 lacking_at (x ∷ cs) zero at lacks e = ap (λ (y : Component). y.missing) (sym (same_Some x at e)) ∙ lacks
 lacking_at (x ∷ cs) (suc n) at lacks e = lacking_at cs n at lacks e
 
-set_other : (cs : List Component) (n j : ℕ) (x : Component) → (j ≡ n → ⊥) → slice_get (slice_set cs n x) j ≡ slice_get cs j
+pub set_other : (cs : List Component) (n j : ℕ) (x : Component) → (j ≡ n → ⊥) → slice_get (slice_set cs n x) j ≡ slice_get cs j
 set_other [] n j x other = refl
 set_other (y ∷ cs) zero zero x other = absurd (other refl)
 set_other (y ∷ cs) zero (suc j) x other = refl

@@ -6,23 +6,31 @@ use Rattle.world_history.specs.ServerNames.{File, Component}
 use Rattle.world_history.specs.State.{World, at_number}
 use Rattle.history_law.specs.Fencing.{Reached}
 use Rattle.component_law.specs.Standing.{StandsBy, IsSettled, IsStanding, IsLeft}
-use Rattle.file_simulation.specs.Components.{has_failed, object_on, object_of}
+use Rattle.file_simulation.specs.Components.{has_failed, is_lost_in, object_of}
 use Rattle.relation_law.specs.ComponentsBehind.{IsUnready, AreUnready}
 use Rattle.relation_law.proofs.DriveMoves.{got_in}
 
--- what was reached is there
-abbrev pub ReachedAreThere : Reached → World → Type 0
-ReachedAreThere R v = (d o tag : ℕ) → R d o tag ≡ true → object_on (at_number v.drives d) o ≡ None → ⊥
+-- where the object of a component isn't there, and its drive hasn't failed, it hasn't reached the file's tag
+abbrev pub ReachedAreThere : Reached → World → File → Type 0
+ReachedAreThere R v g =
+    (k : ℕ) (at : Component) → slice_get g.kept.components k ≡ Some at → is_lost_in v at ≡ false → object_of v at ≡ None →
+    R at.drive at.object g.kept.tag ≡ true → ⊥
 
 unless_missing : (a b : Bool) → (a || b) ≡ false → a ≡ false
 unless_missing true b e = absurd (cc e)
 unless_missing false b e = refl
 
-module _ (R : Reached) (v : World) (g : File) (there : ReachedAreThere R v) (k : ℕ) (at : Component)
-    (found : slice_get g.kept.components k ≡ Some at) (present : at.missing ≡ false) (none : object_of v at ≡ None) where
+module _ (R : Reached) (v : World) (g : File) (there : ReachedAreThere R v g) (k : ℕ) (at : Component)
+    (found : slice_get g.kept.components k ≡ Some at) (lost : is_lost_in v at ≡ false) (none : object_of v at ≡ None) where
+  present : at.missing ≡ false
+  present = unless_missing at.missing (has_failed (at_number v.drives at.drive)) lost
+
+  absent : R at.drive at.object g.kept.tag ≡ true → ⊥
+  absent = there k at found lost none
+
   unready : (is : IsSettled R g) → g.kept.ready ≡ false
   unready is = elim (cases_Bool g.kept.ready) [
-    | inl made ↦ absurd (there at.drive at.object g.kept.tag (is.made made at (got_in g.kept.components k at found) present) none)
+    | inl made ↦ absurd (absent (is.made made at (got_in g.kept.components k at found) present))
     | inr unmade ↦ unmade
   ]
 
@@ -39,7 +47,7 @@ module _ (R : Reached) (v : World) (g : File) (there : ReachedAreThere R v) (k :
         ungranted = (is.settled.unmade unmade).0;
         due = elim (is.each at (got_in g.kept.components k at found) present) [
           | inl creates ↦ inl creates
-          | inr reached ↦ absurd (there at.drive at.object g.kept.tag reached none)
+          | inr reached ↦ absurd (absent reached)
         ];
       }
 
@@ -48,6 +56,5 @@ module _ (R : Reached) (v : World) (g : File) (there : ReachedAreThere R v) (k :
   by_down false is = standing is
 
 -- so it is of a file that stands as its server has it
-pub are_unready : (R : Reached) (v : World) (g : File) → StandsBy v.down R g → ReachedAreThere R v → AreUnready v g
-are_unready R v g is there k at found lost none =
-    by_down R v g there k at found (unless_missing at.missing (has_failed (at_number v.drives at.drive)) lost) none v.down is
+pub are_unready : (R : Reached) (v : World) (g : File) → StandsBy v.down R g → ReachedAreThere R v g → AreUnready v g
+are_unready R v g is there k at found lost none = by_down R v g there k at found lost none v.down is

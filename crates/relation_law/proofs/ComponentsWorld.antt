@@ -44,7 +44,7 @@ use Rattle.relation_law.specs.DriveHearing.{IsLaidOut, AwaitedAreSent, DifferByN
 -- ---- clients
 
 module _ (q : Known) (w : World) (h : List Line) (k : IsMoment w h) (few : AreFew h) where
-  ran : ClientsRan w
+  pub ran : ClientsRan w
   ran = clients_ran q w h k (few_at w h k (omega (arith, few)))
 
   -- what each client awaits it has sent
@@ -66,7 +66,7 @@ module _ (q : Known) (w : World) (h : List Line) (k : IsMoment w h) (few : AreFe
   pub differ_by_nonce : DifferByNonce w
   differ_by_nonce c d e x y s t same = differ_at c d e x y s t same (at_number w.clients c) refl
 
-  awaited_by : (c : ℕ) (call : Call) (o : Option ClientAt) → at_number w.clients c ≡ o →
+  pub awaited_by : (c : ℕ) (call : Call) (o : Option ClientAt) → at_number w.clients c ≡ o →
       (state_of c o).call ≡ Some call → (y : Awaited) → In y (awaited_in call.phase) → HasSent w c y.drive y.command
   awaited_by c call None gone is y i = absurd (cc is)
   awaited_by c call (Some a) there is y i =

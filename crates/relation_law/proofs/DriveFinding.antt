@@ -68,7 +68,7 @@ found d object cs k e =
     subst (IsAt cs d object) same r.2
 
 -- one that is there is found
-is_found : (d object : ℕ) (cs : List Component) (n i : ℕ) → IsAt cs d object i →
+pub is_found : (d object : ℕ) (cs : List Component) (n i : ℕ) → IsAt cs d object i →
     (k : ℕ) × (component_at d object cs n ≡ Some k)
 unfolding component_at
 is_found d object [] n i is = absurd (cc is.there)

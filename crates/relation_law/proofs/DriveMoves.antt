@@ -224,7 +224,7 @@ module _ (s : State) (w : World) (f : File) (r : IsReady s w f) (senders : AreOf
 
 -- ---- injected bytes
 
-found_in : (p : Posted → Bool) (xs : List Posted) (y : Posted) → find p xs ≡ Some y → In y xs × (p y ≡ true)
+pub found_in : (p : Posted → Bool) (xs : List Posted) (y : Posted) → find p xs ≡ Some y → In y xs × (p y ≡ true)
 found_in p [] y e = absurd (cc e)
 found_in p (x ∷ xs) y e = elim (cases_Bool (p x)) [
   | inl here ↦
@@ -233,7 +233,7 @@ found_in p (x ∷ xs) y e = elim (cases_Bool (p x)) [
   | inr past ↦ let r = found_in p xs y (rw past at e) in (inr r.0, r.1)
 ]
 
-same_numbers : (xs ys : List ℕ) → pointwise nat_eq xs ys ≡ true → xs ≡ ys
+pub same_numbers : (xs ys : List ℕ) → pointwise nat_eq xs ys ≡ true → xs ≡ ys
 same_numbers [] [] e = refl
 same_numbers [] (y ∷ ys) e = absurd (cc e)
 same_numbers (x ∷ xs) [] e = absurd (cc e)
@@ -241,7 +241,7 @@ same_numbers (x ∷ xs) (y ∷ ys) e =
     let both = and_parts (nat_eq x y) _ e in
     ap (λ (n : ℕ). n ∷ xs) (eqb-true x y both.0) ∙ ap (λ (zs : List ℕ). y ∷ zs) (same_numbers xs ys both.1)
 
-for_drive : (d : ℕ) (to : Node) → is_for d to ≡ true → to ≡ node.Drive d
+pub for_drive : (d : ℕ) (to : Node) → is_for d to ≡ true → to ≡ node.Drive d
 for_drive d (node.Drive k) e = ap node.Drive (eqb-true k d e)
 for_drive d node.Server e = absurd (cc e)
 for_drive d (node.Client c) e = absurd (cc e)
@@ -290,7 +290,7 @@ module _ (s : State) (w : World) (f : File) (r : IsReady s w f) (senders : AreOf
 
 -- ---- each move of drives
 
-stands_and_hears : (o : Option DriveAt) → unless_deaf o ≡ None → (a : DriveAt) × (o ≡ Some a) × (is_deaf a ≡ false)
+pub stands_and_hears : (o : Option DriveAt) → unless_deaf o ≡ None → (a : DriveAt) × (o ≡ Some a) × (is_deaf a ≡ false)
 stands_and_hears None e = absurd (cc e)
 stands_and_hears (Some a) e = (a, refl, hears a.failed a.down e)
   where

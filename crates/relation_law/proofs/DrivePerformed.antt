@@ -28,6 +28,7 @@ use Rattle.relation_law.proofs.ComponentsMachine.{AreSingle}
 use Rattle.relation_law.proofs.ComponentsKept.{LanesKept, LanesGo}
 use Rattle.relation_law.proofs.DriveFinding.{IsAt, found, none_there, sent_found}
 use Rattle.relation_law.proofs.DriveObjects.{rests}
+use Rattle.relation_law.proofs.DriveReads.{sent_read}
 use Rattle.relation_law.proofs.DriveWorld.{IsBehind}
 use Rattle.relation_law.proofs.DrivePerforms.{PerformsWrite, performs_allowed, performs_stands, performs_lanes}
 use Rattle.relation_law.proofs.DriveServer.{PerformsServer, sets_allowed, sets_stands, repairs_allowed, repairs_stands, created_stands, created_unready, attr_stands, sets_lanes, repairs_lanes, attr_lanes, created_lanes}
@@ -92,7 +93,9 @@ module _ (s : State) (w v : World) (f : File) (r : IsReady s w f) (d : ℕ) (a b
       writes : x.action ≡ action.Write → GoWell s w v f (performs (find (is_write c k x.nonce) s.writes))
       writes write =
           let sent : WasSent s c k x =
-          r.sent.writes c d k x at.component of.sent write at.there (sym at.object_is) lost in
+          sent_read s c k of.command x of.reads of.capability write
+          (r.sent.writes c d k of.command at.component of.sent (sym of.reads.action ∙ write) at.there
+          (sym of.reads.object ∙ sym at.object_is) lost) in
           let q : PerformsWrite s w f d c k a x at.component = record {
             performed = p;
             of = of;
@@ -140,11 +143,11 @@ module _ (s : State) (w v : World) (f : File) (r : IsReady s w f) (d : ℕ) (a b
         lanes = lanes_idle s w v f d a b x p r.laid g becomes same r.components s (rests a.state x (inl read));
       }
 
-      pub of_client_goes : ShowsRight s w f c k x → GoWell s w v f (of_client s w f.kept.number k c x x.action)
+      pub of_client_goes : (x.action ≡ action.Read → ShowsRight s w f c k x) → GoWell s w v f (of_client s w f.kept.number k c x x.action)
       of_client_goes right = elim of.action [
         | inl read ↦
             subst (λ (y : Action). GoWell s w v f (of_client s w f.kept.number k c x y)) (sym read)
-            (shows (is_running f.kept.number x.nonce (client_of w c).call) refl read right)
+            (shows (is_running f.kept.number x.nonce (client_of w c).call) refl read (right read))
         | inr write ↦
             subst (λ (y : Action). GoWell s w v f (of_client s w f.kept.number k c x y)) (sym write) (writes write)
       ]
@@ -189,8 +192,9 @@ module _ (s : State) (w v : World) (f : File) (r : IsReady s w f) (d : ℕ) (a b
         components =
             go s touches_self
             (created_stands s w v f d k a b x at.component q g becomes e
-            (r.first d k x at.component (created_unready s w v f d k a b x at.component q g becomes e) at.there of.sent e
-            (sym at.object_is)));
+            (of.reads.tag
+            ∙ r.first d k of.command at.component (created_unready s w v f d k a b x at.component q g becomes e) at.there of.sent
+            (sym of.reads.action ∙ e) (sym of.reads.object ∙ sym at.object_is)));
         lanes = lanes_go s touches_self (created_lanes s w v f d k a b x at.component q g becomes e s);
       }
       of_server_by action.Read e = record { lawful = tt; components = rest action.Read e (inl e); lanes = rest_lanes (inl e) }

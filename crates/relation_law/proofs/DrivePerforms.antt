@@ -91,7 +91,9 @@ module _ (s : State) (w v : World) (f : File) (d c k : ℕ) (a b : DriveAt) (x :
 
   new_by : (o : Option LaneEntry) → lane_or_none (Some leaves.before) c ≡ o → LaneIs w s k c at.object o →
       s.last_nonce k c < x.nonce
-  new_by None e is = is d x p.of.sent p.write p.object
+  new_by None e is =
+      let low = is d p.of.command p.of.sent (sym p.of.reads.action ∙ p.write) (sym p.of.reads.object ∙ p.object) in
+      omega (arith, low, p.of.reads.nonce)
   new_by (Some l) e is = let low = lane_low l e in omega (arith, low, is)
 
   new : s.last_nonce k c < x.nonce

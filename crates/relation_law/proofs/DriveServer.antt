@@ -1,6 +1,6 @@
 -- A drive performs a command of the server on a component that isn't lost: a SET TAG, a repair's WRITE, or a CREATE.
 -- Towards `ComponentsGoOn` (`specs/Steps.antt`).
-use Rattle.std.proofs.Common.{◌≡◌, ℕ, ◌+◌, ◌-◌, ◌<◌, ◌≤◌, Bool, true, false, cond, [], length, slice_get, Option, Some, None, refl, sym, ap, subst, ◌∙◌, inl, inr, arith}
+use Rattle.std.proofs.Common.{◌≡◌, ℕ, ◌+◌, ◌-◌, ◌<◌, ◌≤◌, Bool, true, false, cond, List, [], length, slice_get, Option, Some, None, refl, sym, ap, subst, ◌∙◌, inl, inr, arith}
 use Rattle.std.specs.Prelude.{get_or}
 use Rattle.std.proofs.lemmas.Bool.{cases_Bool}
 use Rattle.std.proofs.lemmas.Bool.Decides.{nat_tests}
@@ -28,11 +28,12 @@ use Rattle.fence_law.proofs.Words.{updated_same}
 use Rattle.file_simulation.specs.Components.{IsMade, IsUnmade, ObjectIs, LaneIs, StandsAs, object_of}
 use Rattle.file_simulation.specs.Messages.{AreSent, HasCommanded}
 use Rattle.file_simulation.specs.Phases.{PhaseIs}
-use Rattle.file_simulation.specs.Jobs.{IsFresh, IsOfPhase, AreOwned, OweWords}
+use Rattle.file_simulation.specs.Jobs.{IsFresh, IsOfPhase, AreOwned, AreWords, AreSourced, OweWords}
 use Rattle.file_simulation.specs.DriveEvents.{cells_of}
 use Rattle.relation_law.specs.DriveHearing.{IsPerformed, IsOfServer}
 use Rattle.relation_law.proofs.DriveObjects.{Leaves, writes, sets_tag, sets_attr, creates, creates_none, written_at, written_outside}
 use Rattle.relation_law.proofs.ComponentsKept.{LanesKept}
+use Rattle.relation_law.proofs.DriveReads.{spent_read}
 use Rattle.relation_law.proofs.DriveWorld.{IsBehind, object_before, object_behind}
 
 -- the server's command x to component k, which stands, is performed
@@ -104,7 +105,9 @@ module _ (s : State) (w v : World) (f : File) (d k : ℕ) (a b : DriveAt) (x : C
     pub sets_allowed : AreSent s w f → Allowed s (SetsTag k)
     sets_allowed sent =
         subst (λ (n : ℕ). InRun n s.set_tags) (sym (tag_made.tag ∙ tag_leaves.tag))
-        (sent.raised d k x at p.of.sent raises p.there p.object)
+        (subst (λ (n : ℕ). InRun n s.set_tags) (sym p.of.reads.tag)
+        (sent.raised d k p.of.command at p.of.sent (sym p.of.reads.action ∙ raises) p.there
+        (sym p.of.reads.object ∙ p.object)))
 
     -- and leaves the component so
     pub sets_stands : StandsAs (after s (SetsTag k)) v f k at
@@ -144,21 +147,22 @@ module _ (s : State) (w v : World) (f : File) (d k : ℕ) (a b : DriveAt) (x : C
     row_made = subst (ObjectIs s f k at) (before_at ∙ row_leaves.there) p.stands.object
 
     -- it could still come
-    pub fresh : IsFresh s w f k x
+    pub fresh : IsFresh s w f k p.of.command
     fresh = record {
       component = at;
       there = p.there;
-      sent = subst (λ (n : ℕ). HasCommanded w n x) (sym p.drive) p.of.sent;
-      write = write;
-      object = p.object;
+      sent = subst (λ (n : ℕ). HasCommanded w n p.of.command) (sym p.drive) p.of.sent;
+      write = sym p.of.reads.action ∙ write;
+      object = sym p.of.reads.object ∙ p.object;
       unspent = λ spent. not_spent a x p.performed.hears is_free
           (subst (λ (o : Option DriveAt). IsSpent o x) p.performed.there
-          (subst (λ (n : ℕ). IsSpent (at_number w.drives n) x) p.drive spent));
+          (subst (λ (n : ℕ). IsSpent (at_number w.drives n) x) p.drive
+          (spent_read (at_number w.drives at.drive) p.of.command x p.of.reads spent)));
       stands = p.lost;
     }
 
     -- so a repair is at work
-    at_work : (h : Phase) → PhaseIs s f h → IsOfPhase f k x h → s.repairing ≡ true
+    at_work : (h : Phase) → PhaseIs s f h → IsOfPhase f k p.of.command h → s.repairing ≡ true
     at_work Still is own = absurd own
     at_work Fencing is own = absurd own
     at_work Repairing is own = is.repairing
@@ -167,16 +171,28 @@ module _ (s : State) (w v : World) (f : File) (d k : ℕ) (a b : DriveAt) (x : C
     cell_within : (z : ℕ) → cells_of x z ≡ true → (x.offset ≤ z) × (z < x.offset + length x.payload)
     cell_within z e = (grind (arith, e, nat_tests), grind (arith, e, nat_tests))
 
+    -- it carries what was sent
+    carried : (P : ℕ → List ℕ → Type 0) → P p.of.command.offset p.of.command.payload → P x.offset x.payload
+    carried P has =
+        subst (λ (o : ℕ). P o x.payload) (sym (p.of.reads.offset write))
+        (subst (λ (q : List ℕ). P p.of.command.offset q) (sym p.of.reads.payload) has)
+
+    words : (owe : OweWords s w f) → AreWords s owe.bytes k x.offset x.payload
+    words owe = carried (AreWords s owe.bytes k) (owe.words k p.of.command fresh)
+
+    sources : (owe : OweWords s w f) → AreSourced s owe.bytes k x.offset x.payload
+    sources owe = carried (AreSourced s owe.bytes k) (owe.sources k p.of.command fresh)
+
     -- the machine's repair is allowed, with the bytes of which the WRITE has the words
     pub repairs_allowed : PhaseIs s f f.kept.phase → AreOwned s w f → (owe : OweWords s w f) →
         Allowed s (Repairs k (cells_of x) owe.bytes)
     repairs_allowed phase owned owe = record {
-      at_work = at_work f.kept.phase phase (owned k x fresh);
+      at_work = at_work f.kept.phase phase (owned k p.of.command fresh);
       stands = p.lost;
       all = λ z q is col.
           let r = cell_within z is in
           let sum : x.offset + (z - x.offset) ≡ z = omega (arith, r.0) in
-          owe.sources k x fresh (z - x.offset) (omega (arith, r.0, r.1)) q
+          sources owe (z - x.offset) (omega (arith, r.0, r.1)) q
           (col ∙ ap (s.layout.cell_col k) (sym sum));
     }
 
@@ -200,7 +216,7 @@ module _ (s : State) (w v : World) (f : File) (d k : ℕ) (a b : DriveAt) (x : C
             let sum : x.offset + (z - x.offset) ≡ z = omega (arith, r.0) in
             new z ∙ ap (λ (q : Bool). cond q (s.layout.word k z owe.bytes) (s.cell k z)) is
             ∙ ap (λ (n : ℕ). s.layout.word k n owe.bytes) (sym sum)
-            ∙ sym (owe.words k x fresh (z - x.offset) (omega (arith, r.0, r.1)))
+            ∙ sym (words owe (z - x.offset) (omega (arith, r.0, r.1)))
             ∙ sym (written_at row_leaves.before.content x.offset x.payload z r.0 r.1)
         | inr isnt ↦
             new z ∙ ap (λ (q : Bool). cond q (s.layout.word k z owe.bytes) (s.cell k z)) isnt ∙ row_made.cells z

@@ -31,7 +31,7 @@ use Rattle.file_simulation.specs.Calls.{IsClient, IsHolding, HeldIs, CallIs, Cal
 use Rattle.file_simulation.specs.DriveEvents.{awaits, is_running}
 use Rattle.file_simulation.specs.EventLists.{entry_in, entry_of}
 use Rattle.file_simulation.specs.Relation.{client_of}
-use Rattle.relation_law.specs.DriveHearing.{IsPerformed, AwaitsOwn, ShowsRight}
+use Rattle.relation_law.specs.DriveHearing.{IsPerformed, AwaitsUnder, ShowsRight}
 use Rattle.relation_law.proofs.DriveObjects.{Leaves, reads}
 
 -- ---- the call that awaits it
@@ -77,7 +77,7 @@ reports_none file call (Scatters io queue) y e i = rw e (and_none (file_of call.
 -- ---- the credential
 
 -- a credential with a capability is one that is listed
-listed : (h : Held) (k : ℕ) → ((credential_of h k).capability ≡ no_capability → ⊥) →
+pub listed : (h : Held) (k : ℕ) → ((credential_of h k).capability ≡ no_capability → ⊥) →
     (l : Listed) × (cr : Credential) × (slice_get h.components k ≡ Some l) × (l.credential ≡ Some cr)
     × (credential_of h k ≡ cr)
 unfolding credential_of
@@ -101,7 +101,7 @@ listed h k some = by_listed (slice_get h.components k) refl some
 
 module _ (s : State) (w : World) (f : File) (c : ℕ) (o : Option Answer) (safe : Safe s)
     (client : IsClient f.kept.number f.kept.map s c (client_of w c) o) (d : ℕ) (a : DriveAt) (x : Command)
-    (own : AwaitsOwn w c x) (p : IsPerformed w d a x) (read : x.action ≡ action.Read) (k : ℕ) (at : Component)
+    (own : AwaitsUnder w c x) (p : IsPerformed w d a x) (read : x.action ≡ action.Read) (k : ℕ) (at : Component)
     (drive : at.drive ≡ d) (object : at.object ≡ x.object) (inside : k < s.layout.components)
     (stands : s.lost k ≡ false → StandsAs s w f k at) where
   -- it carries a capability
@@ -149,9 +149,8 @@ module _ (s : State) (w : World) (f : File) (c : ℕ) (o : Option Answer) (safe 
         let grant : under.0 ≡ r.2.grant = same_Some under.0 r.2.grant (sym under.1 ∙ r.2.held) in
         let found : held_of (client_of w c).held (file_of call.op) ≡ Some r.0 =
         ap (held_of (client_of w c).held) here ∙ r.1 in
-        let command : y.command ≡ x = own.same call is y i nonce in
         let capability : (credential_of r.0 y.ask.component).capability ≡ x.capability =
-        sym (own.of call r.0 is found y i) ∙ ap (λ (z : Command). z.capability) command in
+        sym (own.of call r.0 is found y i) ∙ own.same call is y i nonce in
         let l = listed r.0 y.ask.component (λ none. backed (sym capability ∙ none)) in
         sym under.2 ∙ ap (λ (g : Grant). g.tag) grant
         ∙ sym (r.2.same.tag y.ask.component l.0 l.1 l.2 l.3)

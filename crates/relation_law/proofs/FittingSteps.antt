@@ -108,7 +108,7 @@ ways s chosen i = record {
 abbrev pub AllFit : List File → Type 0
 AllFit fs = (f : File) → In f fs → FitsIn f.kept f.job
 
-fit_step : (s : Server) (chosen : List ℕ) (i : Input) → IsSound s → IsSound (step s chosen i).state → AllFit s.files →
+pub fit_step : (s : Server) (chosen : List ℕ) (i : Input) → IsSound s → IsSound (step s chosen i).state → AllFit s.files →
     AllFit (step s chosen i).state.files
 fit_step s chosen i before behind fit f j =
     elim (files_go s chosen i FitsFrom FitsNow (ways s chosen i) before.distinct f.kept.number f
@@ -126,7 +126,7 @@ fit_run s (a ∷ acts) named sound fit =
     let next : IsSound (step s a.chosen a.input).state = each_step_is_sound s a.chosen a.input sound named.0 in
     fit_run (step s a.chosen a.input).state acts named.1 next (fit_step s a.chosen a.input sound next fit)
 
-first_sound : IsSound (new_server [])
+pub first_sound : IsSound (new_server [])
 first_sound = record { distinct = tt; components = tt; aimed = tt; files = tt; drives = tt }
 
 pub jobs_ask : OneEventMore → JobsAskTheirOwn

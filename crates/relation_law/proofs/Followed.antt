@@ -15,7 +15,7 @@ use Rattle.fence_law.specs.State.{State}
 use Rattle.file_simulation.specs.Claim.{IsOfScenario}
 use Rattle.relation_law.specs.Steps.{FollowsWhole}
 
-all_taken : (xs : List Line) → take (length xs) xs ≡ xs
+pub all_taken : (xs : List Line) → take (length xs) xs ≡ xs
 all_taken [] = refl
 all_taken (x ∷ xs) = ap (λ (ys : List Line). x ∷ ys) (all_taken xs)
 

@@ -85,6 +85,19 @@ pairs_at (x ∷ fs) (y ∷ gs) p n f g e d = elim (cases_eq x.kept.number n) [
       (rw (ne_eqb y.kept.number n (λ i. other (sym p.0.number ∙ i))) at d)
 ]
 
+-- a file that is among the former is among the latter
+pairs_there : (fs gs : List File) → Pairs fs gs → (n : ℕ) (f : File) → file_at fs n ≡ Some f
+    → (g : File) × (file_at gs n ≡ Some g)
+unfolding file_at
+pairs_there [] gs p n f e = absurd (cc e)
+pairs_there (x ∷ fs) [] p n f e = absurd p
+pairs_there (x ∷ fs) (y ∷ gs) p n f e = elim (cases_eq x.kept.number n) [
+  | inl here ↦ (y, rw (eq-eqb y.kept.number n (p.0.number ∙ here)) refl)
+  | inr other ↦
+      (let r = pairs_there fs gs p.1 n f (rw (ne_eqb x.kept.number n other) at e) in
+      (r.0, rw (ne_eqb y.kept.number n (λ i. other (sym p.0.number ∙ i))) r.1))
+]
+
 each_in : (P : File → Type 0) (fs : List File) (f : File) → Each P fs → In f fs → P f
 each_in P [] f a i = absurd i
 each_in P (g ∷ fs) f a (inl same) = subst P (sym same) a.0
@@ -147,12 +160,12 @@ pairs_opened format ds (f ∷ fs) m =
 -- ---- a step
 
 -- files stay, and no two have one number
-abbrev FilesStay : List File → List File → Type 0
+abbrev pub FilesStay : List File → List File → Type 0
 FilesStay fs gs = AreDistinct fs → AreDistinct gs × ((n : ℕ) (f g : File) → file_at fs n ≡ Some f → file_at gs n ≡ Some g
-    → IsSameFile f g)
+    → IsSameFile f g) × ((n : ℕ) (f : File) → file_at fs n ≡ Some f → (g : File) × (file_at gs n ≡ Some g))
 
 by_pairs : (fs gs : List File) → (AreDistinct fs → Pairs fs gs) → FilesStay fs gs
-by_pairs fs gs p d = (pairs_distinct fs gs (p d) d, pairs_at fs gs (p d))
+by_pairs fs gs p d = (pairs_distinct fs gs (p d) d, pairs_at fs gs (p d), pairs_there fs gs (p d))
 
 stay : (fs : List File) → FilesStay fs fs
 stay fs = by_pairs fs fs (λ d. pairs_same fs)
@@ -189,6 +202,14 @@ module _ (s : Server) (chosen : List ℕ) where
               let its : g ≡ f = cc it in
               subst (λ (z : File). IsSameFile f z) (sym its) (same_file f)
         ],
+        λ n f e. elim (cases_eq x.kept.number n) [
+          | inl here ↦ absurd (cc (sym e ∙ subst (λ (k : ℕ). file_at s.files k ≡ None) here none))
+          | inr other ↦ (
+            f,
+            put_other (add_file s.files x) x.kept.number y made.number n (ne_eqb x.kept.number n other)
+                ∙ add_other s.files x n (ne_eqb x.kept.number n other) ∙ e,
+          )
+        ],
       )
 
   cases : (i : Input) → StepCases s chosen i Stays
@@ -218,12 +239,12 @@ module _ (s : Server) (chosen : List ℕ) where
       at_own : (f : File) (n : ℕ) → file_at s.files n ≡ Some f → file_at s.files f.kept.number ≡ Some f
       at_own f n found = subst (λ (k : ℕ). file_at s.files k ≡ Some f) (sym (number_at s.files n f found)) found
 
-  step_stays : (i : Input) → Stays (step s chosen i)
+  pub step_stays : (i : Input) → Stays (step s chosen i)
   step_stays i = each_step s chosen i Stays (cases i)
 
 -- ---- a move
 
-move_stays : (w : World) (m : Move) → FilesStay w.server.files (move w m).world.server.files
+pub move_stays : (w : World) (m : Move) → FilesStay w.server.files (move w m).world.server.files
 move_stays w m = either (input_in w m.action) refl
   where
     either : (o : Option Input) → input_in w m.action ≡ o → FilesStay w.server.files (move w m).world.server.files

@@ -71,7 +71,7 @@ server_alone w a i is = either (going_in w a) refl
 
 -- ---- and no drive has an event
 
-abbrev Never : Event → Type 0
+abbrev pub Never : Event → Type 0
 Never e = ⊥
 
 hears_none : (s : State) (w : World) (e : ℕ → ℕ) (f : File) (m : Message) (to : Node) (i : Input)

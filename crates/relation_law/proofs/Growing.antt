@@ -186,7 +186,7 @@ not_there : (o : Option DriveAt) → unless_there (is_some o) ≡ None → o ≡
 not_there None e = refl
 not_there (Some x) e = absurd (cc e)
 
-new_drive : (w : World) (d : ℕ) (key : List ℕ) (capacity : ℕ) (stored : Bool) →
+pub new_drive : (w : World) (d : ℕ) (key : List ℕ) (capacity : ℕ) (stored : Bool) →
     IsAllowed w (Opens (drive_event d key capacity stored)) → at_number w.drives d ≡ None
 unfolding refusal
 new_drive w d key capacity true allowed =

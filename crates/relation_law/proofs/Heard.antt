@@ -67,7 +67,7 @@ payload_there : (r : Reply) → (reply_at (spelling r)).payload ≡ r.payload
 unfolding reply_at spelling fields
 payload_there r = refl
 
-payload_read : (r read : Reply) → reading (spelling r) ≡ Ok read → read.payload ≡ r.payload
+pub payload_read : (r read : Reply) → reading (spelling r) ≡ Ok read → read.payload ≡ r.payload
 payload_read r read e = ap (λ (x : Reply). x.payload) (sym (read_is (spelling r) read e)) ∙ payload_there r
 
 -- ---- its nonce
@@ -83,14 +83,14 @@ read_low a x (Ok z) e =
 read_low a x (Err y) e = omega arith
 
 -- a drive replies to a command with a nonce of 64 bits
-judged_low : (a : DriveAt) (x : Command) (body : Body) → body ≡ OfCommand x →
+pub judged_low : (a : DriveAt) (x : Command) (body : Body) → body ≡ OfCommand x →
     (judges a (command_in body)).reply.nonce < 2 ^ 64
 judged_low a x body is =
     subst (λ (b : Body). (judges a (command_in b)).reply.nonce < 2 ^ 64) (sym is) (read_low a x (command_in (OfCommand x)) refl)
 
 -- ---- a reply that comes to a client
 
-message_is : (m : Message) (f t : Node) (b : Body) → m.from ≡ f → m.to ≡ t → m.body ≡ b →
+pub message_is : (m : Message) (f t : Node) (b : Body) → m.from ≡ f → m.to ≡ t → m.body ≡ b →
     m ≡ record { from = f; to = t; body = b }
 message_is m f t b from to body =
     ap (λ (z : Node). record { from = z; to = m.to; body = m.body }) from

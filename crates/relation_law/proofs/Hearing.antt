@@ -232,7 +232,7 @@ low_nonce w e =
     less : (a b : ℕ) → nat_lt a b ≡ true → a < b
     less a b x = grind (arith, x, nat_tests)
 
-read_nonce : (w : World) (d : ℕ) (bytes : List ℕ) (k : IsCommand w d bytes) (c : Command) → counters_have_room w.server ≡ true
+pub read_nonce : (w : World) (d : ℕ) (bytes : List ℕ) (k : IsCommand w d bytes) (c : Command) → counters_have_room w.server ≡ true
     → reading bytes ≡ Ok c → (c.nonce ≡ k.command.nonce) × (c.nonce < 2 ^ 64)
 read_nonce w d bytes k c low read =
     let below : k.command.nonce < 2 ^ 64 = omega (arith, (low_nonce w low).0, k.low) in
@@ -260,7 +260,7 @@ format_read : (x c : Command) → reading (spelling x) ≡ Ok c → c.capability
 format_read x c e = format_in (cap.spelling x.capability) c.capability (read_spelled x c e) ∙ first_byte x.capability
 
 -- what the server sent is under its own holder
-owned_over : (s : Server) (acts : List Act) → AreOwned s.files → (d : ℕ) (c : Command) →
+pub owned_over : (s : Server) (acts : List Act) → AreOwned s.files → (d : ℕ) (c : Command) →
     In (ToDrive d c) (sent_over s acts) → c.capability.holder ≡ SERVER_HOLDER
 unfolding sent_over
 owned_over s [] own d c i = absurd i
@@ -403,7 +403,7 @@ module _ (w : World) (h : List Line) (r : IsRead w h) (n : Numbers w) (low : cou
       same f = cc f
   replied (Err f) x e = absurd (cc e)
 
-  read_reply : (from : Node) (bytes : List ℕ) (x : Reply) → from ≡ node.Drive d →
+  pub read_reply : (from : Node) (bytes : List ℕ) (x : Reply) → from ≡ node.Drive d →
       message_in from bytes ≡ Some (RepliesTo x) → replies.reading bytes ≡ Ok x
   unfolding message_in
   read_reply from bytes x is e =

@@ -139,14 +139,14 @@ opened_turn w (event.Reopen machine.Server) i ok e = given w _ i e (opened w.dow
 opened_turn w (event.Reopen (machine.Drive d)) i ok e = absurd (cc e)
 opened_turn w x i ok e = absurd (cc e)
 
-turn_in : (w : World) (a : Action) (i : Input) → IsAllowed w a → input_in w a ≡ Some i → in_turn w.down i ≡ true
+pub turn_in : (w : World) (a : Action) (i : Input) → IsAllowed w a → input_in w a ≡ Some i → in_turn w.down i ≡ true
 turn_in w (Opens x) i ok e = opened_turn w x i ok e
 turn_in w (Delivers n) i ok e = delivered_turn w (slice_get w.network.messages n) i e
 turn_in w (TimesOut c k) i ok e = absurd (cc e)
 turn_in w (Pends c) i ok e = absurd (cc e)
 
 -- a request is heard while the server is up
-asked_up : (w : World) (i : Input) → in_turn w.down i ≡ true → (now : ℕ) (q : ClientRequest)
+pub asked_up : (w : World) (i : Input) → in_turn w.down i ≡ true → (now : ℕ) (q : ClientRequest)
     → i ≡ Hears now (node.Client q.client) (Asks q) → w.down ≡ false
 asked_up w i turn now q is =
     is_false w.down (subst (λ (z : Input). in_turn w.down z ≡ true) is turn)

@@ -102,7 +102,7 @@ pub same_file : (g : File) (k : Kept) → g.kept ≡ k → g.job ≡ None
     → file_with k g.spent None ≡ file_with g.kept g.spent g.job
 same_file g k is idle = cc (sym is, sym idle)
 
-found_new : (gs : List Grant) (x : Grant) (c : ℕ) → x.client ≡ c → grant_of gs c ≡ None → grant_of (gs ++ (x ∷ [])) c ≡ Some x
+pub found_new : (gs : List Grant) (x : Grant) (c : ℕ) → x.client ≡ c → grant_of gs c ≡ None → grant_of (gs ++ (x ∷ [])) c ≡ Some x
 found_new [] x c is none = rw (eq-eqb x.client c is) refl
 found_new (g ∷ gs) x c is none = elim (cases_Bool (g.client == c)) [
   | inl t ↦ absurd (cc (rw t at none))

@@ -71,7 +71,7 @@ abbrev every : Reached
 every drive object tag = true
 
 -- while the server is up a file without a job was made
-made_up : (w : World) (f : File) → w.down ≡ false → IsFit w → In f w.server.files → f.job ≡ None → f.kept.ready ≡ true
+pub made_up : (w : World) (f : File) → w.down ≡ false → IsFit w → In f w.server.files → f.job ≡ None → f.kept.ready ≡ true
 made_up w f up fit i none =
     let all : AreStanding false every w.server.files =
     subst (λ (b : Bool). AreStanding b every w.server.files) up fit.stands.standing in
@@ -82,7 +82,7 @@ made_up w f up fit i none =
     ready false e = absurd (true≢false e)
 
 -- where the server is opened it was down, and no job runs
-idle_by : (w : World) (down : Bool) → w.down ≡ down → IsFit w → (i : Input) → in_turn down i ≡ true
+pub idle_by : (w : World) (down : Bool) → w.down ≡ down → IsFit w → (i : Input) → in_turn down i ≡ true
     → IsIdleAt i w.server.files
 idle_by w true is fit Opens turn =
     each_of IsIdle w.server.files (subst (λ (b : Bool). FitsBy b w.server.files) is fit.fits)
@@ -97,7 +97,7 @@ idle_by w down is fit Resends turn = tt
 idle_by w down is fit Crashes turn = tt
 
 -- where it is up, work fits its phase
-fit_by : (w : World) (down : Bool) → w.down ≡ down → IsFit w → (i : Input) → in_turn down i ≡ true
+pub fit_by : (w : World) (down : Bool) → w.down ≡ down → IsFit w → (i : Input) → in_turn down i ≡ true
     → FitsAt i w.server.files
 fit_by w true is fit Opens turn = tt
 fit_by w false is fit Opens turn = tt

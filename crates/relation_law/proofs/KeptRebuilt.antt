@@ -26,7 +26,7 @@ use Rattle.relation_law.specs.KeptSteps.{IsKeptAt}
 use Rattle.relation_law.proofs.KeptGrants.{none_by}
 
 -- a file with a running job that is still has no grant outstanding in the machine, if the server has none
-none_outstanding : (s : State) (f : File) → IsStill s f → f.kept.grants ≡ [] → (c : ℕ) → s.outstanding c ≡ None
+pub none_outstanding : (s : State) (f : File) → IsStill s f → f.kept.grants ≡ [] → (c : ℕ) → s.outstanding c ≡ None
 none_outstanding s f st none c =
     none_by f.kept (grant_of f.kept.grants c) (s.outstanding c) (ap (λ (gs : List Grant). grant_of gs c) none)
     (st.outstanding c)

@@ -129,7 +129,7 @@ unfolding answer_of recalls_from
 recalls_answer n [] os = refl
 recalls_answer n (x ∷ gs) os = recalls_answer (n + 1) gs os
 
-carried_answer : (server : Server) (q : ClientRequest) (v : Served)
+pub carried_answer : (server : Server) (q : ClientRequest) (v : Served)
     → answer_of (carried_out server q v).sends ≡ Some (answer_with server q v)
 unfolding answer_of
 carried_answer server q v =

@@ -37,7 +37,7 @@ first_piece unit stripe (suc n) some =
     (record { stripe = stripe; column = 0; count = min MAX_PIECE (unit - 0) }, inl refl, refl)
 
 -- the pieces of one of some stripes are among theirs
-along_in : (unit first n s : ℕ) → first ≤ s → s < first + n → (p : Piece) → In p (pieces_of unit s)
+pub along_in : (unit first n s : ℕ) → first ≤ s → s < first + n → (p : Piece) → In p (pieces_of unit s)
     → In p (pieces_along unit first n)
 unfolding pieces_along
 along_in unit first zero s low high p i = absurd (omega (arith, low, high))
@@ -61,7 +61,7 @@ piece_of m group high s some low is =
     )
 
 -- the stripe of a cell stands in its component's group
-group_here : (m : RawMap) (k z : ℕ) → IsChecked m → k < m.comps → group_of m (stripe_at m (position_in m k) z) ≡ group_with m k
+pub group_here : (m : RawMap) (k z : ℕ) → IsChecked m → k < m.comps → group_of m (stripe_at m (position_in m k) z) ≡ group_with m k
 group_here m k z c below =
     group_again m (position_in m k / group_width m) (z / m.unit) c
     (group_there m (position_in m k) c (stands_at m k c below))

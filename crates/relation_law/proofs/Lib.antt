@@ -91,6 +91,7 @@ pub mod DriveAlike
 pub mod DriveFinding
 pub mod DriveObjects
 pub mod DriveWorld
+pub mod DriveReads
 pub mod DrivePerforms
 pub mod DriveServer
 pub mod DriveActs
@@ -170,6 +171,14 @@ pub mod ReturnsRight
 pub mod RequestsHeld
 pub mod CallsFitting
 pub mod RequestsReturns
+pub mod ComponentsReading
+pub mod ComponentsMade
+pub mod ComponentsGuesses
+pub mod ComponentsFair
+pub mod ComponentsSenders
+pub mod ComponentsTurns
+pub mod ComponentsAbove
+pub mod ComponentsMoved
 pub mod SomeWrites
 pub mod Works
 pub mod WorksRun
@@ -207,3 +216,7 @@ pub mod Followed
 pub mod OwnedBefore
 pub mod OwnedJoined
 pub mod Quiet
+pub mod TargetWalk
+pub mod TargetSteps
+pub mod TargetMoments
+pub mod TargetSpent

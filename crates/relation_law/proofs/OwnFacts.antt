@@ -80,6 +80,52 @@ held_in (x ∷ hs) f h e = elim (cases_Bool (x.file == f)) [
   | inr n ↦ inr (held_in hs f h (rw n at e))
 ]
 
+-- what a call needs of the server it needs under its grant
+pub has_by : (n : Need) (o : Option Held) → NeedsHeld n o → NeedHas n o
+has_by First o z = tt
+has_by (Get tries) o z = tt
+has_by (Commit timed) o z = z
+has_by (Report timed) o z = z
+has_by (Close u report) o z = z
+
+-- ---- what a reply and a timeout ask of the client
+
+module _ (x : Client) (i : Input) (fine : IsFine x) (works : ClientWorks x) where
+  pub replied_fits : (drive : ℕ) (q : Reply) (call : Call) (hh : Held) (a : Awaited) → IsReplied x i drive q call hh a →
+      (p : Phase) → call.phase ≡ p → ReplyFits hh call.op p a
+  replied_fits drive q call hh a r (Scatters io queue) e =
+      let z : WorksUnder hh (Scatters io queue) = subst (WorksUnder hh) e (under x works call hh r.call_is r.held) in
+      let there : In a (awaited_in (Scatters io queue)) =
+      subst (λ (p : Phase). In a (awaited_in p)) e (found_one (answers drive q) (awaited_in call.phase) a r.awaits) in
+      (there, one_by_nonce hh (Scatters io queue) z a there, z.queue)
+  replied_fits drive q call hh a r (Gathers io) e =
+      let all : CallFits x.held (Some call) = subst (CallFits x.held) r.call_is fine.call in
+      let gathers : GathersFor hh call.op io = rw e at (all.1 hh r.held) in
+      λ got empty. some_stores hh.map (span_of call.op) (outs hh io.timed) (fine.usable (file_of call.op) hh r.held).checked
+      gathers.some.some gathers.ready.can (bytes_of call.op) got empty
+  replied_fits drive q call hh a r Starts e = tt
+  replied_fits drive q call hh a r (Needs n) e = tt
+  replied_fits drive q call hh a r (Waits n) e = tt
+  replied_fits drive q call hh a r (Reads io) e = tt
+  replied_fits drive q call hh a r (Probes io) e = tt
+
+  pub timed_fits : (n : ℕ) (call : Call) (hh : Held) (a : Awaited) (xs : List Awaited) → IsTimed x i n call hh a xs →
+      (p : Phase) → call.phase ≡ p → TimeFits hh call.op p a xs
+  timed_fits n call hh a xs r (Scatters io queue) e =
+      let z : WorksUnder hh (Scatters io queue) = subst (WorksUnder hh) e (under x works call hh r.call_is r.held) in
+      z.queue
+  timed_fits n call hh a xs r (Gathers io) e =
+      let all : CallFits x.held (Some call) = subst (CallFits x.held) r.call_is fine.call in
+      let gathers : GathersFor hh call.op io = rw e at (all.1 hh r.held) in
+      λ enough got empty. some_stores hh.map (span_of call.op) (outs hh (timed_after io.timed a xs))
+      (fine.usable (file_of call.op) hh r.held).checked gathers.some.some
+      (long_enough hh call.op (timed_after io.timed a xs) enough) (bytes_of call.op) got empty
+  timed_fits n call hh a xs r Starts e = tt
+  timed_fits n call hh a xs r (Needs need) e = tt
+  timed_fits n call hh a xs r (Waits need) e = tt
+  timed_fits n call hh a xs r (Reads io) e = tt
+  timed_fits n call hh a xs r (Probes io) e = tt
+
 -- ---- events
 
 -- what holds of all holds of the first
@@ -88,7 +134,7 @@ all_front P [] ys all = tt
 all_front P (x ∷ xs) ys all = (all.0, all_front P xs ys all.1)
 
 -- the events of a turn are those of its first line, and then the rest
-goes_events : (s : State) (file c : ℕ) (x : Client) (i : Input) → (i ≡ Resends → ⊥) →
+pub goes_events : (s : State) (file c : ℕ) (x : Client) (i : Input) → (i ≡ Resends → ⊥) →
     joined (table.client_goes s file c x i)
     ≡ table.at_first s file c x i
     ++ joined (table.at_end (after_all s (table.at_first s file c x i)) file c (op_in x i) (step x i))
@@ -301,7 +347,7 @@ module _ (laws : OwnWorld) (w : World) (h : List Line) (m : Move) (f g : File) (
 
   module _ (plans : PlansFit file f.kept.map c s x t
       (client_there w h m f g s k number map j goes (low laws.held w h m f g s k j goes) none) j.input) where
-    facts : TurnFacts file f.kept.map c s x t
+    pub facts : TurnFacts file f.kept.map c s x t
         (client_there w h m f g s k number map j goes (low laws.held w h m f g s k j goes) none) j.input
     facts = record {
       fine = fine;
@@ -316,48 +362,6 @@ module _ (laws : OwnWorld) (w : World) (h : List Line) (m : Move) (f g : File) (
       first = first_safe;
       plans = plans;
     }
-
-    has_by : (n : Need) (o : Option Held) → NeedsHeld n o → NeedHas n o
-    has_by First o z = tt
-    has_by (Get tries) o z = tt
-    has_by (Commit timed) o z = z
-    has_by (Report timed) o z = z
-    has_by (Close u report) o z = z
-
-    replied_fits : (drive : ℕ) (q : Reply) (call : Call) (hh : Held) (a : Awaited) → IsReplied x j.input drive q call hh a →
-        (p : Phase) → call.phase ≡ p → ReplyFits hh call.op p a
-    replied_fits drive q call hh a r (Scatters io queue) e =
-        let z : WorksUnder hh (Scatters io queue) = subst (WorksUnder hh) e (under x works call hh r.call_is r.held) in
-        let there : In a (awaited_in (Scatters io queue)) =
-        subst (λ (p : Phase). In a (awaited_in p)) e (found_one (answers drive q) (awaited_in call.phase) a r.awaits) in
-        (there, one_by_nonce hh (Scatters io queue) z a there, z.queue)
-    replied_fits drive q call hh a r (Gathers io) e =
-        let all : CallFits x.held (Some call) = subst (CallFits x.held) r.call_is fine.call in
-        let gathers : GathersFor hh call.op io = rw e at (all.1 hh r.held) in
-        λ got empty. some_stores hh.map (span_of call.op) (outs hh io.timed) (fine.usable (file_of call.op) hh r.held).checked
-        gathers.some.some gathers.ready.can (bytes_of call.op) got empty
-    replied_fits drive q call hh a r Starts e = tt
-    replied_fits drive q call hh a r (Needs n) e = tt
-    replied_fits drive q call hh a r (Waits n) e = tt
-    replied_fits drive q call hh a r (Reads io) e = tt
-    replied_fits drive q call hh a r (Probes io) e = tt
-
-    timed_fits : (n : ℕ) (call : Call) (hh : Held) (a : Awaited) (xs : List Awaited) → IsTimed x j.input n call hh a xs →
-        (p : Phase) → call.phase ≡ p → TimeFits hh call.op p a xs
-    timed_fits n call hh a xs r (Scatters io queue) e =
-        let z : WorksUnder hh (Scatters io queue) = subst (WorksUnder hh) e (under x works call hh r.call_is r.held) in
-        z.queue
-    timed_fits n call hh a xs r (Gathers io) e =
-        let all : CallFits x.held (Some call) = subst (CallFits x.held) r.call_is fine.call in
-        let gathers : GathersFor hh call.op io = rw e at (all.1 hh r.held) in
-        λ enough got empty. some_stores hh.map (span_of call.op) (outs hh (timed_after io.timed a xs))
-        (fine.usable (file_of call.op) hh r.held).checked gathers.some.some
-        (long_enough hh call.op (timed_after io.timed a xs) enough) (bytes_of call.op) got empty
-    timed_fits n call hh a xs r Starts e = tt
-    timed_fits n call hh a xs r (Needs need) e = tt
-    timed_fits n call hh a xs r (Waits need) e = tt
-    timed_fits n call hh a xs r (Reads io) e = tt
-    timed_fits n call hh a xs r (Probes io) e = tt
 
     -- The client and its turn are as they should be.
     pub own_fits : OwnFits file f.kept.map c s x t
@@ -379,8 +383,8 @@ module _ (laws : OwnWorld) (w : World) (h : List Line) (m : Move) (f g : File) (
                 (λ (op : CallOp) (report : List IoErr). CantBeBorne w.server c (file_of op) (report_read report))
                 (reports laws.held w h m f g s k j goes),
           );
-      replied = λ drive q call hh a r here. replied_fits drive q call hh a r call.phase refl;
-      timed = λ n call hh a xs r here. timed_fits n call hh a xs r call.phase refl;
+      replied = λ drive q call hh a r here. replied_fits x j.input fine works drive q call hh a r call.phase refl;
+      timed = λ n call hh a xs r here. timed_fits x j.input fine works n call hh a xs r call.phase refl;
       ends = λ es at d is turn y. ends_well file f.kept.map c s x t
           (client_there w h m f g s k number map j goes (low laws.held w h m f g s k j goes) none) j.input
           facts es at d is turn y;

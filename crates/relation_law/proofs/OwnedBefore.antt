@@ -99,7 +99,7 @@ older_verdict f a r e = by_old (r.verdict == OLD_FORMAT) refl e
     by_old true is x = eqb-true r.verdict OLD_FORMAT is
     by_old false is x = rest (is_write a.command.action && (r.verdict == 11)) (is_done f a r) x
 
-done_verdict : (f : Kept) (a : Awaited) (r : Reply) → a.command.action ≡ Write → is_done f a r ≡ true → r.verdict ≡ PERFORMED
+pub done_verdict : (f : Kept) (a : Awaited) (r : Reply) → a.command.action ≡ Write → is_done f a r ≡ true → r.verdict ≡ PERFORMED
 unfolding is_done
 done_verdict f a r write e =
     eqb-true r.verdict PERFORMED

@@ -54,14 +54,14 @@ use Rattle.file_simulation.specs.Components.{has_failed, AreComponents}
 use Rattle.file_simulation.specs.Jobs.{IsFresh, AreOwned, IsInPiece, IsOfPhase, IsOfJob, IsOfWork}
 use Rattle.file_simulation.specs.Messages.{HasCommanded}
 use Rattle.component_law.specs.KeptWalk.{WorkFits}
-use Rattle.relation_law.specs.Steps.{FollowsWhole, whole_behind}
+use Rattle.relation_law.specs.Steps.{FollowsWhole, whole_behind, ComponentsGoOn}
 use Rattle.relation_law.proofs.ComponentsRaised.{behind_file}
 use Rattle.relation_law.proofs.ComponentsWorld.{laid_out}
 use Rattle.relation_law.proofs.DriveMoves.{got_in}
 use Rattle.relation_law.proofs.FramesFiles.{files_distinct}
 use Rattle.relation_law.proofs.KeptServer.{at_place}
 use Rattle.relation_law.specs.Awaiting.{IsOfComponent, IsOfTarget, IsAskedIn, FitsIn}
-use Rattle.relation_law.specs.Joined.{NewAreSpent, OwnedFollows}
+use Rattle.relation_law.specs.Joined.{NewAreSpent, RebuiltAreSpent}
 use Rattle.relation_law.specs.Owning.{IsOld, EndsFence}
 use Rattle.relation_law.proofs.Followed as followed
 use Rattle.relation_law.proofs.Growing.{drives_grow, spent_grows}
@@ -72,7 +72,7 @@ use Rattle.relation_law.proofs.Sending.{each_send_is_awaited}
 
 -- ---- small facts
 
-old_or_new : (f : File) (n : ℕ) (at : Component) → IsOld f n at ⊎ (IsOld f n at → ⊥)
+pub old_or_new : (f : File) (n : ℕ) (at : Component) → IsOld f n at ⊎ (IsOld f n at → ⊥)
 old_or_new f n at = by_place (slice_get f.kept.components n) refl
   where
     by_place : (o : Option Component) → slice_get f.kept.components n ≡ o → IsOld f n at ⊎ (IsOld f n at → ⊥)
@@ -83,7 +83,7 @@ old_or_new f n at = by_place (slice_get f.kept.components n) refl
           other (ap (λ (y : Component). y.object) (same_Some b old.0 (sym there ∙ old.1)) ∙ old.2))
     ]
 
-own_each : (first lines : List Line)
+pub own_each : (first lines : List Line)
     → ((before : List Line) (l : Line) (after : List Line) → first ++ lines ≡ before ++ l ∷ after → OwnAt before l)
     → EachBehind OwnAt first lines
 own_each first [] own = tt
@@ -151,18 +151,18 @@ module _ (laws : JoinLaws) (w : World) (h : List Line) (m : Move) (f g : File) (
   apart_behind = files_distinct v (reached v (h ++ lines) behind)
 
   -- a file with that number is this one
-  same_file : (x : File) → In x v.server.files → x.kept.number ≡ g.kept.number → x ≡ g
+  pub same_file : (x : File) → In x v.server.files → x.kept.number ≡ g.kept.number → x ≡ g
   same_file x i number =
       same_Some x g (sym (at_place v.server.files x apart_behind i) ∙ ap (file_at v.server.files) number
       ∙ at_place v.server.files g apart_behind in_behind_)
 
   -- what is unspent behind the move was so before
-  unspent_before : (d : ℕ) (x : Command) → (IsSpent (at_number v.drives d) x → ⊥) → IsSpent (at_number w.drives d) x → ⊥
+  pub unspent_before : (d : ℕ) (x : Command) → (IsSpent (at_number v.drives d) x → ⊥) → IsSpent (at_number w.drives d) x → ⊥
   unspent_before d x unspent spent =
       unspent (spent_grows (at_number w.drives d) (at_number v.drives d) x
       (drives_grow w h before m k.follows.is_due d) spent)
 
-  sent_either : (d : ℕ) (x : Command) → HasCommanded v d x → messages_in a.world ≡ messages_in w →
+  pub sent_either : (d : ℕ) (x : Command) → HasCommanded v d x → messages_in a.world ≡ messages_in w →
       HasCommanded w d x ⊎ In (to_drive d (OfCommand x)) (map (λ (p : Post). p.message) a.posts)
   sent_either d x sent same =
       elim (in_either (to_drive d (OfCommand x)) (messages_in a.world) (map (λ (p : Post). p.message) a.posts)
@@ -172,11 +172,11 @@ module _ (laws : JoinLaws) (w : World) (h : List Line) (m : Move) (f g : File) (
       ]
 
   -- a WRITE that a repair sends in the move, to component n
-  record IsSentNow (n : ℕ) (x : Command) : Type 0 where
-    repairs : g.kept.phase ≡ Repairing
-    job : Job
-    runs : g.job ≡ Some job
-    own : IsOfWork g.kept.map job.awaited n x job.work
+  pub record IsSentNow (n : ℕ) (x : Command) : Type 0 where
+    pub repairs : g.kept.phase ≡ Repairing
+    pub job : Job
+    pub runs : g.job ≡ Some job
+    pub own : IsOfWork g.kept.map job.awaited n x job.work
 
   is_now : (n : ℕ) (x : Command) → IsSentNow n x → IsOfPhase g n x g.kept.phase
   is_now n x now =
@@ -185,7 +185,7 @@ module _ (laws : JoinLaws) (w : World) (h : List Line) (m : Move) (f g : File) (
 
   -- ---- the end of a fence
 
-  own : EachBehind OwnAt [] h
+  pub own : EachBehind OwnAt [] h
   own =
       let lawful = lawful_at w h before in
       own_each [] h (laws.holder h lawful (laws.unforged h lawful (clean_front h (take (length lines) lines)
@@ -205,7 +205,7 @@ module _ (laws : JoinLaws) (w : World) (h : List Line) (m : Move) (f g : File) (
     fences_hold =
         fences_wait (reached_in h) w.server chosen i ((held laws.world w h before scenario).fences own) heard_truly
 
-    sound_before : IsSound w.server
+    pub sound_before : IsSound w.server
     sound_before =
         let r = run laws.world w h before scenario in
         let first : IsSound (new_server []) =
@@ -213,7 +213,7 @@ module _ (laws : JoinLaws) (w : World) (h : List Line) (m : Move) (f g : File) (
         in subst IsSound (sym r.server) (sound_over (new_server []) r.acts r.named first)
 
     -- where a fence of the file is over, what was sent before is spent
-    ended_spent : EndsFence f.kept.number (step w.server chosen i).notes → (n : ℕ) (at : Component) (x : Command) →
+    pub ended_spent : EndsFence f.kept.number (step w.server chosen i).notes → (n : ℕ) (at : Component) (x : Command) →
         slice_get g.kept.components n ≡ Some at → at.missing ≡ false → IsOld f n at → HasCommanded w at.drive x →
         x.object ≡ at.object → IsSpent (at_number w.drives at.drive) x
     ended_spent (tag, note) n at x there stands old before_ object =
@@ -252,7 +252,7 @@ module _ (laws : JoinLaws) (w : World) (h : List Line) (m : Move) (f g : File) (
 
     -- ---- what is sent in the step
 
-    sent_now : (n : ℕ) (at : Component) (x : Command) → slice_get g.kept.components n ≡ Some at → x.action ≡ action.Write →
+    pub sent_now : (n : ℕ) (at : Component) (x : Command) → slice_get g.kept.components n ≡ Some at → x.action ≡ action.Write →
         x.object ≡ at.object → In (ToDrive at.drive x) (step w.server chosen i).sends → IsSentNow n x
     sent_now n at x there write object among =
         let r = each_send_is_awaited w.server chosen i at.drive x among in
@@ -422,7 +422,8 @@ module _ (laws : JoinLaws) (w : World) (h : List Line) (m : Move) (f g : File) (
           ]
         ]
 
--- Whose the commands of jobs are goes on behind each whole move.
-pub owned_follows : JoinLaws → OwnedFollows
-owned_follows laws go_on rebuilt w h m f g s k =
+-- Whose the commands of jobs are goes on behind each whole move, if all that was sent to a new component is spent.
+pub owned_joined : JoinLaws → ComponentsGoOn → RebuiltAreSpent → (w : World) (h : List Line) (m : Move) (f g : File)
+    (s : machine.State) → (k : FollowsWhole w h m f g s) → AreOwned (whole_behind k) (move w m).world g
+owned_joined laws go_on rebuilt w h m f g s k =
     by_act laws w h m f g s k (go_on w h m f g s k) (rebuilt w h m f g s k) (each_acts w m.chosen m.action)

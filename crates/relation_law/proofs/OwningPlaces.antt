@@ -12,7 +12,7 @@ use Rattle.relation_law.proofs.Walk.{Place, AtStart, AtFence, Behind, AtRepair, 
 
 -- ---- components
 
-set_get : (cs : List Component) (n i : ℕ) (y b : Component) → slice_get (slice_set cs n y) i ≡ Some b →
+pub set_get : (cs : List Component) (n i : ℕ) (y b : Component) → slice_get (slice_set cs n y) i ≡ Some b →
     (b ≡ y) ⊎ (slice_get cs i ≡ Some b)
 set_get [] n i y b e = inr e
 set_get (x ∷ cs) zero zero y b e = inl (cc (sym e))

@@ -39,7 +39,7 @@ use Rattle.relation_law.proofs.OwnFacts.{OwnWorld, fine, first_lawful, first_own
 use Rattle.relation_law.proofs.Plans.{PlanFacts, plans_fit}
 use Rattle.relation_law.proofs.SmallBytes.{about_small}
 
-found_true : (p : Awaited → Bool) (xs : List Awaited) (a : Awaited) → find p xs ≡ Some a → p a ≡ true
+pub found_true : (p : Awaited → Bool) (xs : List Awaited) (a : Awaited) → find p xs ≡ Some a → p a ≡ true
 found_true p [] a e = absurd (cc e)
 found_true p (b ∷ xs) a e = elim (cases_Bool (p b)) [
   | inl t ↦ let same : b ≡ a = cc (rw t at e) in subst (λ (z : Awaited). p z ≡ true) same t

@@ -43,7 +43,7 @@ use Rattle.plan_law.specs.Writes.{touches_column, hits_cell, part_of}
 use Rattle.file_simulation.specs.Calls.{CallAt, CallIs, CallOn, IsClient, IsGathering, IsHolding, IsIdle, IsScattering}
 use Rattle.file_simulation.specs.ClientEvents as table
 use Rattle.file_simulation.specs.EventLists.{entry_in, entry_of, where_so}
-use Rattle.file_simulation.specs.Messages.{AreShown, HasReplied, ShownIn, WasShown}
+use Rattle.file_simulation.specs.Messages.{AreShown, HasReplied, ShownIn, WasShown, is_scatter}
 use Rattle.file_simulation.specs.Requests.{kept_for}
 use Rattle.file_simulation.specs.Showing.{IsRun}
 use Rattle.relation_law.specs.CallsCases.{IsTurn, Begins, Answered, Replied, Timed, Stays}
@@ -59,7 +59,6 @@ use Rattle.relation_law.proofs.MessagesRun.{CallFits, FineDone, IsFine, finishes
 use Rattle.relation_law.proofs.MessagesScatter.{Begins as ScatterBegins, plan_is}
 use Rattle.relation_law.proofs.ReadsShown.{AllShown}
 use Rattle.relation_law.proofs.ReadsStarts.{gather_may_start}
-use Rattle.relation_law.specs.Working.{is_scatter}
 use Rattle.relation_law.proofs.CalmRuns.{client_run, whole_now}
 use Rattle.relation_law.proofs.Scatters.{Scattered, HasPlan, MovesSo, moved_plan, none_plan, begun_plan, replied_so, replied_performed, timed_so}
 use Rattle.relation_law.proofs.Splits.{planned_split, command_stores}
@@ -185,7 +184,7 @@ module _ (x : Client) (a : Answer) where
   phase_sends op (Gathers io) = refl
   phase_sends op (Scatters io queue) = refl
 
-  answer_sends : (o : Option Call) → (on_call freed o a).commands ≡ []
+  pub answer_sends : (o : Option Call) → (on_call freed o a).commands ≡ []
   answer_sends None = refl
   answer_sends (Some call) = phase_sends call.op call.phase
 
@@ -228,12 +227,12 @@ module _ (file : ℕ) (m : RawMap) (c : ℕ) (s : State) (x : Client) (slot : Op
 
   module _ (facts : PlanFacts) (es : List Event) (d : Done) (at : table.at_first s file c x i ≡ es) where
     -- what was got before the turn was shown, and so was what the turn takes
-    record GotBefore (got : List Column) : Type 0 where
-      same : after_all s es ≡ s
-      busy : s.call c ≡ Idle → ⊥
-      shown : (j : ℕ) → s.call c ≡ AtRead j → AllShown s j got
+    pub record GotBefore (got : List Column) : Type 0 where
+      pub same : after_all s es ≡ s
+      pub busy : s.call c ≡ Idle → ⊥
+      pub shown : (j : ℕ) → s.call c ≡ AtRead j → AllShown s j got
 
-    abbrev Source : List Column → Type 0
+    abbrev pub Source : List Column → Type 0
     Source got = (got ≡ []) ⊎ GotBefore got
 
     -- the phase of the client's call, as the machine has it
@@ -273,7 +272,7 @@ module _ (file : ℕ) (m : RawMap) (c : ℕ) (s : State) (x : Client) (slot : Op
     fit : (call : Call) (h : Held) → x.call ≡ Some call → held_of x.held (file_of call.op) ≡ Some h → IsFit h call.op call.phase
     fit call h is held = let z : CallFits x.held (Some call) = subst (CallFits x.held) is facts.fine.call in z.1 h held
 
-    turn_plan : IsTurn file s c x i es d → ((j : ℕ) → (after_all s es).call c ≡ AtWrite j → ⊥) → HasPlan file Source d
+    pub turn_plan : IsTurn file s c x i es d → ((j : ℕ) → (after_all s es).call c ≡ AtWrite j → ⊥) → HasPlan file Source d
     turn_plan (Begins op is none some none_es e) free = none_plan file Source d (ap (λ (y : Done). y.commands) e)
     turn_plan (Answered a n es_is e) free =
         none_plan file Source d (ap (λ (y : Done). y.commands) e ∙ answer_sends x a x.call)

@@ -193,7 +193,7 @@ layout_on b Fenced = refl
 layout_on b Refenced = refl
 layout_on b e = refl
 
-layout_all : (b : State) (es : List Event) → (after_all b es).layout ≡ b.layout
+pub layout_all : (b : State) (es : List Event) → (after_all b es).layout ≡ b.layout
 layout_all b [] = refl
 layout_all b (e ∷ es) = layout_all (after b e) es ∙ layout_on b e
 

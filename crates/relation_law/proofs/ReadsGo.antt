@@ -67,7 +67,7 @@ by_server c o =
 module _ (w : World) (h : List Line) (k : IsMoment w h) (m : Move) (is_due : due (plan_at k) w ≡ Some m.action) (f : File)
     (s : State) (e : ℕ → ℕ) (well : AwaitWell s w f) (is : AreComponents s w f) where
   -- what a client's reads were shown, where the client rests
-  pub ShownBehind : (c : ℕ) → Type 0
+  unfoldable pub ShownBehind : (c : ℕ) → Type 0
   ShownBehind c =
       ((call : Call) (j : ℕ) → (client_of w c).call ≡ Some call → file_of call.op ≡ f.kept.number → s.call c ≡ AtRead j →
       ShownIn s w c j call.phase) → (call : Call) (j : ℕ) → (client_of (move w m).world c).call ≡ Some call →

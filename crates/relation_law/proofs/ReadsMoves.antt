@@ -141,7 +141,7 @@ module _ (s : State) (w : World) (e : ℕ → ℕ) (f : File) (m : Move) (d c : 
   none_served : (o : Option ServerInput) → o ≡ None → server_events s w f.kept.number o (did_in w m) ≡ []
   none_served o is = ap (λ i. server_events s w f.kept.number i (did_in w m)) is
 
-  by_action : (action : Action) → number_in action ≡ Some k.delivered.number →
+  pub by_action : (action : Action) → number_in action ≡ Some k.delivered.number →
       (going_in w action ≡ None) × (input_in w action ≡ None) ×
       (drive_events s w e f action ≡ judged s w e f d k.drive (node.Client c) (command_in k.delivered.posted.message.body) ∷ [])
   by_action (Opens (event.Deliver n)) is = (at_client n is, at_server n is, ap (λ es. es ∷ []) (at_drive n is))

@@ -17,8 +17,8 @@ use Rattle.fence_law.specs.Words.{In as InRun}
 use Rattle.fence_law.specs.Machine.{after, after_all}
 use Rattle.fence_law.proofs.SmallFiles.{same_map}
 use Rattle.file_simulation.specs.Components.{IsMade}
-use Rattle.file_simulation.specs.Messages.{WasShown, AreShown, HasReplied}
-use Rattle.relation_law.specs.ReadsShown.{ShownGrows, WasPerformed, NewAreShown, NoneIsAnswered}
+use Rattle.file_simulation.specs.Messages.{WasShown, AreShown, HasReplied, WasPerformed}
+use Rattle.relation_law.specs.ReadsShown.{ShownGrows, NewAreShown, NoneIsAnswered}
 use Rattle.relation_law.proofs.ReadsShown.{AllShown}
 
 -- ---- the machine

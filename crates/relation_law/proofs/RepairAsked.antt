@@ -124,7 +124,7 @@ sources_rows f t p nonce None a i =
 
 -- ---- the bytes that differ
 
-first_within : (xs ys : List ℕ) → first_unlike xs ys ≤ length ys
+pub first_within : (xs ys : List ℕ) → first_unlike xs ys ≤ length ys
 unfolding first_unlike
 first_within [] ys = omega arith
 first_within (x ∷ xs) [] = omega arith
@@ -201,7 +201,7 @@ off_group f p have want at k e =
     let one = and_parts (not at.missing && (group_with f.map k == group_of f.map p.stripe)) _ e in
     eqb-true (group_with f.map k) (group_of f.map p.stripe) (and_parts (not at.missing) _ one.0).1
 
-wanted_long : (m : RawMap) (rows : List (List ℕ)) (c count : ℕ) → length (wanted m rows c count) ≡ count
+pub wanted_long : (m : RawMap) (rows : List (List ℕ)) (c count : ℕ) → length (wanted m rows c count) ≡ count
 unfolding wanted
 wanted_long m rows c count = length-map-range_with_len _ 0 count
 

@@ -72,7 +72,7 @@ commit_works h op a timed = either (status_of a.results == NFS4_OK)
     either true = turned_works _ _ _ (accounts timed)
     either false = turned_works _ _ _ refuses
 
-commit_file : (h : Held) (op : CallOp) (a : Answer) (timed : List TimedOut) → KeepsFile h (on_commit h op a timed)
+pub commit_file : (h : Held) (op : CallOp) (a : Answer) (timed : List TimedOut) → KeepsFile h (on_commit h op a timed)
 unfolding on_commit
 commit_file h op a timed = either (status_of a.results == NFS4_OK)
   where

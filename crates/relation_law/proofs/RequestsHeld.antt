@@ -103,16 +103,24 @@ asked_or_old d none = each_progress d (λ e. (r : Request) → e.client.outstand
 
 -- ---- to the end of a turn
 
+-- what is outstanding then was so before, or it doesn't return a grant, or it returns one that was held in the middle of the turn
+pub finished_returns : (d : Done) → d.requests ≡ [] → (r : Request) → (finished d).client.outstanding ≡ Some r
+    → IsReturning r.args → (d.client.outstanding ≡ Some r) ⊎ ((h : Held) × (held_of d.client.held r.file ≡ Some h))
+unfolding finished
+finished_returns d none r out back =
+    let b = begun_so r.file d in
+    let none_yet : (begun d).requests ≡ [] = b.requests ∙ none in
+    elim (asked_or_old (begun d) none_yet r out) [
+      | inl before ↦ inl (sym b.outstanding ∙ before)
+      | inr one ↦ let it = return_is_held (begun d) none_yet r one back in inr (b.held it.0 it.1)
+    ]
+
 -- a return that goes out with number `next` is of a grant that was held in the middle of the turn
 pub finished_held : (next : ℕ) (d : Done) → d.requests ≡ []
     → ((r : Request) → d.client.outstanding ≡ Some r → r.sequence ≡ next → ⊥) → (r : Request)
     → (finished d).client.outstanding ≡ Some r → r.sequence ≡ next → IsReturning r.args
     → (h : Held) × (held_of d.client.held r.file ≡ Some h)
-unfolding finished
-finished_held next d none old r out number back =
-    let b = begun_so r.file d in
-    let none_yet : (begun d).requests ≡ [] = b.requests ∙ none in
-    elim (asked_or_old (begun d) none_yet r out) [
-      | inl before ↦ absurd (old r (sym b.outstanding ∙ before) number)
-      | inr one ↦ let it = return_is_held (begun d) none_yet r one back in b.held it.0 it.1
-    ]
+finished_held next d none old r out number back = elim (finished_returns d none r out back) [
+  | inl before ↦ absurd (old r before number)
+  | inr it ↦ it
+]

@@ -74,12 +74,12 @@ module _ (laws : MayLaws) (w : World) (h : List Line) (m : Move) (count : ℕ) (
   abbrev file : ℕ
   file = f.kept.number
 
-  through : IsReadableThrough h
+  pub through : IsReadableThrough h
   through =
       laws.readable h (lawful_at w h k.moment) (text_front h (take count (lines_in w m)) k.calm.scenario.text)
       (fewer h (take count (lines_in w m)) k.calm.scenario.few)
 
-  readable : IsReadable w
+  pub readable : IsReadable w
   readable = through w h [] k.moment (sym (append-nil h))
 
   before : (c : ℕ) → c < CLIENTS → RequestsAgree file f.kept.map s w.server c (client_of w c)
@@ -91,7 +91,7 @@ module _ (laws : MayLaws) (w : World) (h : List Line) (m : Move) (count : ℕ) (
     by : ByClient w m.action j (acts w m.chosen m.action)
     by = parties.client_goes w h k.moment m k.is_due j goes
 
-    agrees : RequestsAgree file f.kept.map s w.server j.client j.state
+    pub agrees : RequestsAgree file f.kept.map s w.server j.client j.state
     agrees =
         subst (RequestsAgree file f.kept.map s w.server j.client)
         (parties.client_before w m.action j (acts w m.chosen m.action) by) (before j.client low)
@@ -101,7 +101,7 @@ module _ (laws : MayLaws) (w : World) (h : List Line) (m : Move) (count : ℕ) (
 
     module _ (from : Node) (b : Message) (a : Answer) (is : j.input ≡ Hears from b)
         (took : takes j.state from b ≡ Some (TakesAnswer a)) where
-      own_is : TakesOwnAnswer w j.client j.state a
+      pub own_is : TakesOwnAnswer w j.client j.state a
       own_is =
           let heard : IsForClient w m.action j.client by.before (Hears from b) =
           subst (IsForClient w m.action j.client by.before) is by.input_is in
@@ -194,7 +194,7 @@ module _ (laws : MayLaws) (w : World) (h : List Line) (m : Move) (count : ℕ) (
 
     -- ---- it asks
 
-    rests_on : (t u : State) → AskingStays t u → AwaitsNothing t j.client → AwaitsNothing u j.client
+    pub rests_on : (t u : State) → AskingStays t u → AwaitsNothing t j.client → AwaitsNothing u j.client
     rests_on t u e rests = record {
       waiting = ap (λ (z : ℕ → Bool). z j.client) e.waiting ∙ rests.waiting;
       away = ap (λ (z : ℕ → Bool). z j.client) e.away ∙ rests.away;

@@ -92,7 +92,7 @@ served_is s c q is =
     }
 
 module _ (s : Server) (chosen : List ℕ) (now c : ℕ) (q : ClientRequest) where
-  on_it : IsServed s c q → step s chosen (Hears now (node.Client c) (Asks q)) ≡ on_request s now chosen q
+  pub on_it : IsServed s c q → step s chosen (Hears now (node.Client c) (Asks q)) ≡ on_request s now chosen q
   unfolding on_message
   on_it k =
       rw (k.room, eq-eqb q.client c k.client, le-leb c MAX_CLIENT k.named) refl

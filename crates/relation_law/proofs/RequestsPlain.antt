@@ -85,7 +85,7 @@ module _ (file c : ℕ) where
   was_refused s (Scatters io queue) = (tt, tt)
   was_refused s phase = (tt, tt)
 
-  taken_reply : (s : State) (a : Awaited) (r : Reply) (o : Option Call) → Plain (table.replied_in s file c a r o)
+  pub taken_reply : (s : State) (a : Awaited) (r : Reply) (o : Option Call) → Plain (table.replied_in s file c a r o)
   taken_reply s a r None = tt
   taken_reply s a r (Some call) =
       where_all IsPlain (file_of call.op == file) _
@@ -93,7 +93,7 @@ module _ (file c : ℕ) where
       (all_more IsPlain (table.refused s c call.phase) _ (was_refused s call.phase)
       (where_all IsPlain (r.verdict == OTHER_TAG) _ (tt, tt))))
 
-  turned : (s : State) (t : Turn) → Plain (table.turned s c t)
+  pub turned : (s : State) (t : Turn) → Plain (table.turned s c t)
   turned s (Ends (Silent k)) = (tt, tt)
   turned s (Ends (Lost positions)) = (tt, tt)
   turned s (Goes (Needs (Close outcome (e ∷ es)))) = (tt, tt)

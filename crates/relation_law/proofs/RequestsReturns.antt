@@ -142,7 +142,7 @@ not_next n m last same = elim (cases_eq n 0) [
 -- ---- an answer
 
 -- nothing was asked yet, and nothing is outstanding
-abbrev AsksNone : Done → Type 0
+abbrev pub AsksNone : Done → Type 0
 AsksNone d = (d.requests ≡ []) × (d.client.outstanding ≡ None)
 
 module _ (x : Client) (a : Answer) where
@@ -186,7 +186,7 @@ module _ (x : Client) (a : Answer) where
   phase_none op (Gathers io) = (refl, refl)
   phase_none op (Scatters io queue) = (refl, refl)
 
-  answered_asked : (o : Option Call) → AsksNone (on_call freed o a)
+  pub answered_asked : (o : Option Call) → AsksNone (on_call freed o a)
   answered_asked None = (refl, refl)
   answered_asked (Some call) = phase_none call.op call.phase
 

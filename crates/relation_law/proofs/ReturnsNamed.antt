@@ -19,12 +19,14 @@ use Rattle.client_rules.specs.Requests.{id_in, object_of, error_at, report_of}
 use Rattle.client_rules.specs.Writes.{is_too_short}
 use Rattle.world_history.specs.ClientNames.{CallOp, Held, Listed, TimedOut}
 use Rattle.world_history.specs.ServerNames.{Component, Drive, Grant, Kept}
-use Rattle.server_rules.specs.declared.limits.TheConstants.{GREATEST_TAG}
+use Rattle.server_rules.specs.declared.limits.TheConstants.{GREATEST_TAG, FIRST_PARTITION}
 use Rattle.server_rules.specs.Grants.{grant_of}
+use Rattle.server_rules.specs.Laws.{In}
 use Rattle.server_rules.specs.Maps.{group_with}
 use Rattle.server_rules.specs.Numbers.{among}
-use Rattle.server_rules.specs.Return.{Taken, TooMany, Fencing, is_device, is_at, is_unreachable, named_from, and_others, named, none_beyond, bearable, loss, by_loss, by_grant, return_row}
+use Rattle.server_rules.specs.Return.{Taken, TooMany, Fencing, is_device, is_at, is_unreachable, named_from, named_by, and_others, named, none_beyond, bearable, loss, by_loss, by_grant, return_row}
 use Rattle.server_rules.specs.Standing.{is_beyond, lose_from}
+use Rattle.server_rules.proofs.Members.{in_map}
 use Rattle.component_law.specs.Objects.{objects_of, NoneIs, AllDiffer}
 use Rattle.component_law.specs.Listed.{ListsComponents}
 use Rattle.component_law.proofs.PartyKeeping.{IsAlike}
@@ -155,6 +157,49 @@ none_of : {A : Type 0} (o : Option A) → is_some o ≡ false → o ≡ None
 none_of None e = refl
 none_of (Some x) e = absurd (cc e)
 
+-- what timed out is among what did
+in_these : (timed : List TimedOut) (t : TimedOut) → In t timed
+    → among_these t.ask.component (map (λ (u : TimedOut). u.ask.component) timed) ≡ true
+in_these [] t i = absurd i
+in_these (u ∷ us) t (inl same) =
+    rw (eq-eqb u.ask.component t.ask.component (ap (λ (y : TimedOut). y.ask.component) (sym same))) refl
+in_these (u ∷ us) t (inr i) = elim (cases_Bool (u.ask.component == t.ask.component)) [
+  | inl x ↦ rw x refl
+  | inr x ↦ rw x (in_these us t i)
+]
+
+-- an object of no partition is no component's
+none_from : (e : IoErr) (cs : List Component) (j : ℕ) → e.oer_component.oid_partition_id ≡ 0 → named_from e cs j ≡ None
+unfolding named_from
+none_from e [] j zero_ = refl
+none_from e (c ∷ cs) j zero_ =
+    let other : (e.oer_component.oid_partition_id == FIRST_PARTITION + c.drive) ≡ false =
+    ne_eqb e.oer_component.oid_partition_id (FIRST_PARTITION + c.drive) (λ same. omega (arith, zero_, same)) in
+    rw (other, neither (is_device e.oer_component.oid_device_id c.drive)) (none_from e cs (j + 1) zero_)
+  where
+    neither : (b : Bool) → (b && false) ≡ false
+    neither true = refl
+    neither false = refl
+
+-- where each entry names a component, so does one of them
+one_named : (es : List IoErr) (cs : List Component) (ks : List ℕ) → named es cs ≡ Some ks → (e : IoErr) → In e es
+    → is_unreachable e.oer_errno ≡ true → e.oer_component.oid_partition_id ≡ 0 → ⊥
+unfolding named
+one_named [] cs ks names e i silent zero_ = i
+one_named (d ∷ es) cs ks names e i silent zero_ =
+    by (λ js rest. one_named es cs js rest e) (named_by d cs) refl (named es cs) refl names i
+  where
+    by : ((js : List ℕ) → named es cs ≡ Some js → In e es → is_unreachable e.oer_errno ≡ true
+        → e.oer_component.oid_partition_id ≡ 0 → ⊥)
+        → (o : Option ℕ) → named_by d cs ≡ o → (p : Option (List ℕ)) → named es cs ≡ p → and_others o p ≡ Some ks
+        → (e ≡ d) ⊎ In e es → ⊥
+    by later None first p rest all at_ = cc all
+    by later (Some m) first None rest all at_ = cc all
+    by later (Some m) first (Some js) rest all (inl same) =
+        let none : named_by e cs ≡ None = rw silent (none_from e cs 0 zero_) in
+        cc (sym none ∙ ap (λ (x : IoErr). named_by x cs) same ∙ first)
+    by later (Some m) first (Some js) rest all (inr i_) = later js rest i_ silent zero_
+
 -- ---- too much timed out
 
 -- a component that timed out, as the server reads of it
@@ -238,6 +283,27 @@ module _ (ds : List Drive) (f : Kept) (g : Grant) (h : Held) (lists : ListsCompo
         ap (λ (z : ℕ). is_beyond f.map (lose_from ks f.components 0) z) n.group ∙ beyond,
       )
 
+  -- each component that timed out is named, where each entry names one
+  pub each_named : (timed : List TimedOut) (ks : List ℕ) → named (report_read (report_of h timed)) f.components ≡ Some ks
+      → (t : TimedOut) → In t timed → among t.ask.component ks ≡ true
+  unfolding error_at object_of
+  each_named timed ks names t i =
+      let told : named (map (entry_of h) timed) f.components ≡ Some ks =
+      subst (λ (es : List IoErr). named es f.components ≡ Some ks) (read_each h timed) names in
+      elim (slice_get_cases f.components t.ask.component).1 [
+        | inl y ↦
+            named_all (entry_of h) silent f.components differ objects timed ks told t.ask.component y.0 y.2 (in_these timed t i)
+        | inr y ↦ elim (slice_get_cases h.components t.ask.component).1 [
+          | inl z ↦ absurd (omega (arith, y.0, lists.count, slice_get_within h.components t.ask.component z.0 z.2))
+          | inr z ↦
+              let zero_ : as_written (id_in (slice_get h.components t.ask.component)).oid_partition_id ≡ 0 =
+              ap (λ (o : Option Listed). as_written (id_in o).oid_partition_id) z.1
+              ∙ from_be_bytes-to_be_bytes_8 0 (omega arith) in
+              absurd (one_named (map (entry_of h) timed) f.components ks told (entry_of h t) (in_map (entry_of h) t timed i)
+              (silent t) zero_)
+        ]
+      ]
+
 -- ---- a refusal
 
 -- it names nothing
@@ -264,7 +330,7 @@ same_name e (c ∷ cs) (d ∷ ds) j long each =
     let less : length ds ≡ length cs = cc long in
     rw (drive, object, same_name e cs ds (j + 1) less (λ k b found. each (suc k) b found)) refl
 
-same_names : (es : List IoErr) (cs ds : List Component) → length ds ≡ length cs
+pub same_names : (es : List IoErr) (cs ds : List Component) → length ds ≡ length cs
     → ((k : ℕ) (b : Component) → slice_get ds k ≡ Some b
     → (a : Component) × (slice_get cs k ≡ Some a) × (b.drive ≡ a.drive) × (b.object ≡ a.object))
     → named es ds ≡ named es cs

@@ -54,7 +54,7 @@ use Rattle.relation_law.specs.Requests.{Works, IsReturning}
 use Rattle.relation_law.specs.RequestsClients.{IsReturnOf, IsGetting, IsCommitting, AsksBy, AsksFor}
 use Rattle.relation_law.specs.RequestsGoing.{IsItsRequest}
 use Rattle.relation_law.specs.Returns.{error_read, report_read, SomeTimedOut, CantBeBorne, CallReports}
-use Rattle.relation_law.specs.Steps.{FollowsWhole}
+use Rattle.relation_law.specs.Steps.{Follows}
 use Rattle.relation_law.proofs.KeptCommits.{asker_low}
 use Rattle.relation_law.proofs.RequestsAsking.{works_due}
 use Rattle.relation_law.proofs.RequestsClients.{clients_ask_for}
@@ -67,7 +67,7 @@ use Rattle.relation_law.proofs.ReturnsStands.{ReturnsLaws, Reports, reports_stan
 
 -- ---- a client's reports are short
 
-short_kept : IsKeptByClients (λ n x. ClientShort x)
+pub short_kept : IsKeptByClients (λ n x. ClientShort x)
 short_kept = record {
   more = λ n k x s. s;
   made = λ n number. new_short number 1;
@@ -114,14 +114,14 @@ unkept (Some t) r next = rw (ne_eqb t.last r.sequence (λ e. absurd (omega (arit
 -- ---- a return that is read
 
 -- what the server reads as a return is one
-return_asked : (a : Args) (report : List IoErr) → asked_in a ≡ Some (Returns report)
+pub return_asked : (a : Args) (report : List IoErr) → asked_in a ≡ Some (Returns report)
     → (z : LayoutReturnArgs) × (a ≡ args.LayoutReturn z)
 return_asked (args.LayoutGet g) report e = absurd (cc e)
 return_asked (args.LayoutReturn z) report e = (z, refl)
 return_asked (args.LayoutCommit z) report e =
     absurd (cc (sym (commit_read z.last_write_offset (whole update_in z.body) (Returns report) e)))
 
-read_of : (es report : List IoErr) (a : Args) → IsReturnOf es a → asked_in a ≡ Some (Returns report)
+pub read_of : (es report : List IoErr) (a : Args) → IsReturnOf es a → asked_in a ≡ Some (Returns report)
     → asked_in (return_args 0 es) ≡ Some (Returns report)
 read_of es report a of e = subst (λ (z : Args). asked_in z ≡ Some (Returns report)) of.1 e
 
@@ -151,7 +151,8 @@ pub record RightLaws : Type 0 where
   pub world : ReturnsLaws
   pub readable : FilesAndAnswersAreReadable
 
-module _ (laws : RightLaws) (w : World) (h : List Line) (m : Move) (f g : File) (s : State) (k : FollowsWhole w h m f g s)
+module _ (laws : RightLaws) (w : World) (h : List Line) (m : Move) (count : ℕ) (f g : File) (s : State)
+    (k : Follows w h m count f g s)
     (now : ℕ) (q : ClientRequest) (is : input_in w m.action ≡ Some (Hears now (node.Client q.client) (Asks q)))
     (served : is_served w.server q.client q ≡ true) (here : q.file ≡ f.kept.number) (report : List IoErr)
     (args_are : q.args ≡ Returns report) where
@@ -165,19 +166,19 @@ module _ (laws : RightLaws) (w : World) (h : List Line) (m : Move) (f g : File) 
   t = slot_of w.server.slots c
 
   text : AreOfText h
-  text = text_front h (take (length (lines_in w m)) (lines_in w m)) k.follows.calm.scenario.text
+  text = text_front h (take count (lines_in w m)) k.calm.scenario.text
 
   few : AreFew h
-  few = fewer h (take (length (lines_in w m)) (lines_in w m)) k.follows.calm.scenario.few
+  few = fewer h (take count (lines_in w m)) k.calm.scenario.few
 
   through : IsReadableThrough h
-  through = laws.readable h (lawful_at w h k.follows.moment) text few
+  through = laws.readable h (lawful_at w h k.moment) text few
 
   its : IsItsRequest w c q
   its =
       let takes = served_is w.server c q served in
-      its_request w h c k.follows.moment (laws.world.in_step w h k.follows.moment c)
-      (readable_there w h k.follows.moment through) now q takes.named
+      its_request w h c k.moment (laws.world.in_step w h k.moment c)
+      (readable_there w h k.moment through) now q takes.named
       (heard_in w m.action (Hears now (node.Client c) (Asks q)) is) takes.new
 
   abbrev r : Request
@@ -190,27 +191,27 @@ module _ (laws : RightLaws) (w : World) (h : List Line) (m : Move) (f g : File) 
   told = its.reads.args ∙ ap (λ (a : RequestArgs). Some a) args_are
 
   asks : AsksFor x
-  asks = clients_ask_for w (reached w h k.follows.moment) c
+  asks = clients_ask_for w (reached w h k.moment) c
 
   low : c < CLIENTS
-  low = asker_low w h k.follows.moment text c r its.outstanding
+  low = asker_low w h k.moment text c r its.outstanding
 
   reports : Reports w.server c x
-  reports = reports_stand laws.world w h k.follows.moment through c
+  reports = reports_stand laws.world w h k.moment through c
 
   short : ClientShort x
   short = by (at_number w.clients c) refl
     where
       by : (o : Option ClientAt) → at_number w.clients c ≡ o → ClientShort (state_of c o)
       by None found = new_short c 1
-      by (Some a) found = clients_always (λ n y. ClientShort y) short_kept w (reached w h k.follows.moment) c a found
+      by (Some a) found = clients_always (λ n y. ClientShort y) short_kept w (reached w h k.moment) c a found
 
   -- what it is to the machine
   waits : (o : Option Call) → x.call ≡ o → ClassIs f.kept.map s c x (kept_by t r) (return_class (phase_of o))
   unfolding class_of
   waits o call =
       let a = return_asked r.args report told in
-      let agree : RequestsAgree f.kept.number f.kept.map s w.server c x = (k.follows.related.clients c low).slot in
+      let agree : RequestsAgree f.kept.number f.kept.map s w.server c x = (k.related.clients c low).slot in
       let out : IsOutstanding f.kept.number f.kept.map s t c x r =
       subst (λ (z : Option Request). RequestIs f.kept.number f.kept.map s t c x z) its.outstanding agree.request in
       rw (eq-eqb r.file f.kept.number on_file, a.1, call) at out.waits
@@ -236,7 +237,7 @@ module _ (laws : RightLaws) (w : World) (h : List Line) (m : Move) (f g : File) 
       reports).reports.1 in
       let row : (ks : List ℕ) → return_row f.kept c (report_read (e ∷ es)) ≡ Taken ks → ⊥ =
       never_taken f.kept c (error_read e) (report_read es) (λ grant has. borne f grant
-      (subst (λ (n : ℕ). file_at w.server.files n ≡ Some f) (sym file) k.follows.there) has) in
+      (subst (λ (n : ℕ). file_at w.server.files n ≡ Some f) (sym file) k.there) has) in
       IsBroken y.waiting y.asked (not_clean f.kept c report (λ none. cc (sym is_read ∙ none)))
       (λ ks taken. row ks (ap (return_row f.kept c) (sym is_read) ∙ taken))
 
@@ -260,7 +261,7 @@ module _ (laws : RightLaws) (w : World) (h : List Line) (m : Move) (f g : File) 
       rw (call, kept, eq-eqb (file_of op) f.kept.number file) refl in
       let held : HoldsNone s c x.outstanding (reports_on f.kept.number x.call && not (is_taken (kept_for t x.outstanding))) =
       subst (HeldIs f.kept.number f.kept.map s c x (kept_for t x.outstanding)) none
-      (k.follows.related.clients c low).client.held in
+      (k.related.clients c low).client.held in
       let holds : HoldsReported s c x.outstanding = subst (HoldsNone s c x.outstanding) flag held in
       IsReport y.waiting
       (not_clean f.kept c report (some_reported hh timed report some few_ (read_of (report_of hh timed) report r.args of told)))
@@ -303,7 +304,15 @@ module _ (laws : RightLaws) (w : World) (h : List Line) (m : Move) (f g : File) 
       clean None call refl (asks.due (λ op n at. absurd (cc (sym call ∙ at))) r its.outstanding)
   by_call (Some call) at = by_phase call.op call.phase at
 
--- Returns are as the machine has them.
+-- Returns are as the machine has them, at any cut of the move.
+pub returns_at : RightLaws → (w : World) (h : List Line) (m : Move) (count : ℕ) (f g : File) (s : State)
+    → Follows w h m count f g s → (now : ℕ) (q : ClientRequest)
+    → input_in w m.action ≡ Some (Hears now (node.Client q.client) (Asks q)) → is_served w.server q.client q ≡ true
+    → q.file ≡ f.kept.number → (report : List IoErr) → q.args ≡ Returns report
+    → ReturnIs s q.client (return_row f.kept q.client report)
+returns_at laws w h m count f g s k now q is served here report args_are =
+    by_call laws w h m count f g s k now q is served here report args_are (client_of w q.client).call refl
+
 pub returns_are_right : RightLaws → ReturnsAreRight
 returns_are_right laws w h m f g s k now q is served here report args_are =
-    by_call laws w h m f g s k now q is served here report args_are (client_of w q.client).call refl
+    returns_at laws w h m (length (lines_in w m)) f g s k.follows now q is served here report args_are

@@ -15,7 +15,7 @@ use Rattle.server_rules.specs.Served.{Served}
 use Rattle.server_rules.specs.Slots.{Admit, New, Again, Misordered, slot_of, admit}
 use Rattle.server_rules.proofs.FileLaws.{number_at, put_same, put_other}
 use Rattle.world_history.specs.ClientNames.{Client, CallOp, Call, Held, Request, Need, First, Get, Commit, Report, Close, Phase, Starts, Needs, Waits, Reads, Probes, Gathers, Scatters}
-use Rattle.world_history.specs.ServerNames.{Server, File, Grant, ClientRequest}
+use Rattle.world_history.specs.ServerNames.{Server, File, Kept, Grant, ClientRequest}
 use Rattle.client_rules.specs.Calls.{file_of}
 use Rattle.client_rules.specs.Grants.{held_of}
 use Rattle.exchange_law.specs.Calls.{Knows, IsNoGet, NoGet, PhaseFine, CallFine}
@@ -31,8 +31,14 @@ use Rattle.relation_law.proofs.ReturnsNamed.{beyond_alike}
 
 -- ---- a step
 
-module _ (s : Server) (chosen : List ℕ) (c : ℕ) (x : Client) (none : NoGet x.outstanding) (file : ℕ) (report : List IoErr)
-    (borne : CantBeBorne s c file report) where
+-- so it is of what is kept of the file, if the server has a grant of client c there
+abbrev pub OnGrants : (Kept → Type 0) → Server → (c file : ℕ) → Type 0
+OnGrants P s c file =
+    (f : File) (g : Grant) → file_at s.files file ≡ Some f → grant_of f.kept.grants c ≡ Some g → P f.kept
+
+-- P stays where components become missing, and nothing else changes that a grant has
+module _ (s : Server) (chosen : List ℕ) (c : ℕ) (x : Client) (none : NoGet x.outstanding) (file : ℕ) (P : Kept → Type 0)
+    (stays : (Off : ℕ → Type 0) (f k : Kept) → IsAlike Off f k → P f → P k) (borne : OnGrants P s c file) where
   module _ (now : ℕ) (q : ClientRequest)
       (own : q.client ≡ c → (r : Request) × (x.outstanding ≡ Some r) × IsReadAs q r) where
     module _ (f : File) (at : file_at s.files q.file ≡ Some f) where
@@ -53,9 +59,9 @@ module _ (s : Server) (chosen : List ℕ) (c : ℕ) (x : Client) (none : NoGet x
 
       old : (g : Grant) → q.file ≡ file
           → ((grant_of f.kept.grants c ≡ Some g) × IsAlike (IsOffline s.drives) f.kept v.going.file.kept)
-          ⊎ ((c ≡ q.client) × (v.told.grant ≡ Some g)) → IsBeyondBearing v.going.file.kept report
+          ⊎ ((c ≡ q.client) × (v.told.grant ≡ Some g)) → P v.going.file.kept
       old g same (inl before) =
-          beyond_alike (IsOffline s.drives) f.kept v.going.file.kept report before.1
+          stays (IsOffline s.drives) f.kept v.going.file.kept before.1
           (borne f g (subst (λ (n : ℕ). file_at s.files n ≡ Some f) same at) before.0)
       old g same (inr new) =
           let r = own (sym new.0) in
@@ -63,49 +69,57 @@ module _ (s : Server) (chosen : List ℕ) (c : ℕ) (x : Client) (none : NoGet x
           absurd (none_told (at_file s chosen f) s.next_grant s.format now q.client q.args g
           (no_get_asked r.0.args q.args no_get r.2.args) new.1)
 
-      served_stays : CantBeBorne t c file report
+      served_stays : OnGrants P t c file
       served_stays e g found has = elim (cases_eq q.file file) [
         | inl same ↦
             let it : v.going.file ≡ e = cc (sym there ∙ subst (λ (n : ℕ). file_at t.files n ≡ Some e) (sym same) found) in
             let mine : grant_of v.going.file.kept.grants c ≡ Some g =
             ap (λ (y : File). grant_of y.kept.grants c) it ∙ has in
-            subst (λ (y : File). IsBeyondBearing y.kept report) it (old g same (may.grants c g mine))
+            subst (λ (y : File). P y.kept) it (old g same (may.grants c g mine))
         | inr other ↦
             borne e g (sym (put_other s.files q.file v.going.file number file (ne_eqb q.file file other)) ∙ found) has
       ]
 
     carried_stays : (o : Option File) → file_at s.files q.file ≡ o
-        → CantBeBorne (carries_out s now chosen q o).state c file report
+        → OnGrants P (carries_out s now chosen q o).state c file
     carried_stays None at = borne
     carried_stays (Some f) at = served_stays f at
 
   admitted_stays : (now : ℕ) (q : ClientRequest) (a : Admit) → admit (slot_of s.slots q.client) q.sequence ≡ a
       → (q.client ≡ c → admit (slot_of s.slots q.client) q.sequence ≡ New
       → (r : Request) × (x.outstanding ≡ Some r) × IsReadAs q r)
-      → CantBeBorne (by_admit s now chosen q a).state c file report
+      → OnGrants P (by_admit s now chosen q a).state c file
   admitted_stays now q (Again kept) e own = borne
   admitted_stays now q (Misordered expected) e own = borne
   admitted_stays now q New e own = carried_stays now q (λ same. own same e) (file_at s.files q.file) refl
 
-  did_stays : (i : Input) → Did s chosen i (step s chosen i) → IsOwn s c x i → CantBeBorne (step s chosen i).state c file report
+  did_stays : (i : Input) → Did s chosen i (step s chosen i) → IsOwn s c x i → OnGrants P (step s chosen i).state c file
   unfolding on_request
   did_stays i (Quiet all same) own = λ f g at has. by f g has (all file f at)
     where
       by : (f : File) (g : Grant) → grant_of f.kept.grants c ≡ Some g
-          → FewerAt (IsOffline (step s chosen i).state.drives) s.files file f → IsBeyondBearing f.kept report
+          → FewerAt (IsOffline (step s chosen i).state.drives) s.files file f → P f.kept
       by f g has (inl (e, stood, fewer)) =
           let y = fewer.grants c g has in
-          beyond_alike (IsOffline (step s chosen i).state.drives) e.kept f.kept report y.1 (borne e g stood y.0)
+          stays (IsOffline (step s chosen i).state.drives) e.kept f.kept y.1 (borne e g stood y.0)
       by f g has (inr gone) = absurd (cc (ap (λ (gs : List Grant). grant_of gs c) (sym gone) ∙ has))
   did_stays i (Asked now q is done) own =
-      subst (λ (t : _). CantBeBorne t.state c file report) (sym done)
+      subst (λ (t : _). OnGrants P t.state c file) (sym done)
       (admitted_stays now q (admit (slot_of s.slots q.client) q.sequence) refl
       (λ same new. own now q (is.is ∙ ap (λ (n : ℕ). Hears now (FromClient n) (Asks q)) same) same
       (subst (λ (n : ℕ). n ≤ MAX_CLIENT) same is.named)
       (subst (λ (n : ℕ). admit (slot_of s.slots n) q.sequence ≡ New) same new)))
 
-  pub borne_behind : (i : Input) → AreSafe s.files → IsOwn s c x i → CantBeBorne (step s chosen i).state c file report
-  borne_behind i safe own = did_stays i (step_did s chosen i safe) own
+  pub stays_behind : (i : Input) → AreSafe s.files → IsOwn s c x i → OnGrants P (step s chosen i).state c file
+  stays_behind i safe own = did_stays i (step_did s chosen i safe) own
+
+-- so can't be borne what couldn't
+pub borne_behind : (s : Server) (chosen : List ℕ) (c : ℕ) (x : Client) → NoGet x.outstanding → (file : ℕ)
+    (report : List IoErr) → CantBeBorne s c file report → (i : Input) → AreSafe s.files → IsOwn s c x i
+    → CantBeBorne (step s chosen i).state c file report
+borne_behind s chosen c x none file report borne =
+    stays_behind s chosen c x none file (λ (k : Kept). IsBeyondBearing k report)
+    (λ Off f k a b. beyond_alike Off f k report a b) borne
 
 -- ---- a call
 

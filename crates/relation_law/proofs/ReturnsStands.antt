@@ -1,6 +1,6 @@
 -- At each moment what a client reports of a write that broke off can't be borne by the server.
 -- Towards `ReturnsAreRight` (`specs/KeptFollows.antt`).
-use Rattle.std.proofs.Common.{◌≡◌, ◌⊎◌, ◌++◌, ℕ, List, [], Some, inl, inr, refl, sym, ap, subst, ◌∙◌}
+use Rattle.std.proofs.Common.{◌≡◌, ◌⊎◌, ◌++◌, ℕ, List, [], Some, inl, inr, sym, ap, subst, ◌∙◌}
 use Rattle.std.proofs.lemmas.Bool.{cases_eq}
 use Rattle.std.proofs.lemmas.List.{append-nil}
 use Rattle.layout_types.specs.declared.ioerrs.IoErr.{IoErr}
@@ -55,10 +55,10 @@ always_fine = record {
   steps = λ n x i number wrote logged f. turn_is_fine x i f;
 }
 
-shaped : FilesHaveShape
+pub shaped : FilesHaveShape
 shaped = files_have_shape parties_run
 
-objects_differ : (w : World) → IsReached w → (n : ℕ) (f : File) → file_at w.server.files n ≡ Some f
+pub objects_differ : (w : World) → IsReached w → (n : ℕ) (f : File) → file_at w.server.files n ≡ Some f
     → AllDiffer (objects_of f.kept.components)
 objects_differ w at n f there =
     let run = (parties_run w at).server in

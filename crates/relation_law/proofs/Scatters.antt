@@ -32,7 +32,7 @@ use Rattle.relation_law.proofs.MessagesClients.{IsUsable, IsFit, GathersFor}
 use Rattle.relation_law.proofs.MessagesContent.{stores_of}
 use Rattle.relation_law.proofs.MessagesGathers.{GathersOn, HasBytes, begin_writable}
 use Rattle.relation_law.proofs.MessagesRun.{FineDone, call_bytes}
-use Rattle.relation_law.specs.Working.{is_scatter}
+use Rattle.file_simulation.specs.Messages.{is_scatter}
 
 -- A scatter that begins: what its call got, the WRITEs of its plan, and those that go out first.
 pub record Scattered (h : Held) (op : CallOp) (got : List Column) (io : Io) (queue : List Store) (cs : List Awaited) : Type 0

@@ -58,7 +58,7 @@ parts_small (call.Read f offset n) fit = λ k d low. absurd (omega (arith, low))
 same_input : (p q : ForClient) → Some p ≡ Some q → p.input ≡ q.input
 same_input p q e = let r : p ≡ q = cc e in ap (λ (z : ForClient). z.input) r
 
-asked_small : (a : Action) (ls : List Line) → AreOfText (with_event a ls) → (c : ℕ) (op : CallOp) →
+pub asked_small : (a : Action) (ls : List Line) → AreOfText (with_event a ls) → (c : ℕ) (op : CallOp) →
     asked_in a ≡ Some (record { number = c; input = Calls op }) → IsSmall op
 asked_small (Opens (event.Do d x)) ls text c op e =
     let i : Calls (op_of x) ≡ Calls op =
@@ -90,7 +90,7 @@ asked_small a ls text c op e = absurd (cc e)
 
 -- ---- a step
 
-pending_small : (o : Option Call) → CallSmall o → OpSmall (option_map (λ (x : Call). x.op) o)
+pub pending_small : (o : Option Call) → CallSmall o → OpSmall (option_map (λ (x : Call). x.op) o)
 pending_small None k = tt
 pending_small (Some call) k = k
 
@@ -170,7 +170,7 @@ move_small w m text all = each_act w m.chosen (λ (a : Act). AllSmall a.world.cl
   adds = λ d key capacity stored is knows. all;
 })
 
-calls_small : OneEventMore → (w : World) (h : List Line) → IsMoment w h → AreOfText h → AllSmall w.clients
+pub calls_small : OneEventMore → (w : World) (h : List Line) → IsMoment w h → AreOfText h → AllSmall w.clients
 calls_small more w h k =
     always (λ w h. AreOfText h → AllSmall w.clients) (record {
       starts = λ text c a e. absurd (cc e);

@@ -54,7 +54,7 @@ split_in seen (w ∷ ws) q (inr j) = elim (cases_Bool (among w.ask.component see
   | inr f ↦ rw f (inr (split_in (w.ask.component ∷ seen) ws q j))
 ]
 
-join_in : (seen : List ℕ) (ws : List Store) (q : Store) → In q (firsts seen ws ++ laters seen ws) → In q ws
+pub join_in : (seen : List ℕ) (ws : List Store) (q : Store) → In q (firsts seen ws ++ laters seen ws) → In q ws
 unfolding firsts laters
 join_in seen [] q i = absurd i
 join_in seen (w ∷ ws) q i = elim (cases_Bool (among w.ask.component seen)) [

@@ -47,7 +47,8 @@ use Rattle.relation_law.proofs.MessagesGathers.{HasBytes, begin_writable}
 use Rattle.relation_law.proofs.MessagesRun.{CallFits, IsFine, FineDone, call_bytes, finishes}
 use Rattle.relation_law.proofs.MessagesSends.{component_is}
 use Rattle.relation_law.proofs.MessagesTurns.{begun_fits}
-use Rattle.relation_law.specs.Working.{is_scatter, WorksUnder, CallWorks, ClientWorks, SentIn, DoneWorks}
+use Rattle.relation_law.specs.Working.{WorksUnder, CallWorks, ClientWorks, SentIn, DoneWorks}
+use Rattle.file_simulation.specs.Messages.{is_scatter}
 use Rattle.relation_law.proofs.SomeWrites.{some_stores}
 use Rattle.relation_law.proofs.WorksRun.{free_call, none_sent, begun_works, answered_works, replied_done as replied_works, timed_done as timed_works}
 
@@ -115,10 +116,29 @@ module _ (s : State) (c : ℕ) where
   timed_waits false t = refl
   timed_waits true t = turned_waits t
 
+-- ---- commands
+
+-- what a call on the file awaits fits its grant
+pub fit_all : (y : Client) (call : Call) → y.call ≡ Some call → (h : Held) → WorksUnder h call.phase →
+    (cs : List Awaited) → ((a : Awaited) → In a cs → In a (awaited_in call.phase)) →
+    CommandsFit y h (is_scatter call.phase) cs
+fit_all y call is h z [] each = tt
+fit_all y call is h z (a ∷ cs) each =
+    let there = each a (inl refl) in
+    let one = z.ones a there in (
+      record {
+        action = one.action;
+        named = component_is y y.call call (awaited_in call.phase) a is refl z.nonces.differ there;
+        offset = one.offset;
+        nonce = z.nonces.below a there;
+      },
+      fit_all y call is h z cs (λ b j. each b (inr j)),
+    )
+
 -- ---- a turn
 
 -- a call that works asks nothing
-works_asks_none : (d : Done) (call : Call) → d.client.call ≡ Some call → IsWorking call.phase → progressed d ≡ d
+pub works_asks_none : (d : Done) (call : Call) → d.client.call ≡ Some call → IsWorking call.phase → progressed d ≡ d
 unfolding progressed
 works_asks_none d call is work = by_request d.client.outstanding
   where
@@ -202,7 +222,7 @@ module _ (file : ℕ) (m : RawMap) (c : ℕ) (s : State) (x : Client) (slot : Op
             rw e (timed_done x i facts.fine Any n call h a xs t (λ bytes z. tt))
         by_turn (Stays es_is call held out next sent none) = as_it_is d call held none
 
-    works_done : DoneWorks d
+    pub works_done : DoneWorks d
     works_done = by_turn turn
       where
         as_it_is : (y : Done) → y.client.call ≡ x.call → y.client.held ≡ x.held → y.commands ≡ [] → DoneWorks y
@@ -293,7 +313,7 @@ module _ (file : ℕ) (m : RawMap) (c : ℕ) (s : State) (x : Client) (slot : Op
 
     -- ---- what goes out
 
-    begun_done : DoneWorks (begun d)
+    pub begun_done : DoneWorks (begun d)
     begun_done = begun_works d works_done
 
     begun_fine : FineDone Any (begun d)
@@ -330,28 +350,11 @@ module _ (file : ℕ) (m : RawMap) (c : ℕ) (s : State) (x : Client) (slot : Op
       holds : IsWorking call.phase → (h : Held) × (held_of (begun d).client.held file ≡ Some h)
       holds z = let r = its.0 z in (r.0, sym at_file ∙ r.1)
 
-      fit_all : (h : Held) → held_of (begun d).client.held file ≡ Some h → (cs : List Awaited) →
-          ((a : Awaited) → In a cs → In a (awaited_in call.phase)) →
-          CommandsFit (begun d).client h (is_scatter call.phase) cs
-      fit_all h held [] each = tt
-      fit_all h held (a ∷ cs) each =
-          let z : WorksUnder h call.phase = its.1 h (at_file ∙ held) in
-          let there = each a (inl refl) in
-          let one = z.ones a there in (
-            record {
-              action = one.action;
-              named = component_is (begun d).client (begun d).client.call call (awaited_in call.phase) a is refl z.nonces.differ
-                  there;
-              offset = one.offset;
-              nonce = z.nonces.below a there;
-            },
-            fit_all h held cs (λ b j. each b (inr j)),
-          )
-
       commands_fit : (h : Held) → held_of (begun d).client.held file ≡ Some h →
           CommandsFit (begun d).client h (is_scatter call.phase) (begun d).commands
       commands_fit h held =
-          fit_all h held (begun d).commands (subst (SentIn (begun d).commands) is begun_done.sent)
+          fit_all (begun d).client call is h (its.1 h (at_file ∙ held)) (begun d).commands
+          (subst (SentIn (begun d).commands) is begun_done.sent)
 
       fit : (h : Held) → held_of (begun d).client.held file ≡ Some h → (p : Phase) → call.phase ≡ p → IsFit h call.op p
       fit h held p e =

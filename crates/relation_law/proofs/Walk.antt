@@ -132,7 +132,7 @@ target_by g n t (Some d) e =
     (ap (λ (x : Target). x.component) (sym same), ap (λ (x : Target). x.object) (sym same))
 
 -- where a component is made anew, and with which number
-target_is : (g : Going) (at : Component) (n : ℕ) (t : Target) → target_for g at n ≡ Some t →
+pub target_is : (g : Going) (at : Component) (n : ℕ) (t : Target) → target_for g at n ≡ Some t →
     (t.component ≡ n) × (t.object ≡ g.effects.object)
 unfolding target_for
 target_is g at n t e = elim (cases_Bool at.missing) [
@@ -173,7 +173,7 @@ module _ (Q : Place → Going → Type 0) (E : Going → Type 0) (k : JobCases Q
 
   -- ---- audit
 
-  walk_audits : (ps : List Piece) (t : Tally) (g : Going) → Q (AtAudit ps) g → E (audits g ps t)
+  pub walk_audits : (ps : List Piece) (t : Tally) (g : Going) → Q (AtAudit ps) g → E (audits g ps t)
   unfolding audits
   walk_audits [] t g q = k.counted t g q
   walk_audits (p ∷ ps) t g q =
@@ -196,7 +196,7 @@ module _ (Q : Place → Going → Type 0) (E : Going → Type 0) (k : JobCases Q
       let r = target_is g at n t is in
       k.aims t g (subst (λ (m : ℕ). Q (AtRebuild m) g) (sym r.0) q) r.1
 
-  walk_rebuilds : (cs : List Component) (n : ℕ) (g : Going) → Q (AtRebuild n) g → E (rebuilds g cs n)
+  pub walk_rebuilds : (cs : List Component) (n : ℕ) (g : Going) → Q (AtRebuild n) g → E (rebuilds g cs n)
   unfolding rebuilds
   walk_rebuilds [] n g q = k.built n g q
   walk_rebuilds (at ∷ cs) n g q =
@@ -206,7 +206,7 @@ module _ (Q : Place → Going → Type 0) (E : Going → Type 0) (k : JobCases Q
   walk_past : (t : Target) (g : Going) → Q (AtRebuild (t.component + 1)) g → E (goes_past g t)
   walk_past t g q = walk_rebuilds (drop (t.component + 1) g.file.kept.components) (t.component + 1) g q
 
-  walk_fills : (t : Target) (ps : List Piece) (g : Going) → Q (AtFill t ps) g → E (fills g t ps)
+  pub walk_fills : (t : Target) (ps : List Piece) (g : Going) → Q (AtFill t ps) g → E (fills g t ps)
   unfolding fills
   walk_fills t [] g q = walk_past t (standing g t) (k.builds t g q)
   walk_fills t (p ∷ ps) g q =
@@ -239,7 +239,7 @@ module _ (Q : Place → Going → Type 0) (E : Going → Type 0) (k : JobCases Q
   walk_behind Rebuilding g q = walk_rebuilds g.file.kept.components 0 g (k.begins g q)
   walk_behind Auditing g q = walk_audit g q
 
-  walk_repairs : (kind : JobKind) (ps : List Piece) (short : List ℕ) (g : Going) → Q (AtRepair ps) g →
+  pub walk_repairs : (kind : JobKind) (ps : List Piece) (short : List ℕ) (g : Going) → Q (AtRepair ps) g →
       E (repairs kind g ps short)
   unfolding repairs
   walk_repairs kind [] short g q = walk_behind kind (mended g short) (k.repaired short g q)

@@ -180,7 +180,7 @@ module _ (n : ℕ) where
       (λ c cs e. q) (λ none. q)
   hears_number g j a r Nothing q = q
 
-  declares_number : (drive : ℕ) (g : Going) → Same g → Same (declares g drive)
+  pub declares_number : (drive : ℕ) (g : Going) → Same g → Same (declares g drive)
   unfolding declares
   declares_number drive g q =
       let h : Going = with_components g (lose_on drive g.file.kept.components) in
@@ -196,7 +196,7 @@ module _ (n : ℕ) where
       by_job h (Some j) p =
           loses_number h j j.work (others_than drive j.awaited) (is_target j.work drive) refl p
 
-  opens_number : (format : ℕ) (g : Going) → Same g → Same (opens format g)
+  pub opens_number : (format : ℕ) (g : Going) → Same g → Same (opens format g)
   unfolding opens opens_fenced
   opens_number format g q =
       pick (is_unsettled g.file.kept) _ _

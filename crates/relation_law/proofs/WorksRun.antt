@@ -118,7 +118,7 @@ begun_works d w = each_begin d DoneWorks (record {
   begun = λ op h is held cover. begun_call_works d op h held;
 })
 
-finishes : FinishCases DoneWorks
+pub finishes : FinishCases DoneWorks
 finishes = record {
   needs = λ d op n w is out. needs_works d op n is w;
   begun = λ d op h w is held cover. begun_call_works d op h held;

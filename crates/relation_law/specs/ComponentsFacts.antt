@@ -12,7 +12,6 @@ use Rattle.component_law.specs.Performing.{AreDistinct}
 use Rattle.component_law.specs.Sound.{target_in}
 use Rattle.world_history.specs.ServerNames.{File, Component, Drive, Job, Target, ToDeclare}
 use Rattle.world_history.specs.State.{World, at_number}
-use Rattle.exchange_law.specs.Sent.{HasSent}
 use Rattle.osd_objects.specs.declared.lanes.LaneEntry.{LaneEntry}
 use Rattle.osd_objects.specs.Store.{lane_or_none}
 use Rattle.scenario_text.specs.declared.names.TheConstants.{CLIENTS}
@@ -20,19 +19,16 @@ use Rattle.fence_law.specs.State.{State}
 use Rattle.fence_law.specs.Words.{In as InRun}
 use Rattle.file_simulation.specs.Components.{has_failed, object_of}
 use Rattle.component_law.specs.Tagged.{fence_open}
-use Rattle.file_simulation.specs.Messages.{AreSent, HasCommanded}
-use Rattle.relation_law.specs.DriveHearing.{AreFirst, AreOfSenders, WereSent, DifferByNonce}
+use Rattle.file_simulation.specs.Messages.{HasCommanded}
+use Rattle.relation_law.specs.DriveHearing.{AreFirst, AreOfSenders, SendsAbove}
 use Rattle.relation_law.specs.ComponentsBehind.{AreUnready}
 
 -- ---- a client's move
 
--- The machine behind the move has each WRITE that was sent (`SentGoesOn`), and had none that wasn't; no two commands of a
--- client have one nonce (`exchange_law::commands_differ`), and what was sent stays sent.
-pub record OfClients (s t : State) (w v : World) (f : File) : Type 0 where
-  pub sent : AreSent t v f
-  pub were : WereSent s w
-  pub differ : DifferByNonce v
-  pub later : (c d : ℕ) (x : Command) → HasSent w c d x → HasSent v c d x
+-- Each WRITE that a client newly sends to a component that stands has a nonce above the last of the machine.
+abbrev pub OfClients : State → (w v : World) → File → Type 0
+OfClients s w v f =
+    (k : ℕ) (at : Component) → slice_get f.kept.components k ≡ Some at → s.lost k ≡ false → SendsAbove w v s k at.object
 
 -- ---- a drive's move
 

@@ -17,7 +17,7 @@ pub record OfMove {w : World} {h : List Line} {m : Move} {f g : File} {s : State
   where
     pub laid : IsLaidOut f
     pub awaited : AwaitedAreSent w
-    pub client : (x : Going) → going_in w m.action ≡ Some x → OfClients s (whole_behind k) w (move w m).world f
+    pub client : (x : Going) → going_in w m.action ≡ Some x → OfClients s w (move w m).world f
     pub drive : going_in w m.action ≡ None → input_in w m.action ≡ None → OfDrives s w f × NoneIsGuessed w m.action
     pub server : (i : Input) → input_in w m.action ≡ Some i → OfServer w (move w m).world f g i
         × RebuiltStand (whole_behind k) (move w m).world f g (step w.server m.chosen i).notes

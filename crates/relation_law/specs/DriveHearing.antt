@@ -4,6 +4,7 @@ use Rattle.osd_lists.specs.declared.node.Node.{Node}
 use Rattle.osd_lists.specs.declared.node.Node.TheVariants as node
 use Rattle.data_map.specs.Check.{IsChecked}
 use Rattle.osd_commands.specs.declared.actions.Action.TheVariants as action
+use Rattle.osd_commands.specs.declared.actions.Action.TheVariants.{Write as ToWrite}
 use Rattle.osd_commands.specs.declared.commands.Command.{Command}
 use Rattle.osd_drive.specs.declared.verdict.Verdict.TheVariants.{Perform}
 use Rattle.osd_drive.specs.Table.{first_fault}
@@ -27,8 +28,7 @@ use Rattle.client_rules.specs.Commands.{credential_of}
 use Rattle.world_history.specs.declared.messages.Message.{Message}
 use Rattle.world_history.specs.declared.messages.Posted.{Posted}
 use Rattle.world_history.specs.Moves.{Action, Opens}
-use Rattle.fence_law.specs.Words.{In as InRun}
-use Rattle.fence_law.specs.State.{State, Write}
+use Rattle.fence_law.specs.State.{State}
 use Rattle.fence_law.specs.State.Event.{Shows}
 use Rattle.fence_law.specs.Machine.{Allowed}
 use Rattle.file_simulation.specs.DriveEvents.{is_running, is_sent_as}
@@ -44,16 +44,32 @@ pub record IsPerformed (w : World) (d : ℕ) (a : DriveAt) (x : Command) : Type 
   pub hears : is_deaf a ≡ false
   pub clear : first_fault a.state a.clock x ≡ Perform
 
+-- what a drive reads in the bytes of a command that was sent
+pub record IsReadAs (sent x : Command) : Type 0 where
+  pub action : x.action ≡ sent.action
+  pub object : x.object ≡ sent.object
+  pub nonce : x.nonce ≡ sent.nonce
+  pub payload : x.payload ≡ sent.payload
+  pub offset : x.action ≡ ToWrite → x.offset ≡ sent.offset
+  pub tag : x.capability.tag ≡ sent.capability.tag
+  pub holder : x.capability.holder ≡ sent.capability.holder
+  pub format : x.capability.format ≡ sent.capability.format
+
 -- client c sent it: it reads or writes, under the client's number
 pub record IsOfClient (w : World) (d c : ℕ) (x : Command) : Type 0 where
-  pub sent : HasSent w c d x
+  pub command : Command
+  pub sent : HasSent w c d command
+  pub reads : IsReadAs command x
+  pub capability : x.capability ≡ command.capability
   pub below : c < CLIENTS
   pub holder : x.capability.holder ≡ c
   pub action : (x.action ≡ action.Read) ⊎ (x.action ≡ action.Write)
 
 -- the server sent it, under its own holder
 pub record IsOfServer (w : World) (d : ℕ) (x : Command) : Type 0 where
-  pub sent : HasCommanded w d x
+  pub command : Command
+  pub sent : HasCommanded w d command
+  pub reads : IsReadAs command x
   pub holder : x.capability.holder ≡ SERVER_HOLDER
 
 -- by who sent it
@@ -77,11 +93,19 @@ pub record AwaitsOwn (w : World) (c : ℕ) (x : Command) : Type 0 where
       held_of (client_of w c).held (file_of call.op) ≡ Some h → (y : Awaited) → In y (awaited_in call.phase) →
       y.command.capability ≡ (credential_of h y.ask.component).capability
 
--- so it is of each component that stands where the command goes, if a client sent it
+-- What client c awaits under the nonce of a command has its capability, and it awaits under a grant that it holds.
+pub record AwaitsUnder (w : World) (c : ℕ) (x : Command) : Type 0 where
+  pub same : (call : Call) → (client_of w c).call ≡ Some call → (y : Awaited) → In y (awaited_in call.phase) →
+      y.command.nonce ≡ x.nonce → y.command.capability ≡ x.capability
+  pub of : (call : Call) (h : Held) → (client_of w c).call ≡ Some call →
+      held_of (client_of w c).held (file_of call.op) ≡ Some h → (y : Awaited) → In y (awaited_in call.phase) →
+      y.command.capability ≡ (credential_of h y.ask.component).capability
+
+-- so it is of each component that stands where a client's READ goes
 abbrev pub AreShownRight : State → World → File → (d : ℕ) → Command → Node → Type 0
 AreShownRight s w f d x (node.Client c) =
     (k : ℕ) (at : Component) → slice_get f.kept.components k ≡ Some at → at.missing ≡ false → at.drive ≡ d →
-    at.object ≡ x.object → ShowsRight s w f c k x
+    at.object ≡ x.object → x.action ≡ action.Read → ShowsRight s w f c k x
 AreShownRight s w f d x from = Unit {0}
 
 -- ---- a file
@@ -112,10 +136,11 @@ abbrev pub DifferByNonce : World → Type 0
 DifferByNonce w =
     (c d e : ℕ) (x y : Command) → HasSent w c d x → HasSent w c e y → x.nonce ≡ y.nonce → (d ≡ e) × (x ≡ y)
 
--- each WRITE of the machine is under the nonce of a command that its client sent
-abbrev pub WereSent : State → World → Type 0
-WereSent s w =
-    (m : Write) → InRun m s.writes → (d : ℕ) × (x : Command) × HasSent w m.holder d x × (x.nonce ≡ m.nonce)
+-- no client sent a new WRITE to the object, but with a nonce above the last
+abbrev pub SendsAbove : (w v : World) → State → (k object : ℕ) → Type 0
+SendsAbove w v t k object =
+    (c d : ℕ) (x : Command) → c < CLIENTS → HasSent v c d x → x.action ≡ action.Write → x.object ≡ object →
+    HasSent w c d x ⊎ (t.last_nonce k c < x.nonce)
 
 -- a command that a drive performs of a message is its sender's, and what a READ shows of the file is right
 abbrev pub AreOfSenders : State → World → File → Type 0

@@ -12,6 +12,7 @@ use Rattle.file_simulation.specs.Jobs.{AreOwned}
 use Rattle.file_simulation.specs.Messages.{HasCommanded}
 use Rattle.relation_law.specs.Steps.{FollowsWhole, whole_behind, ComponentsGoOn}
 use Rattle.relation_law.specs.Owning.{IsOld}
+use Rattle.relation_law.specs.TargetWrites.{ZerosAreSpent}
 
 -- Each WRITE that the server sent to the object of a present component of file g which component k of file f wasn't is spent.
 abbrev pub NewAreSpent : World → (f g : File) → Type 0
@@ -26,8 +27,12 @@ RebuiltAreSpent =
     (w : World) (h : List Line) (m : Move) (f g : File) (s : State) → FollowsWhole w h m f g s →
     NewAreSpent (move w m).world f g
 
+-- It is so if it is of a piece of zeros that isn't written.
+abbrev pub RebuiltFollow : Type 0
+RebuiltFollow = ZerosAreSpent → RebuiltAreSpent
+
 -- Then behind the move what may still come is of the file's repair, where the components are as the machine has them.
 abbrev pub OwnedFollows : Type 0
 OwnedFollows =
-    ComponentsGoOn → RebuiltAreSpent → (w : World) (h : List Line) (m : Move) (f g : File) (s : State) →
+    ComponentsGoOn → ZerosAreSpent → (w : World) (h : List Line) (m : Move) (f g : File) (s : State) →
     (k : FollowsWhole w h m f g s) → AreOwned (whole_behind k) (move w m).world g

@@ -24,6 +24,7 @@ pub mod CallsFits
 pub mod KeptSupplies
 pub mod RequestsClients
 pub mod ComponentsMove
+pub mod ComponentsFollow
 pub mod KeptFollows
 pub mod Returns
 pub mod Working
@@ -34,3 +35,4 @@ pub mod Awaiting
 pub mod Owning
 pub mod Joined
 pub mod Quiet
+pub mod TargetWrites

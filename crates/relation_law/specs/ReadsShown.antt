@@ -1,26 +1,18 @@
 -- What is shown in the machine of a file, and what drives replied: how both grow.
-use Rattle.std.specs.Prelude.{◌≡◌, ◌⊎◌, ℕ, true, List}
+use Rattle.std.specs.Prelude.{◌≡◌, ◌⊎◌, ℕ, List}
 use Rattle.server_rules.specs.Laws.{In}
-use Rattle.client_rules.specs.declared.limits.TheConstants.{PERFORMED}
-use Rattle.client_rules.specs.Replies.{answers}
 use Rattle.client_rules.specs.Io.{got_of}
 use Rattle.osd_commands.specs.declared.replies.Reply.{Reply}
 use Rattle.world_history.specs.ClientNames.{Awaited}
 use Rattle.world_history.specs.State.{World}
 use Rattle.fence_law.specs.State.{State, ReadReply}
 use Rattle.fence_law.specs.Words.{In as InRun}
-use Rattle.file_simulation.specs.Messages.{HasReplied, WasShown}
+use Rattle.file_simulation.specs.Messages.{HasReplied, WasPerformed, WasShown}
 
 -- the machine keeps its layout, and what was shown
 pub record ShownGrows (s t : State) : Type 0 where
   pub layout : t.layout ≡ s.layout
   pub shown : (r : ReadReply) → InRun r s.shown → InRun r t.shown
-
--- a drive replied to a client's command that it performed it
-pub record WasPerformed (w : World) (c : ℕ) (a : Awaited) (r : Reply) : Type 0 where
-  pub told : HasReplied w a.drive c r
-  pub answers : answers a.drive r a ≡ true
-  pub performed : r.verdict ≡ PERFORMED
 
 -- each such reply that a later world has to one of these commands was there before, or is shown to entry j
 abbrev pub NewAreShown : (w v : World) → State → (c j : ℕ) → List Awaited → Type 0

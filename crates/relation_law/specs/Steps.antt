@@ -14,7 +14,7 @@ use Rattle.history_law.specs.BookMoments.{IsMoment, plan_at, lines_in}
 use Rattle.fence_law.specs.State.{State}
 use Rattle.fence_law.specs.State.Call.{Reads as AtRead}
 use Rattle.fence_law.specs.Machine.{Lawful as IsLawfulRun, after_all}
-use Rattle.file_simulation.specs.Claim.{IsCalmHistory}
+use Rattle.file_simulation.specs.Claim.{IsCalmHistory, IsOfScenario}
 use Rattle.file_simulation.specs.Components.{AreComponents}
 use Rattle.file_simulation.specs.Phases.{IsKept, AreBelowHigh}
 use Rattle.file_simulation.specs.Requests.{RequestsAgree, kept_for}
@@ -25,11 +25,12 @@ use Rattle.file_simulation.specs.Relation.{IsRelated, client_of}
 use Rattle.file_simulation.specs.Events.{joined, events_of}
 use Rattle.file_simulation.specs.Showing.{IsRun}
 
--- Move m is due at a moment, and the history is calm up to line `count` of the move. File f is there before it and is g
--- behind it. Machine s, which a lawful and calm run has reached, stands for f before the move.
+-- Move m is due at a moment, all its lines are of the scenario, and the history is calm up to line `count` of the move. File f
+-- is there before it and is g behind it. Machine s, which a lawful and calm run has reached, stands for f before the move.
 pub record Follows (w : World) (h : List Line) (m : Move) (count : ℕ) (f g : File) (s : State) : Type 0 where
   pub moment : IsMoment w h
   pub is_due : due (plan_at moment) w ≡ Some m.action
+  pub whole : IsOfScenario (h ++ lines_in w m)
   pub calm : IsCalmHistory (h ++ take count (lines_in w m))
   pub there : file_at w.server.files f.kept.number ≡ Some f
   pub goes : file_at (move w m).world.server.files f.kept.number ≡ Some g

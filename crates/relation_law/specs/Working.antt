@@ -1,5 +1,5 @@
 -- What a call awaits of the drives, and what it has queued, at each moment: in every history, whatever came to its client.
-use Rattle.std.specs.Prelude.{◌≡◌, ◌<◌, Bool, true, false, List, Option, Some, None}
+use Rattle.std.specs.Prelude.{◌≡◌, ◌<◌, Bool, false, List, Option, Some, None}
 use Rattle.client_rules.specs.Calls.{file_of}
 use Rattle.client_rules.specs.Commands.{nonce_at}
 use Rattle.client_rules.specs.Grants.{held_of}
@@ -7,6 +7,7 @@ use Rattle.client_rules.specs.Io.{awaited_in}
 use Rattle.client_rules.specs.Laws.{nonce_of}
 use Rattle.server_rules.specs.Laws.{In}
 use Rattle.world_history.specs.ClientNames.{Awaited, Call, Client, Done, Held, Moved, Phase, Scatters, Turn, Goes, Ends, Forgets}
+use Rattle.file_simulation.specs.Messages.{is_scatter}
 use Rattle.gather_law.specs.Ready.{AreBelow}
 use Rattle.osd_drive.specs.Table.{is_write as is_write_action}
 use Rattle.relation_law.specs.CallsTurns.{IsQueueBehind, IsWorking}
@@ -17,11 +18,6 @@ pub record IsOne (write : Bool) (a : Awaited) : Type 0 where
   pub action : is_write_action a.command.action ≡ write
   pub offset : a.command.offset ≡ a.ask.offset
   pub read : write ≡ false → IsReadOf a
-
--- the phase sends WRITEs
-abbrev pub is_scatter : Phase → Bool
-is_scatter (Scatters io queue) = true
-is_scatter p = false
 
 -- what is queued stands behind what is awaited of its component
 abbrev pub QueueIn : Phase → Type 0

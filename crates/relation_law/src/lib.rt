@@ -32,8 +32,10 @@ mod relation_laws;
 mod repair_laws;
 
 pub use call_laws::{calls_go_on, clients_keep_runs};
-pub use relation_laws::{calls_are_pending, files_are_shaped, kept_goes_on, requests_go_on};
+pub use relation_laws::{
+    calls_are_pending, components_go_on, files_are_shaped, kept_goes_on, requests_go_on,
+};
 pub use repair_laws::{
-    drives_grow, each_send_is_awaited, heard_tells_of_writes, jobs_ask_their_own, owned_follows,
-    quiet_follows, spent_stays,
+    drives_grow, each_fill_is_latest, each_send_is_awaited, heard_tells_of_writes,
+    jobs_ask_their_own, owned_follows, quiet_follows, rebuilt_follow, spent_stays,
 };

@@ -1,13 +1,23 @@
 // What is proved on the way to the induction over the moves of a calm history.
 ghost use Rattle.file_simulation.specs.Conclusion.{FilesAreShaped};
+ghost use Rattle.relation_law.specs.ComponentsFollow.{ComponentsFollow};
 ghost use Rattle.relation_law.specs.KeptFollows.{KeptParts};
 ghost use Rattle.relation_law.specs.Pending.{PendingIfTold};
 ghost use Rattle.relation_law.specs.RequestsGoing.{RequestsFollow};
 
-use cause_law::files_and_answers_are_readable;
-use component_law::components_agree;
-use exchange_law::{answers_are_own, clients_agree, clients_are_in_step, counters_stay_low};
-use history_law::grants_are_safe;
+use cause_law::{
+    answers_are_fit, files_and_answers_are_readable, grants_are_fresh, places_are_enough,
+};
+use component_law::{
+    components_agree, creates_are_first, each_step_is_sound, each_step_raises_tags,
+    each_step_stands, each_tag_was_sent, no_command_is_ahead, server_sent_its_run,
+    server_writes_to_others,
+};
+use exchange_law::{
+    all_files_fit, answers_are_own, clients_agree, clients_are_in_step, counters_stay_low,
+    one_request, server_is_counted,
+};
+use history_law::{grants_are_counted, grants_are_safe, holder_is_server, unguessed_are_unforged};
 use world_history::one_event_more;
 
 /// Each file that is read off the lines of a history, also where it is cut inside a step, has a map that can be used, and
@@ -52,4 +62,37 @@ pub fn kept_goes_on()
     clients_agree();
     grants_are_safe();
     components_agree();
+}
+
+/// Behind each move of a calm history the machine of a file has its components as they are: what is lost and missing, the
+/// tags, bytes and lanes of the objects. Two things are asked: that what a rebuild makes anew stands as the machine has it,
+/// and that each WRITE that the server sends begins at an offset that fits its place.
+pub fn components_go_on()
+    ensures { ComponentsFollow }
+{
+    one_event_more();
+    grants_are_counted();
+    one_request();
+    clients_are_in_step();
+    clients_agree();
+    components_agree();
+    grants_are_safe();
+    answers_are_own();
+    files_and_answers_are_readable();
+    counters_stay_low();
+    server_is_counted();
+    all_files_fit();
+    server_writes_to_others();
+    each_step_is_sound();
+    each_step_raises_tags();
+    unguessed_are_unforged();
+    grants_are_fresh();
+    answers_are_fit();
+    places_are_enough();
+    no_command_is_ahead();
+    holder_is_server();
+    each_tag_was_sent();
+    each_step_stands();
+    creates_are_first();
+    server_sent_its_run();
 }

@@ -2,9 +2,10 @@
 ghost use Rattle.relation_law.specs.Awaiting.{JobsAskTheirOwn};
 ghost use Rattle.relation_law.specs.Growing.{DrivesGrow, SpentStays};
 ghost use Rattle.relation_law.specs.Hearing.{HeardTellsOfWrites};
-ghost use Rattle.relation_law.specs.Joined.{OwnedFollows};
+ghost use Rattle.relation_law.specs.Joined.{OwnedFollows, RebuiltFollow};
 ghost use Rattle.relation_law.specs.Owning.{EachSendIsAwaited};
 ghost use Rattle.relation_law.specs.Quiet.{QuietFollows};
+ghost use Rattle.relation_law.specs.TargetWrites.{EachFillIsLatest};
 
 use component_law::{each_step_raises_tags, no_command_is_ahead};
 use exchange_law::{all_files_fit, counters_stay_low};
@@ -45,10 +46,31 @@ pub fn each_send_is_awaited()
     ensures { EachSendIsAwaited }
 {}
 
+/// Where a rebuild writes to its target, its job awaits one WRITE, and the server sent no later one there.
+pub fn each_fill_is_latest()
+    ensures { EachFillIsLatest }
+{
+    one_event_more();
+}
+
+/// Behind each move of a calm history, all that the server sent to the object of a component that was made anew in the move
+/// is spent. It is asked that it is so where the last piece is of zeros, and isn't written.
+pub fn rebuilt_follow()
+    ensures { RebuiltFollow }
+{
+    one_event_more();
+    counters_stay_low();
+    no_command_is_ahead();
+    all_files_fit();
+    unguessed_are_unforged();
+    holder_is_server();
+    each_step_raises_tags();
+}
+
 /// Behind each move of a calm history what may still come to a present component of a file, of all that the server's jobs
 /// sent, is of the repair that runs and awaits it, in its first piece; or no job runs since the server stopped in a repair,
 /// or a fence is waited for again. Two things are asked: that each move keeps what the machine has of the components, and
-/// that where a rebuild makes a component anew, all that was sent to it is spent.
+/// that all that was sent to a rebuild's target is spent where its last piece is of zeros, and isn't written.
 pub fn owned_follows()
     ensures { OwnedFollows }
 {

@@ -1,4 +1,4 @@
-use Rattle.relation_law.proofs.OwnedJoined.{owned_follows}
+use Rattle.relation_law.proofs.TargetSpent.{owned_follows}
 use Rattle.relation_law.proofs.repair_laws.owned_follows.Goals as goal
 
 pub returns : goal.returns
