@@ -1,0 +1,1 @@
+-- The parts of the induction, in one record: so their statements are checked with this crate.
