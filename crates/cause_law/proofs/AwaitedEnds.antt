@@ -28,7 +28,7 @@ use Rattle.history_law.proofs.Fences.{handled_fence}
 use Rattle.history_law.proofs.Hearing.{found_in, goes_hears}
 use Rattle.history_law.proofs.Asking.{handled_served, handled_declares}
 use Rattle.component_law.specs.Going.{declared_by, declared_in, if_known, taken_out}
-use Rattle.component_law.specs.Performing.{AreDistinct}
+use Rattle.component_law.specs.Distinct.{AreDistinct}
 use Rattle.cause_law.specs.Awaiting.{Answers}
 use Rattle.cause_law.specs.AwaitedEnds.{Ends, Answered, Filled, Declared, Stopped, waits_for_all, begins_again, Without}
 use Rattle.cause_law.proofs.Changing.{at_place}

@@ -13,12 +13,13 @@ use Rattle.server_rules.specs.Replies.{hearing}
 use Rattle.server_rules.specs.Requests.{on_request}
 use Rattle.world_history.specs.ServerNames.{Server, File, Drive, Job, Awaited, Effects, ClientRequest}
 use Rattle.history_law.specs.Steps.{answered_file, new_file, IsAsked, StepCases}
-use Rattle.history_law.proofs.Files.{in_at, in_put, in_add, crashed_each}
+use Rattle.history_law.proofs.Files.{in_at, crashed_each}
 use Rattle.history_law.proofs.Steps.{each_request, each_step}
 use Rattle.history_law.proofs.Lists.{numbered_from}
 use Rattle.history_law.proofs.Fences.{GoesFrom, handled_fence, handled_making}
 use Rattle.history_law.proofs.Hearing.{found_in, goes_hears}
 use Rattle.history_law.proofs.Asking.{handled_served, handled_declares, handled_opened}
+use Rattle.history_law.proofs.JobFiles.{in_add, in_put}
 use Rattle.cause_law.proofs.TagSteps.{R}
 
 -- ---- a file

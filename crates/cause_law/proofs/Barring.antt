@@ -18,7 +18,7 @@ use Rattle.history_law.specs.Moments.{lines_in}
 use Rattle.history_law.proofs.Files.{in_at}
 use Rattle.history_law.specs.Fencing.{is_fencing}
 use Rattle.component_law.specs.Naming.{IsNamedInput}
-use Rattle.component_law.specs.Performing.{AreDistinct}
+use Rattle.component_law.specs.Distinct.{AreDistinct}
 use Rattle.component_law.specs.Sound.{IsSound}
 use Rattle.component_law.specs.Tags.{fence_note, EachStepRaisesTags}
 use Rattle.component_law.specs.Words.{Each}

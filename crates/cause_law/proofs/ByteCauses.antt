@@ -73,7 +73,8 @@ abbrev AreBelow : Held → (p : ℕ) → Type 0
 AreBelow h p = (k : ℕ) → k / replicas h.map ≡ p → k < h.map.comps
 
 gives : (h : Held) (a : Awaited) (r : Reply) (p o : ℕ) → AreBelow h p → IsMade h a → r.nonce ≡ a.command.nonce
-    → (r.verdict == PERFORMED) ≡ true → has_byte (got_of a r) p o ≡ true → Gives h a r p o (slice_index (carried a.ask.length r.payload) (o - a.ask.offset))
+    → (r.verdict == PERFORMED) ≡ true → has_byte (got_of a r) p o ≡ true
+    → Gives h a r p o (slice_index (carried a.ask.length r.payload) (o - a.ask.offset))
 gives h a r p o below x nonce done has =
     let parts = and_both (a.ask.position == p) (nat_le a.ask.offset o)
     (nat_lt o (a.ask.offset + length (carried a.ask.length r.payload))) has in
@@ -122,7 +123,8 @@ last_of (d ∷ cs) c p o (inr g) = elim (cases_Bool (has_byte d p o)) [
 ]
 
 -- a reply more
-one_given : (h : Held) (ms : List Met) (p o : ℕ) → AreBelow h p → (a : Awaited) (r : Reply) → IsMade h a → r.nonce ≡ a.command.nonce
+one_given : (h : Held) (ms : List Met) (p o : ℕ) → AreBelow h p → (a : Awaited) (r : Reply) → IsMade h a
+    → r.nonce ≡ a.command.nonce
     → (b : Bool)
     → ((r.verdict == PERFORMED) && not a.write) ≡ b
     → (IsGot (read_in ms) p o → IsGiven h ms p o (byte_at (read_in ms) p o))

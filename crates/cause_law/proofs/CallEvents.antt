@@ -20,7 +20,7 @@ use Rattle.world_history.specs.Moves.{acted, behind, by_client, called, times_ou
 use Rattle.world_history.specs.Laws.{shown}
 use Rattle.history_law.proofs.DriveLines.{view}
 use Rattle.cause_law.specs.ReadClients as read
-use Rattle.cause_law.specs.ReadClients.{ClientSeen, went, where_it_is, is_client, hears_sent, hears_read, client_after_line, sees_client}
+use Rattle.cause_law.specs.ReadClients.{ClientSeen, went, where_it_is, sees_client}
 use Rattle.cause_law.specs.ReadCalls.{call_input, only_for, event_input, line_input, CallSeen, call_seen}
 use Rattle.cause_law.proofs.CallMoves.{AreSeen, seen_more, IsTold, none_still, refused_still, pending_still, still_told, none_changed, one_changed, same_changed, last_is, goes_told, line_told}
 

@@ -38,7 +38,7 @@ use Rattle.exchange_law.proofs.CountMoments.{at_moment}
 use Rattle.history_law.proofs.DriveLines.{shown_get, changed_view}
 use Rattle.history_law.proofs.Each.{EachBehind, each_more, each_front, at_each_line}
 use Rattle.cause_law.specs.ReadClients as read
-use Rattle.cause_law.specs.ReadClients.{client_after, ClientSeen, went, where_it_is, is_client, hears_sent, hears_read, client_after_line, sees_client}
+use Rattle.cause_law.specs.ReadClients.{client_after, ClientSeen, went, where_it_is, is_client, hears_sent, hears_read, sees_client}
 use Rattle.cause_law.specs.ReadCalls.{sent_input, read_input, CallSeen, sees_call, call_seen}
 use Rattle.cause_law.specs.Ended.{CausedAt, ClientsAreRead, EndsAreCaused}
 use Rattle.cause_law.proofs.CallMoves.{AreSeen, seen_more, IsTold, told_seen, AreStill, none_still, noted_still, notes_still, IsStillAct, still_told, none_changed, one_changed, same_changed, last_is, goes_told, line_told}

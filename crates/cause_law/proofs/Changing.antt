@@ -29,7 +29,7 @@ use Rattle.history_law.specs.Fencing.{is_fencing}
 use Rattle.history_law.proofs.Asking.{handled_served}
 use Rattle.history_law.proofs.Quiet.{quiet_repair}
 use Rattle.component_law.specs.Going.{IsMaking}
-use Rattle.component_law.specs.Performing.{AreDistinct}
+use Rattle.component_law.specs.Distinct.{AreDistinct}
 use Rattle.component_law.specs.Sound.{IsSound}
 use Rattle.component_law.specs.Words.{Each}
 use Rattle.cause_law.specs.Answers.{IsNew}

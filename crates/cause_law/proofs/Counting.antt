@@ -15,13 +15,14 @@ use Rattle.world_history.specs.Sending.{Move, move}
 use Rattle.world_history.specs.Book.{ServerSeen, input_at, step_by, server_behind, server_seen, server_after}
 use Rattle.world_history.specs.History.{OneEventMore}
 use Rattle.world_history.specs.Laws.{ServerGoesOn}
-use Rattle.history_law.specs.Moments.{IsReached, IsMoment, plan_at, lines_in}
+use Rattle.history_law.specs.Moments.{IsMoment, plan_at, lines_in}
 use Rattle.history_law.proofs.Moments.{stands_kept}
 use Rattle.history_law.specs.Doing.{input_in, ServerMoves}
 use Rattle.history_law.specs.Read.{AreWritten, BookIsRead, StepIsRead}
 use Rattle.history_law.proofs.Staying.{written_front}
 use Rattle.history_law.proofs.StepEnds.{place_of}
 use Rattle.history_law.proofs.Ending.{next_moment}
+use Rattle.exchange_law.proofs.HeldWorlds.{reached}
 use Rattle.component_law.specs.Order.{AreInOrder, GrantsAreInOrder}
 use Rattle.cause_law.specs.Steps.{InStep}
 use Rattle.cause_law.proofs.Reading.{IsRead, input_head, line_read}
@@ -34,15 +35,6 @@ given_next : (before : List Line) (l : Line) (i : Input) (rest : List Line) (ok 
 given_next before l i rest ok g =
     has_next (server_after before) (server_after (before ++ l ∷ rest)) g.now g.request g.answered.answer ok g.answered.caused
     g.gives
-
-pub reached : (w : World) (h : List Line) → IsMoment w h → IsReached w
-reached w h k = record {
-  before = k.before;
-  history = k.history;
-  stands = k.stands;
-  moves = k.moves;
-  world_is = k.world_is;
-}
 
 cancel : (xs ys zs : List Line) → xs ++ ys ≡ xs ++ zs → ys ≡ zs
 cancel [] ys zs e = e
@@ -101,7 +93,8 @@ module _ (order : GrantsAreInOrder) (read : BookIsRead) (step_read : StepIsRead)
             | inl (tail, here, more) ↦
                 s.other middle x tail j (here ∙ append_assoc before (l ∷ middle) (x ∷ tail)) comes_too end other g same
             | inr (front, up, it) ↦
-                let r = at_line front x after j it (subst (λ (ls : List Line). input_at (server_seen ls) x ≡ Some j) up comes_too) in
+                let r =
+                at_line front x after j it (subst (λ (ls : List Line). input_at (server_seen ls) x ≡ Some j) up comes_too) in
                 let now : (server_after (before ++ l ∷ middle)).next_grant ≡ w.server.next_grant =
                 ap (λ (ls : List Line). (server_after ls).next_grant) up
                 ∙ ap (λ (t : Server). t.next_grant) (r.server ∙ there) in
@@ -134,7 +127,8 @@ module _ (order : GrantsAreInOrder) (read : BookIsRead) (step_read : StepIsRead)
                 (given_next before l i after ok given)));
             other = λ middle x tail j is_too comes_too end other g same.
                 let cut : after ≡ middle ++ x ∷ tail =
-                tail_same l l after (middle ++ x ∷ tail) (cancel before (l ∷ after) (l ∷ (middle ++ x ∷ tail)) (sym is ∙ is_too)) in
+                tail_same l l after (middle ++ x ∷ tail)
+                (cancel before (l ∷ after) (l ∷ (middle ++ x ∷ tail)) (sym is ∙ is_too)) in
                 false≢true
                 (sym (r.alone x (subst (In x) (sym cut) (in_behind x middle (x ∷ tail) (inl refl))))
                 ∙ input_head (server_seen (before ++ l ∷ middle)) x j comes_too);

@@ -186,19 +186,22 @@ module _ (units x y : ℕ) (col : List ℕ) (bytes : AreBytes col) (rising : x <
 
   both_bytes : AreBytes both
   both_bytes =
-      All-set (λ (d : ℕ). d < 256) (set cleared_both (first_repair units x y).row (repaired (first_repair units x y) p q)) (second_repair units x y).row (repaired (second_repair units x y) p q)
+      All-set (λ (d : ℕ). d < 256) (set cleared_both (first_repair units x y).row (repaired (first_repair units x y) p q))
+      (second_repair units x y).row (repaired (second_repair units x y) p q)
       (sum_lt (second_repair units x y).by_p (second_repair units x y).by_q p q repairs.other_by_p_lt repairs.other_by_q_lt)
       (All-set (λ (d : ℕ). d < 256) cleared_both (first_repair units x y).row (repaired (first_repair units x y) p q)
       (sum_lt (first_repair units x y).by_p (first_repair units x y).by_q p q repairs.by_p_lt repairs.by_q_lt) cleared_bytes)
 
   both_long : length both ≡ length col
   both_long =
-      length-set (set cleared_both (first_repair units x y).row (repaired (first_repair units x y) p q)) (second_repair units x y).row (repaired (second_repair units x y) p q)
+      length-set (set cleared_both (first_repair units x y).row (repaired (first_repair units x y) p q))
+      (second_repair units x y).row (repaired (second_repair units x y) p q)
       ∙ length-set cleared_both (first_repair units x y).row (repaired (first_repair units x y) p q) ∙ cleared_long
 
   both_solved : HasNoSyndrome units both
   both_solved =
-      two_solved units x y (first_repair units x y) (second_repair units x y) cleared_both repairs cleared_bytes rising (omega (arith, last, wide, cleared_long))
+      two_solved units x y (first_repair units x y) (second_repair units x y) cleared_both repairs cleared_bytes rising
+      (omega (arith, last, wide, cleared_long))
       (cleared_long ∙ wide)
       (get_or-set_other (set col x 0) y x 0 0 (λ e. absurd (omega (arith, e, rising)))
       ∙ get_or-set_same col x 0 0 (omega (arith, unit, wide)))
@@ -209,9 +212,11 @@ module _ (units x y : ℕ) (col : List ℕ) (bytes : AreBytes col) (rising : x <
 
   both_other : (k : ℕ) → k ≢ x → k ≢ y → get_or both k 0 ≡ get_or col k 0
   both_other k nx ny =
-      get_or-set_other (set cleared_both (first_repair units x y).row (repaired (first_repair units x y) p q)) (second_repair units x y).row k (repaired (second_repair units x y) p q) 0
+      get_or-set_other (set cleared_both (first_repair units x y).row (repaired (first_repair units x y) p q))
+      (second_repair units x y).row k (repaired (second_repair units x y) p q) 0
       (subst (λ (i : ℕ). k ≢ i) (sym repairs.other_row) ny)
-      ∙ get_or-set_other cleared_both (first_repair units x y).row k (repaired (first_repair units x y) p q) 0 (subst (λ (i : ℕ). k ≢ i) (sym repairs.row) nx)
+      ∙ get_or-set_other cleared_both (first_repair units x y).row k (repaired (first_repair units x y) p q) 0
+      (subst (λ (i : ℕ). k ≢ i) (sym repairs.row) nx)
       ∙ get_or-set_other (set col x 0) y k 0 0 ny ∙ get_or-set_other col x k 0 0 nx
 
   two_has : HasData PandQ units (x ∷ y ∷ []) col (take units (decoded units (x ∷ y ∷ []) col))

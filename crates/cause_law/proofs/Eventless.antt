@@ -16,7 +16,7 @@ use Rattle.world_history.specs.Plans.{Rule, due_by, due_pending, quiet_of, quiet
 use Rattle.world_history.specs.Runs.{lines_of, AreDue}
 use Rattle.world_history.specs.Reading.{is_head}
 use Rattle.world_history.proofs.ReadMessages.{never_opens}
-use Rattle.component_law.specs.Following.{is_opening}
+use Rattle.component_law.specs.Opening.{is_opening}
 use Rattle.component_law.proofs.Shapes.{Bare, Shape, IsHeaded, Nothing as NoLine, Left, Heads, is_event as begins_one, sent_bare, delivers_shape, times_shape, pends_shape}
 use Rattle.component_law.proofs.MoveOpening.{begins_bare}
 use Rattle.cause_law.specs.Lines.{is_event}

@@ -34,23 +34,23 @@ use Rattle.cause_law.specs.Readable.{FilesAreFit, KeptAnswersFit}
 
 -- ---- each moment
 
-record AreGood (w : World) (h : List Line) : Type 0 where
-  there : FitsThere w h
-  slots : AreOfText h → SlotsGood w.server.next_object w.server.slots
+pub record AreGood (w : World) (h : List Line) : Type 0 where
+  pub there : FitsThere w h
+  pub slots : AreOfText h → SlotsGood w.server.next_object w.server.slots
 
-slots_by : (s : Server) (chosen : List ℕ) (o : Option Input) → ServerFits s → GivenAny o → ReadAny o
+pub slots_by : (s : Server) (chosen : List ℕ) (o : Option Input) → ServerFits s → GivenAny o → ReadAny o
     → SlotsGood s.next_object s.slots
     → SlotsGood (server_behind s (step_by s chosen o)).next_object (server_behind s (step_by s chosen o)).slots
 slots_by s chosen None k g r slots = slots
 slots_by s chosen (Some i) k g r slots = (step_good s chosen i k g r slots).slots
 
-move_good : (w : World) (h : List Line) (k : AreGood w h) (m : Move) → GivenAny (input_in w m.action)
+pub move_good : (w : World) (h : List Line) (k : AreGood w h) (m : Move) → GivenAny (input_in w m.action)
     → AreOfText h → SlotsGood (move w m).world.server.next_object (move w m).world.server.slots
 move_good w h k m g text =
     subst (λ (s : Server). SlotsGood s.next_object s.slots) (sym (acts_serve w m.chosen m.action).server)
     (slots_by w.server m.chosen (input_in w m.action) (k.there text).server g (read_input w m.action) (k.slots text))
 
-all_good : IsKept AreGood
+pub all_good : IsKept AreGood
 all_good = record {
   starts = record { there = all_fit.starts; slots = λ text. tt };
   opens =

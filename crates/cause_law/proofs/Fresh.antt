@@ -1,27 +1,21 @@
 -- A grant that a client takes is new to its objects.
-use Rattle.std.proofs.Common.{◌≡◌, ◌⊎◌, ℕ, zero, suc, ◌+◌, ◌*◌, ◌==◌, ◌<◌, ◌++◌, ◌∷◌, [], List, Option, Some, None, Ok, map, slice_get, option_map, inl, inr, refl, sym, ap, subst, ◌∙◌, arith}
-use Rattle.std.proofs.lemmas.Bool.{cases_Bool}
+use Rattle.std.proofs.Common.{◌≡◌, ◌⊎◌, ℕ, zero, suc, ◌+◌, ◌*◌, ◌<◌, ◌++◌, ◌∷◌, [], List, Option, Some, None, Ok, map, slice_get, option_map, inl, inr, refl, sym, ap, subst, ◌∙◌, arith}
 use Rattle.osd_lists.specs.declared.node.Node.{Node}
-use Rattle.osd_lists.specs.declared.node.Node.TheVariants as node
 use Rattle.layout_ops.specs.declared.envelope.Envelope.TheVariants as envelope
 use Rattle.layout_ops.specs.Spelling.{EnvelopeFits}
-use Rattle.layout_ops.specs.declared.results.LayoutGetOk.{LayoutGetOk}
 use Rattle.layout_ops.specs.declared.messages.Answer.{Answer}
-use Rattle.osd_commands.specs.declared.commands.Command.{Command}
 use Rattle.client_rules.specs.Calls.{file_of}
 use Rattle.client_rules.specs.Grants.{held_of}
 use Rattle.client_rules.specs.declared.limits.TheConstants.{NONCES}
 use Rattle.client_rules.specs.Layouts.{taken}
-use Rattle.client_rules.specs.Messages.{Answers, TakesAnswer, takes}
-use Rattle.server_rules.specs.Files.{file_at}
+use Rattle.client_rules.specs.Messages.{Answers, takes}
 use Rattle.server_rules.specs.Laws.{In}
 use Rattle.server_rules.specs.History.{Act as ServerAct, state_after}
 use Rattle.server_rules.specs.Making.{new_server}
-use Rattle.server_rules.specs.Envelopes.{asked_in}
 use Rattle.server_rules.proofs.FileLaws.{number_at, file_in}
 use Rattle.scenario_text.specs.declared.line.Line.{Line}
-use Rattle.world_history.specs.ClientNames.{Call, CallOp, Held, Request, Need, First, Get, Commit, Report, Close, Phase, Starts, Needs, Waits, Reads as ReadsOn, Probes, Gathers, Scatters}
-use Rattle.world_history.specs.ServerNames.{Component, File}
+use Rattle.world_history.specs.ClientNames.{Call, CallOp, Held, Request, First, Get, Commit, Report, Close, Phase, Starts, Needs, Waits, Reads as ReadsOn, Probes, Gathers, Scatters}
+use Rattle.world_history.specs.ServerNames.{Component}
 use Rattle.world_history.specs.Handed.{for_client}
 use Rattle.world_history.specs.History.{OneEventMore}
 use Rattle.world_history.specs.State.{World, ClientAt, at_number}
@@ -29,8 +23,8 @@ use Rattle.world_history.specs.declared.messages.Message.{Message}
 use Rattle.world_history.specs.declared.messages.Posted.{Posted}
 use Rattle.history_law.specs.BookMoments.{IsMoment}
 use Rattle.component_law.specs.Objects.{AllDiffer, NoneIs, objects_of, IsOwned, AreOwned, EachObjectIsOwned}
+use Rattle.component_law.proofs.Given.{taken_gives}
 use Rattle.exchange_law.specs.InStep.{state_of}
-use Rattle.exchange_law.specs.Made.{WasMade, answer_to}
 use Rattle.exchange_law.specs.Taking.{AnswersAreOwn, TakesOwn}
 use Rattle.exchange_law.proofs.Granted.{taken_covers}
 use Rattle.exchange_law.specs.Awaited.{AreFew}
@@ -43,9 +37,8 @@ use Rattle.exchange_law.proofs.HeldWorlds.{reads_fit, readable_fronts, readable_
 use Rattle.exchange_law.specs.Given.{IsNew, CanTake}
 use Rattle.exchange_law.specs.Sent.{Names, message_of}
 use Rattle.cause_law.specs.Fresh.{GrantsAreFresh}
-use Rattle.cause_law.proofs.Listed.{HasObject, ListsAt}
 use Rattle.cause_law.proofs.Made.{no_get_given}
-use Rattle.cause_law.proofs.Moments.{WasHeld, Stands, stands, taken_gives, taken_held, made_file}
+use Rattle.cause_law.proofs.Moments.{WasHeld, Stands, stands, taken_held, made_file}
 
 -- ---- lists
 

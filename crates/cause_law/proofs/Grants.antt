@@ -13,7 +13,8 @@ use Rattle.world_history.specs.Laws.{ServerGoesOn}
 use Rattle.component_law.specs.Seeing.{SeenIsSound}
 use Rattle.component_law.specs.Sound.{IsSound}
 use Rattle.component_law.specs.Tags.{EachStepRaisesTags}
-use Rattle.component_law.proofs.MoveFacts.{are_named, seen_server}
+use Rattle.component_law.proofs.NamedLines.{are_named}
+use Rattle.component_law.proofs.SeenServer.{seen_server}
 use Rattle.history_law.specs.BookMoments.{IsMoment, lines_in}
 use Rattle.history_law.specs.Doing.{ServerMoves}
 use Rattle.history_law.specs.Grants.{GrantsAreSafe}

@@ -15,7 +15,7 @@ use Rattle.layout_types.specs.Enumerations.{version_of, security_of}
 use Rattle.layout_types.specs.Grammar.{u32_part, u64_part, fixed_part, opaque_part, enum_part, count_part, members, list_part, lifted, whole}
 use Rattle.layout_types.specs.Reading.{objid_in, cred_in, map_in, layout_in}
 use Rattle.client_rules.proofs.KnownMaps.{holds}
-use Rattle.exchange_law.proofs.Fronts.{lifted_ok}
+use Rattle.history_law.proofs.Parts.{lifted_ok}
 
 -- ---- bytes of a length that is known
 

@@ -97,3 +97,9 @@ pub mod PlaceJobs
 pub mod PlaceServing
 pub mod PlaceSteps
 pub mod PlaceMoments
+pub mod EachAt
+pub mod KeyedGrants
+pub mod ShortAsks
+pub mod MadeCommands
+pub mod MadeSteps
+pub mod MadeRead

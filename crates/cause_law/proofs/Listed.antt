@@ -1,5 +1,5 @@
 -- The objects that a grant lists, which a client takes from an answer, are those of the file at which it was made.
-use Rattle.std.proofs.Common.{◌≡◌, ℕ, List, Option, Some, None, Ok, slice_get, unwrap_or, refl, sym, ap, subst, ◌∙◌}
+use Rattle.std.proofs.Common.{◌≡◌, ℕ, List, Option, Some, None, Ok, slice_get, unwrap_or, refl, sym, ap, ◌∙◌}
 use Rattle.layout_types.specs.declared.layout.Layout.{Layout}
 use Rattle.layout_types.specs.Grammar.{whole}
 use Rattle.layout_types.specs.Reading.{layout_in}
@@ -7,14 +7,11 @@ use Rattle.layout_types.specs.declared.objid.ObjId.{ObjId}
 use Rattle.layout_ops.specs.declared.results.LayoutSegment.{LayoutSegment}
 use Rattle.layout_ops.specs.declared.results.LayoutGetOk.{LayoutGetOk}
 use Rattle.layout_ops.specs.declared.results.LayoutGetResult.TheVariants as get
-use Rattle.layout_ops.specs.declared.results.Results.{Results}
 use Rattle.layout_ops.specs.declared.results.Results.TheVariants as results
 use Rattle.layout_ops.specs.declared.messages.Answer.{Answer}
 use Rattle.client_rules.specs.Commands.{credential_in, credential_of, no_capability, no_credential}
 use Rattle.client_rules.specs.Layouts.{taken}
 use Rattle.client_rules.specs.Requests.{id_in, object_of}
-use Rattle.client_rules.specs.Results.{layouts_in}
-use Rattle.server_rules.specs.Layouts as server
 use Rattle.server_rules.specs.Layouts.{granted, layout_for, segment_for}
 use Rattle.world_history.specs.ClientNames.{CallOp, Credential, Held, Listed}
 use Rattle.world_history.specs.ServerNames.{Component, Drive, Grant, Kept}
@@ -22,6 +19,7 @@ use Rattle.history_law.specs.Granted.{NumbersFit}
 use Rattle.history_law.proofs.Exact.{same_ok, one_of, body_read}
 use Rattle.exchange_law.proofs.PlaceTaken.{IsTaken, is_taken, credential_is}
 use Rattle.exchange_law.specs.Sent.{Names}
+use Rattle.component_law.proofs.Given.{given_is}
 
 -- component k of the grant is listed with this object
 pub record IsNamed (h : Held) (k o : ℕ) : Type 0 where
@@ -63,12 +61,6 @@ pub record HasObject (f : Kept) (k o : ℕ) : Type 0 where
 
 abbrev pub ListsAt : Kept → Held → Type 0
 ListsAt f h = (k o : ℕ) → Names h k o → HasObject f k o
-
-given_is : (r : Results) (given ok : LayoutGetOk) → layouts_in r ≡ Some given → r ≡ results.LayoutGet (get.Granted ok)
-    → given ≡ ok
-given_is r given ok e is =
-    let same : Some ok ≡ Some given = ap layouts_in (sym is) ∙ e in
-    cc (sym same)
 
 pub lists_at : (ds : List Drive) (f : Kept) (g : Grant) (a : Answer) (op : CallOp) (h : Held)
     → a.results ≡ results.LayoutGet (get.Granted (granted ds f g)) → NumbersFit ds f g → taken a op ≡ Ok h

@@ -1,17 +1,13 @@
 -- What the server's answers give is of one of its files, as it was at some moment of its run.
-use Rattle.std.proofs.Common.{◌≡◌, ◌==◌, ℕ, ◌++◌, ◌∷◌, [], List, Bool, true, false, Option, Some, None, inl, inr, refl, sym, ap, subst, ◌∙◌, append_assoc, if◌then◌else◌}
+use Rattle.std.proofs.Common.{◌≡◌, ℕ, ◌++◌, ◌∷◌, [], List, Option, Some, None, inl, inr, refl, sym, ap, subst, ◌∙◌, append_assoc}
 use Rattle.std.proofs.lemmas.Bool.{cases_eq, ne_eqb}
-use Rattle.layout_ops.specs.declared.statuses.TheConstants.{NFS4ERR_LAYOUTTRYLATER, LAYOUTIOMODE4_RW}
 use Rattle.layout_ops.specs.declared.results.LayoutGetOk.{LayoutGetOk}
-use Rattle.layout_ops.specs.declared.results.LayoutGetResult.{LayoutGetResult}
 use Rattle.layout_ops.specs.declared.results.LayoutGetResult.TheVariants as get
 use Rattle.layout_ops.specs.declared.results.Results.TheVariants as results
 use Rattle.layout_ops.specs.declared.messages.Answer.{Answer}
-use Rattle.world_history.specs.ServerNames.{Server, File, Kept, Drive, Grant, Slot, ClientRequest, RequestArgs, Get, Commit, Return}
-use Rattle.server_rules.specs.Answers.{get_refused, result_of, result_with}
+use Rattle.world_history.specs.ServerNames.{Server, File, Kept, Drive, Grant, Slot, ClientRequest}
+use Rattle.server_rules.specs.Answers.{result_with}
 use Rattle.server_rules.specs.Files.{Step, file_at, at_file}
-use Rattle.server_rules.specs.Going.{Going}
-use Rattle.server_rules.specs.Grants.{grant_of, asked}
 use Rattle.server_rules.specs.History.{Act, Input, step, state_after}
 use Rattle.server_rules.specs.Layouts.{granted}
 use Rattle.server_rules.specs.Making.{new_server}
@@ -20,52 +16,15 @@ use Rattle.server_rules.specs.Served.{Served}
 use Rattle.server_rules.specs.Slots.{Admit, New, Again, Misordered, slot_of, admit, keep}
 use Rattle.server_rules.proofs.FileLaws.{number_at, put_same, keep_same, keep_other}
 use Rattle.history_law.specs.Granted.{NumbersFit}
-use Rattle.history_law.proofs.IssueTelling.{asked_client}
 use Rattle.history_law.proofs.Running.{server_more}
 use Rattle.exchange_law.specs.Made.{answer_at, answer_to}
 use Rattle.history_law.specs.Answers.{ServerDid, Quiet, Asked}
 use Rattle.history_law.proofs.Answers.{step_did}
 use Rattle.exchange_law.proofs.SlotServing.{Comes, request_comes}
 use Rattle.exchange_law.specs.Meeting.{IsFitting}
-use Rattle.exchange_law.proofs.HeldAsking.{NoGetAsked, none_told, found_last}
+use Rattle.exchange_law.proofs.HeldAsking.{NoGetAsked, none_told}
 use Rattle.exchange_law.proofs.HeldServing.{serves_may}
-use Rattle.exchange_law.proofs.HeldTelling.{gets_tells}
-
--- ---- a grant that is told is the client's on its file
-
-told_found : (go : Going) (next format now client : ℕ) (a : RequestArgs) (g : Grant)
-    → (serves go next format now client a).told.grant ≡ Some g
-    → grant_of (serves go next format now client a).going.file.kept.grants client ≡ Some g
-told_found go next format now client (Get iomode offset count) g told =
-    let it : Grant = asked go.file.kept next client now offset count (iomode == LAYOUTIOMODE4_RW) in
-    let its : it.client ≡ client =
-    asked_client go.file.kept next client now offset count (iomode == LAYOUTIOMODE4_RW) in
-    let t = gets_tells go next format now client iomode offset count g told in
-    ap (λ (y : Kept). grant_of y.grants client) t.1.file
-    ∙ found_last t.1.at.grants it client (ap (grant_of t.1.at.grants) (sym its) ∙ t.1.own) its
-    ∙ ap (λ (y : Grant). Some y) (sym t.0)
-told_found go next format now client (Commit last) g told =
-    absurd (none_told go next format now client (Commit last) g tt told)
-told_found go next format now client (Return report) g told =
-    absurd (none_told go next format now client (Return report) g tt told)
-
--- ---- what gives no layout
-
-get_either : (b : Bool) (x : LayoutGetResult) (y : LayoutGetResult) (ok : LayoutGetOk) → (x ≡ get.Granted ok → ⊥)
-    → (y ≡ get.Granted ok → ⊥) → (if b then x else y) ≡ get.Granted ok → ⊥
-get_either true x y ok p q e = p e
-get_either false x y ok p q e = q e
-
-results_get : (x y : LayoutGetResult) → results.LayoutGet x ≡ results.LayoutGet y → x ≡ y
-results_get x y e = cc e
-
-none_given : (a : RequestArgs) (status : ℕ) (ok : LayoutGetOk) → result_of a status ≡ results.LayoutGet (get.Granted ok)
-    → ⊥
-none_given (Get iomode offset count) status ok e =
-    get_either (status == NFS4ERR_LAYOUTTRYLATER) (get.TryLater false) (get.Refused status) ok (λ x. cc x) (λ x. cc x)
-    (results_get (get_refused status) (get.Granted ok) e)
-none_given (Commit last) status ok e = cc e
-none_given (Return report) status ok e = cc e
+use Rattle.component_law.proofs.PartyStepping.{told_found, none_given}
 
 -- ---- an answer that gives a layout
 

@@ -1,12 +1,11 @@
 -- At each moment what clients hold and what is kept for them is of files as they were in the server's run.
-use Rattle.std.proofs.Common.{◌≡◌, ℕ, ◌++◌, ◌∷◌, [], List, Option, Some, None, Ok, refl, sym, ap, subst, ◌∙◌, inl, inr}
+use Rattle.std.proofs.Common.{◌≡◌, ℕ, ◌++◌, [], List, Option, Some, Ok, refl, sym, ap, subst, ◌∙◌, inl, inr}
 use Rattle.std.proofs.lemmas.Bool.{cases_eq}
 use Rattle.osd_lists.specs.declared.node.Node.{Node}
 use Rattle.layout_ops.specs.declared.envelope.Envelope.TheVariants as envelope
 use Rattle.layout_ops.specs.Spelling.{EnvelopeFits}
 use Rattle.layout_ops.specs.declared.results.LayoutGetOk.{LayoutGetOk}
 use Rattle.layout_ops.specs.declared.results.LayoutGetResult.TheVariants as get
-use Rattle.layout_ops.specs.declared.results.Results.{Results}
 use Rattle.layout_ops.specs.declared.results.Results.TheVariants as results
 use Rattle.layout_ops.specs.declared.messages.Answer.{Answer}
 use Rattle.scenario_text.specs.declared.line.Line.{Line}
@@ -17,12 +16,11 @@ use Rattle.client_rules.specs.Grants.{held_of}
 use Rattle.client_rules.specs.History.{Input, Hears, Calls, TimesOut, Leaves, Resends, step as client_step}
 use Rattle.client_rules.specs.Layouts.{taken}
 use Rattle.client_rules.specs.Messages.{TakesAnswer, takes}
-use Rattle.client_rules.specs.Results.{layouts_in}
 use Rattle.server_rules.specs.Files.{file_at}
-use Rattle.server_rules.specs.History.{Act as ServerAct, state_after, step}
+use Rattle.server_rules.specs.History.{Act as ServerAct, state_after}
 use Rattle.server_rules.specs.Making.{new_server}
 use Rattle.server_rules.specs.Slots.{slot_of}
-use Rattle.world_history.specs.ClientNames.{Client, Call, CallOp, Held, Request, Need, First, Get, Commit, Report, Close, Waits}
+use Rattle.world_history.specs.ClientNames.{Client, CallOp, Held, Request, Need, Waits}
 use Rattle.world_history.specs.ServerNames.{Server, File, Slot}
 use Rattle.world_history.specs.History.{OneEventMore}
 use Rattle.world_history.specs.Moves.{Act, Action, acts}
@@ -30,23 +28,24 @@ use Rattle.world_history.specs.Plans.{due}
 use Rattle.world_history.specs.Sending.{Move, move}
 use Rattle.world_history.specs.State.{World, ClientAt, at_number, empty_world}
 use Rattle.history_law.specs.BookMoments.{IsMoment, lines_in, plan_at}
-use Rattle.exchange_law.proofs.PlaceTaken.{IsTaken, is_taken}
 use Rattle.exchange_law.specs.Doing.{IsHeardByClient, OthersGo, ServerGoes, ClientGoes, ClientStops, ClientComes, Goes, Others, AServer, AClient, Stops, Comes}
 use Rattle.exchange_law.specs.InStep.{state_of}
-use Rattle.exchange_law.specs.Taking.{AnswersAreOwn, TakesOwn}
-use Rattle.exchange_law.specs.Made.{WasMade, answer_to}
+use Rattle.exchange_law.specs.Taking.{AnswersAreOwn}
+use Rattle.exchange_law.specs.Made.{WasMade}
 use Rattle.history_law.proofs.Goes.{moves_are_steps}
 use Rattle.exchange_law.proofs.Each.{put_same, put_other, stopped_same, come_same}
 use Rattle.exchange_law.proofs.SlotMoments.{comes_new, always}
-use Rattle.exchange_law.specs.Calls.{Knows, CallFine, ClientFine, GoodAnswer, WaitFine, IsAsking}
+use Rattle.exchange_law.specs.Calls.{Knows, CallFine, ClientFine, GoodAnswer, WaitFine}
 use Rattle.exchange_law.specs.Meeting.{AgreesAt, KeptGood, IsMet, IsFitting, IsReadableThrough, ClientsAgree, Reads}
-use Rattle.exchange_law.proofs.HeldGoing.{Rules, StepFine}
+use Rattle.exchange_law.proofs.HeldGoing.{Rules}
 use Rattle.exchange_law.proofs.Meeting.{client_over}
 use Rattle.exchange_law.proofs.HeldMoving.{IsSame}
 use Rattle.exchange_law.proofs.HeldStepping.{IsGoodInput, step_fine}
 use Rattle.exchange_law.proofs.HeldWorlds.{reads_fit, next_moment, readable_fronts, readable_there}
+use Rattle.component_law.proofs.Given.{taken_gives}
+use Rattle.component_law.proofs.ListedMoments.{waits_known, good_with, waits_file}
 use Rattle.cause_law.proofs.Listed.{ListsAt, lists_at}
-use Rattle.cause_law.proofs.Made.{IsFileAt, WasGiven, AnswerGiven, file_later, SlotsGiven, answer_file, more, runs_on, step_slots}
+use Rattle.cause_law.proofs.Made.{IsFileAt, AnswerGiven, file_later, SlotsGiven, answer_file, more, runs_on, step_slots}
 
 -- ---- what is held
 
@@ -72,21 +71,6 @@ same_held acts n h k same x = record {
   there = x.there;
   lists = same_listed x.file.kept h k same x.lists;
 }
-
--- what gives a grant that is taken
-gives_ok : (r : Results) (given : LayoutGetOk) → layouts_in r ≡ Some given
-    → r ≡ results.LayoutGet (get.Granted given)
-gives_ok (results.LayoutGet (get.Granted ok)) given e =
-    let same : ok ≡ given = cc e in ap (λ (y : LayoutGetOk). results.LayoutGet (get.Granted y)) same
-gives_ok (results.LayoutGet (get.TryLater signal)) given e = absurd (cc e)
-gives_ok (results.LayoutGet (get.Refused status)) given e = absurd (cc e)
-gives_ok (results.LayoutCommit r) given e = absurd (cc e)
-gives_ok (results.LayoutReturn r) given e = absurd (cc e)
-
-pub taken_gives : (a : Answer) (op : CallOp) (h : Held) → taken a op ≡ Ok h
-    → (ok : LayoutGetOk) × (a.results ≡ results.LayoutGet (get.Granted ok))
-taken_gives a op h e =
-    let t : IsTaken a op h = is_taken a op h e in (t.given, gives_ok a.results t.given t.gives)
 
 pub taken_held : (acts : List ServerAct) (a : Answer) (op : CallOp) (h : Held) → AnswerGiven acts a
     → taken a op ≡ Ok h → WasHeld acts a.file h
@@ -114,40 +98,6 @@ Stand w h = IsReadableThrough h → Stands w
 
 abbrev AnyKnown : Knows
 AnyKnown op need r = Unit {0}
-
-good_with : (P Q : ℕ → Held → Type 0) (op : CallOp) (need : Need) (a : Answer)
-    → ((tries : ℕ) (h : Held) → need ≡ Get tries → taken a op ≡ Ok h → Q (file_of op) h) → GoodAnswer P op need a
-    → GoodAnswer Q op need a
-good_with P Q op (Get tries) a on (inl g) = inl (g.0, g.1, g.2, g.3, on tries g.1 refl g.2)
-good_with P Q op (Get tries) a on (inr g) = inr g
-good_with P Q op (Commit timed) a on g = g
-good_with P Q op First a on g = tt
-good_with P Q op (Report timed) a on g = tt
-good_with P Q op (Close u report) a on g = tt
-
--- what is known of the answer that a call waits for
-waits_known : (K : Knows) (P : ℕ → Held → Type 0) (o : Option Held) (r : Request) (op : CallOp) (need : Need) (a : Answer)
-    → (K op need r → GoodAnswer P op need a) → WaitFine K o (Some r) op need → GoodAnswer P op need a
-waits_known K P o r op First a on x = tt
-waits_known K P o r op (Get tries) a on x =
-    let same : x.1.request ≡ r = cc (sym x.1.outstanding) in
-    on (subst (λ (q : Request). K op (Get tries) q) same x.1.known)
-waits_known K P o r op (Commit timed) a on x =
-    let same : x.asks.request ≡ r = cc (sym x.asks.outstanding) in
-    on (subst (λ (q : Request). K op (Commit timed) q) same x.asks.known)
-waits_known K P o r op (Report timed) a on x = tt
-waits_known K P o r op (Close u report) a on x = tt
-
--- the request of a LAYOUTGET is for the call's file
-waits_file : (K : Knows) (o : Option Held) (r : Request) (op : CallOp) (need : Need) (tries : ℕ) → need ≡ Get tries
-    → WaitFine K o (Some r) op need → r.file ≡ file_of op
-waits_file K o r op need tries is x =
-    by (subst (WaitFine K o (Some r) op) is x)
-  where
-    by : WaitFine K o (Some r) op (Get tries) → r.file ≡ file_of op
-    by y =
-        let same : y.1.request ≡ r = cc (sym y.1.outstanding) in
-        ap (λ (q : Request). q.file) (sym same) ∙ y.1.file_is
 
 -- the answer that is taken is on the file of the request
 pub made_file : (h : List Line) (c : ℕ) (r : Request) (a : Answer) → EnvelopeFits (envelope.Request r)

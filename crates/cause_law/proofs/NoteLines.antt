@@ -39,7 +39,7 @@ use Rattle.cause_law.proofs.CauseInputs.{IsMoved}
 
 -- ---- what comes to the server in a move
 
-brought_is : (w : World) (d : IsDelivered w node.Server) (m : Message) → w.down ≡ false
+pub brought_is : (w : World) (d : IsDelivered w node.Server) (m : Message) → w.down ≡ false
     → for_server d.posted.message ≡ Some m
     → brought w (slice_get w.network.messages d.number) ≡ Some (Hears w.clock d.posted.message.from m)
 brought_is w d m up reads = rw (d.there, d.receiver, up, reads) refl
@@ -100,24 +100,24 @@ pub record IsOfNotes (tells : Line → Bool) : Type 0 where
   pub refusals : (file : ℕ) (n : Note) → IsFileRefusal n → tells (line.Note file n) ≡ false
 
 module _ (tells : Line → Bool) (k : IsOfNotes tells) where
-  abbrev Telling : List Line → List Line
+  abbrev pub Telling : List Line → List Line
   Telling ls = filter tells ls
 
-  abbrev NoneTells : List Line → Type 0
+  abbrev pub NoneTells : List Line → Type 0
   NoneTells ls = Telling ls ≡ []
 
   one_less : (l : Line) (ls : List Line) → tells l ≡ false → Telling (l ∷ ls) ≡ Telling ls
   one_less l ls e = rw e refl
 
   -- a line that is no note
-  other : (l : Line) (ls : List Line) → is_note l ≡ false → Telling (l ∷ ls) ≡ Telling ls
+  pub other : (l : Line) (ls : List Line) → is_note l ≡ false → Telling (l ∷ ls) ≡ Telling ls
   other l ls e = one_less l ls (k.others l e)
 
   quiet_line : (l : Line) → IsQuiet l → tells l ≡ false
   quiet_line (line.Note f n) q = k.refusals f n q
   quiet_line l q = k.others l refl
 
-  quiet_none : (ls : List Line) → AreQuiet ls → NoneTells ls
+  pub quiet_none : (ls : List Line) → AreQuiet ls → NoneTells ls
   quiet_none [] q = refl
   quiet_none (l ∷ ls) q = one_less l ls (quiet_line l q.0) ∙ quiet_none ls q.1
 
@@ -125,27 +125,27 @@ module _ (tells : Line → Bool) (k : IsOfNotes tells) where
   end_none c None = refl
   end_none c (Some o) = other (line.Ended c o) [] refl
 
-  ended_none : (c : ℕ) (op : Option CallOp) (o : Option Outcome) → NoneTells (ended_by c op o)
+  pub ended_none : (c : ℕ) (op : Option CallOp) (o : Option Outcome) → NoneTells (ended_by c op o)
   ended_none c None o = refl
   ended_none c (Some op) None = refl
   ended_none c (Some op) (Some o) = end_none c (known_outcome (kind_of op) o)
 
-  front_none : (action : Action) (d : _) → NoneTells (front_of action d)
+  pub front_none : (action : Action) (d : _) → NoneTells (front_of action d)
   front_none (Opens (event.Deliver n)) d = other (line.Delivered n d) [] refl
   front_none (Opens (event.Timeout c x)) d = other (line.TimedOut c x) [] refl
   front_none (Delivers n) d = other (line.Delivered n d) [] refl
   front_none (TimesOut c x) d = other (line.TimedOut c x) [] refl
   front_none action d = refl
 
-  both_none : (xs ys : List Line) → NoneTells xs → Telling (xs ++ ys) ≡ Telling ys
+  pub both_none : (xs ys : List Line) → NoneTells xs → Telling (xs ++ ys) ≡ Telling ys
   both_none xs ys e = filter-append tells xs ys ∙ ap (λ (ls : List Line). ls ++ Telling ys) e
 
-  sent_none : (n : ℕ) (ps : List Post) → NoneTells (sent_lines n ps)
+  pub sent_none : (n : ℕ) (ps : List Post) → NoneTells (sent_lines n ps)
   unfolding sent_lines
   sent_none n [] = refl
   sent_none n (p ∷ ps) = other (sent_line n p.message) (sent_lines (n + 1) ps) refl ∙ sent_none (n + 1) ps
 
-  event_none : (a : Action) (ls : List Line) → Telling (with_event a ls) ≡ Telling ls
+  pub event_none : (a : Action) (ls : List Line) → Telling (with_event a ls) ≡ Telling ls
   event_none (Opens e) ls = other (line.Event e) ls refl
   event_none (Delivers n) ls = refl
   event_none (TimesOut c x) ls = refl

@@ -25,7 +25,7 @@ use Rattle.component_law.specs.Going.{taken_out, Goes, EachStepTells}
 use Rattle.component_law.specs.Naming.{IsNamed}
 use Rattle.component_law.specs.Seeing.{SeenIsSound}
 use Rattle.component_law.proofs.FileFacts.{named_input, told_same, rebuilt_same}
-use Rattle.component_law.proofs.MoveFacts.{named_line}
+use Rattle.component_law.proofs.NamedLines.{named_line}
 use Rattle.cause_law.specs.Components.{ComponentsGo, EachComponentHasItsCauses}
 use Rattle.cause_law.proofs.NoteLines.{is_note, IsOfNotes, rest_tells}
 use Rattle.cause_law.proofs.CauseInputs.{IsMoved, IsShown, at_inputs}

@@ -111,7 +111,8 @@ takes_none : (w : World) (chosen : List ℕ) (from : Node) (m : Option ServerMes
 takes_none w chosen from None = tt
 takes_none w chosen from (Some m) = notes_none (server.step w.server chosen (server.Hears w.clock from m)).notes
 
-heard_none : (w : World) (c : ℕ) (a : ClientAt) (from : Node) (m : Option ClientMessage) → TellNone (client_takes w c a from m).told
+heard_none : (w : World) (c : ℕ) (a : ClientAt) (from : Node) (m : Option ClientMessage)
+    → TellNone (client_takes w c a from m).told
 heard_none w c a from None = tt
 heard_none w c a from (Some m) = ended_none c (op_in a.state (client.Hears from m)) _
 

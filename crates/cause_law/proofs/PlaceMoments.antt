@@ -24,11 +24,11 @@ use Rattle.history_law.specs.Read.{AreWritten, BookIsRead, StepIsRead}
 use Rattle.history_law.proofs.Staying.{written_front}
 use Rattle.history_law.proofs.StepEnds.{place_of}
 use Rattle.history_law.specs.Names.{Target}
+use Rattle.exchange_law.proofs.HeldWorlds.{reached}
 use Rattle.component_law.specs.Objects.{objects_of, target_of, NoneIs, AllDiffer, IsOwned, AreOwned, EachObjectIsOwned}
 use Rattle.cause_law.proofs.Grants.{sound_at}
 use Rattle.cause_law.proofs.Reading.{line_read}
 use Rattle.cause_law.specs.Numbers.{component_of, IsPlace, AtEnd, AtInput, EachObjectIsOwn}
-use Rattle.cause_law.proofs.Counting.{reached}
 use Rattle.cause_law.proofs.PlaceSteps.{Claims, Since, since_itself, since_then, step_since}
 
 -- ---- at one moment
@@ -43,7 +43,7 @@ in_get [] k o e = absurd (cc e)
 in_get (x ∷ xs) zero o e = inl (cc (sym e))
 in_get (x ∷ xs) (suc k) o e = inr (in_get xs k o e)
 
-not_in : (xs : List ℕ) (o : ℕ) → NoneIs o xs → In o xs → ⊥
+pub not_in : (xs : List ℕ) (o : ℕ) → NoneIs o xs → In o xs → ⊥
 not_in [] o none i = i
 not_in (x ∷ xs) o none (inl e) = none.0 (sym e)
 not_in (x ∷ xs) o none (inr i) = not_in xs o none.1 i

@@ -19,7 +19,7 @@ use Rattle.history_law.specs.Names.{Server, File, Drive, Effects, Target, Client
 use Rattle.history_law.specs.Steps.{answered_file, new_file, StepCases, RequestCases}
 use Rattle.history_law.proofs.Files.{Each, in_at, put_each, add_each, crashed_each}
 use Rattle.history_law.proofs.Steps.{each_request, each_step}
-use Rattle.component_law.specs.Performing.{AreDistinct}
+use Rattle.component_law.specs.Distinct.{AreDistinct}
 use Rattle.component_law.specs.Objects.{objects_of, target_of}
 use Rattle.component_law.proofs.SentNumbers.{in_new}
 use Rattle.cause_law.proofs.Barring.{of_each}

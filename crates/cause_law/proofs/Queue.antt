@@ -230,7 +230,7 @@ emptied : (w : World) (first : ℕ) (o : Option ℕ) → next_pending w first �
 emptied w first None e q = refl
 emptied w first (Some n) e q = let h = is_head w first n e in absurd (cc (sym h.queue_is ∙ q))
 
-said_length : (ps : List Posted) → length (said ps) ≡ length ps
+pub said_length : (ps : List Posted) → length (said ps) ≡ length ps
 said_length [] = refl
 said_length (p ∷ ps) = ap (λ (k : ℕ). suc k) (said_length ps)
 

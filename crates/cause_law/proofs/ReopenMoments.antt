@@ -29,7 +29,7 @@ use Rattle.component_law.specs.Naming.{IsNamed}
 use Rattle.component_law.specs.Seeing.{SeenIsSound}
 use Rattle.component_law.specs.Sound.{IsSound}
 use Rattle.component_law.specs.Tags.{EachStepRaisesTags}
-use Rattle.component_law.proofs.MoveFacts.{are_named}
+use Rattle.component_law.proofs.NamedLines.{are_named}
 use Rattle.component_law.proofs.Rounds.{each_at}
 use Rattle.history_law.specs.Grants.{GrantsAreSafe}
 use Rattle.history_law.specs.Read.{AreWritten, BookIsRead}
@@ -89,7 +89,8 @@ leaves_front n k xs ys l = record {
 -- ---- what is told in a move
 
 -- the file before and behind it
-module _ (raise : EachStepRaisesTags) (n tag : ℕ) (w : World) (m : Move) (sound : IsSound w.server) (safe : AreSafe w.server.files)
+module _ (raise : EachStepRaisesTags) (n tag : ℕ) (w : World) (m : Move) (sound : IsSound w.server)
+    (safe : AreSafe w.server.files)
     (later : AreSafe (move w m).world.server.files) (known : n < FILES) (quiet : NoneOver n (lines_in w m)) (ls : List Line)
     (moves : Moves w m) where
   bars_at : Stage n tag ls w → w.down ≡ false → (f g : File) → file_at w.server.files n ≡ Some f

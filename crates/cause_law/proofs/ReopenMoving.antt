@@ -26,7 +26,7 @@ use Rattle.component_law.specs.Naming.{IsNamedInput}
 use Rattle.component_law.specs.Tags.{fence_note}
 use Rattle.component_law.specs.Words.{Each}
 use Rattle.component_law.proofs.Inside.{shape_each, opens_each}
-use Rattle.component_law.proofs.MoveFollowing.{acts_shape}
+use Rattle.component_law.proofs.NextMoves.{acts_shape}
 use Rattle.component_law.proofs.Shapes.{is_event}
 use Rattle.component_law.specs.Turns.{in_turn}
 use Rattle.component_law.proofs.Doing.{Comes, IsNamedAction, IsAllowed, comes}
@@ -190,7 +190,8 @@ each_move w chosen action allowed named = elim (kind_of action) [
       refl)
   | inr (inr is) ↦
       subst (λ (a : Action). Moves w (record { action = a; chosen = chosen })) (sym is)
-      (Opening (inl refl) (comes w (Opens (event.Reopen machine.Server)) Opened refl tt (subst (IsAllowed w) is allowed)).turn refl refl (λ n tag known there.
+      (Opening (inl refl) (comes w (Opens (event.Reopen machine.Server)) Opened refl tt (subst (IsAllowed w) is allowed)).turn
+      refl refl (λ n tag known there.
       inr (in_front (line.Note n (note.Fenced tag)) _ _
       (fence_told n tag (step w.server chosen Opened).notes known there))))
 ]

@@ -19,7 +19,7 @@ use Rattle.client_rules.specs.History.{Input, Calls, Hears, TimesOut, Leaves, Re
 use Rattle.client_rules.proofs.Apart.{IsIn}
 use Rattle.client_rules.proofs.ReadMoves.{found_in}
 use Rattle.cause_law.specs.Met as met
-use Rattle.cause_law.specs.Met.{Met, Answered, Replied, since, with_answer, with_taken, with_timeout, with_silence, met_after, met_by, busy_status, busy_args, busy_in, last_busy, timed_in, given_args, given_in, grant_under, why_in, status_failure, failure_args, failure_at, cut_short, failure_in, lost_under, first_refusal, first_beyond, as_lost}
+use Rattle.cause_law.specs.Met.{Met, Answered, Replied, since, with_answer, with_taken, with_timeout, with_silence, met_after, met_by, busy_in, last_busy, timed_in, grant_under, cut_short, lost_under, first_refusal, first_beyond, as_lost}
 use Rattle.cause_law.specs.Caused.{IsWhole, call_in, client_by, call_met, IsCaused, OutcomesAreCaused}
 use Rattle.cause_law.proofs.Fetching.{Answers as HasAnswer, fetching_answered, nonce_is}
 use Rattle.cause_law.proofs.Trace.{Works, IsReturn, IsPlain, return_plain, return_gives, return_quiet, busy_same, answered_works, answered_decided, uncut, last_says, lost_write}

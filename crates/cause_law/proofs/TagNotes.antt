@@ -25,7 +25,7 @@ use Rattle.component_law.specs.FenceTags.{tag_told, tags_told, Rise, TagRises, E
 use Rattle.component_law.specs.Naming.{IsNamed}
 use Rattle.component_law.specs.Seeing.{SeenIsSound}
 use Rattle.component_law.proofs.FileFacts.{named_input}
-use Rattle.component_law.proofs.MoveFacts.{named_line}
+use Rattle.component_law.proofs.NamedLines.{named_line}
 use Rattle.cause_law.specs.FenceTags as tags
 use Rattle.cause_law.specs.FenceTags.{TagGoes, TagsGo, EachTagHasItsCause}
 use Rattle.cause_law.proofs.NoteLines.{is_note, IsOfNotes, rest_tells}

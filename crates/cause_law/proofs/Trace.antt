@@ -17,7 +17,7 @@ use Rattle.client_rules.specs.Answers.{is_loss_taken}
 use Rattle.client_rules.specs.Writes.{is_too_short}
 use Rattle.client_rules.specs.Replies.{timed_after}
 use Rattle.cause_law.specs.Met as met
-use Rattle.cause_law.specs.Met.{Met, Answered, Replied, busy_args, busy_at, busy_status, busy_in, last_busy, last_busy_at, refusal_at, first_refusal, rising_with, timed_in, out_in, is_beyond, beyond_at, first_beyond, lost_under, given_args, silent_first, failure_args, failure_at, cut_short, failure_in}
+use Rattle.cause_law.specs.Met.{Met, Answered, Replied, busy_args, busy_at, busy_in, last_busy, first_refusal, rising_with, timed_in, out_in, is_beyond, beyond_at, first_beyond, lost_under, given_args, silent_first, failure_args, failure_at, cut_short, failure_in}
 use Rattle.cause_law.specs.Caused.{failure_of, IsWhole}
 use Rattle.cause_law.proofs.Fetching.{Answers, failed_answers}
 

@@ -17,7 +17,7 @@ use Rattle.client_rules.specs.Replies.{refusal, refused, performed, replied, tim
 use Rattle.client_rules.specs.Going.{begins}
 use Rattle.client_rules.proofs.Apart.{IsIn}
 use Rattle.cause_law.specs.Met as met
-use Rattle.cause_law.specs.Met.{Met, Answered, Replied, timed_in, out_in, probe_lost, range_lost, as_lost, lost_under, beyond_at, rising_with, failure_at}
+use Rattle.cause_law.specs.Met.{Met, Replied, timed_in, out_in, probe_lost, range_lost, as_lost, lost_under, rising_with, failure_at}
 use Rattle.cause_law.proofs.Fetching.{NoReplies, Holds, Fetching, holds_none, fetching_sent, fetching_counted, fetching_replied, holds_timed, Answers, put_of}
 use Rattle.cause_law.proofs.Trace.{comps, timed_more, outs_are, Works, performed_works, timed_works, read_beyond, write_beyond, EndsSo, last_says, lost_write, Decided, decided_ends, refused_decided, timed_decided}
 
@@ -300,7 +300,8 @@ works_at h op (Gathers io) a ms x i = (io.timed, x.works)
 works_at h op (Scatters io queue) a ms x i = (io.timed, x.works)
 
 pub replied_good : (h : Held) (op : CallOp) (p : Phase) (a : Awaited) (r : Reply) (ms : List Met)
-    → r.nonce ≡ a.command.nonce → GoodPhase h op p ms → IsIn a (awaited_in p) → GoodMoved h op (replied h op p a r) (Replied a r ∷ ms)
+    → r.nonce ≡ a.command.nonce → GoodPhase h op p ms → IsIn a (awaited_in p)
+    → GoodMoved h op (replied h op p a r) (Replied a r ∷ ms)
 unfolding replied
 replied_good h op p a r ms n x i =
     either h op (Replied a r ∷ ms) (r.verdict == PERFORMED) _ _ (λ is. performed_good h op p a r ms is n x i)

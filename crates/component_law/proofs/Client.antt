@@ -1,5 +1,5 @@
 -- What a client's step does to the sizes that it knows, and to its LAYOUTCOMMIT.
-use Rattle.std.proofs.Common.{◌≡◌, ◌≢◌, ◌==◌, ℕ, Bool, List, [], ◌∷◌, Option, Some, None, find, inl, inr, refl, sym, ap, subst, ◌∙◌, if◌then◌else◌}
+use Rattle.std.proofs.Common.{◌≡◌, ◌≢◌, ℕ, Bool, List, ◌∷◌, Option, Some, None, find, inl, inr, refl, sym, ap, subst, ◌∙◌}
 use Rattle.layout_ops.specs.declared.args.Args.{Args}
 use Rattle.layout_ops.specs.declared.args.Args.TheVariants as args
 use Rattle.layout_ops.specs.declared.messages.Answer.{Answer}

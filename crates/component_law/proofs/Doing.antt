@@ -121,7 +121,7 @@ up w e = ap not (is_up w e)
 up_for : (w : World) (cause : Option WorldErr) → first_of cause (unless_down w) ≡ None → not w.down ≡ true
 up_for w cause e = up w (no_cause cause (unless_down w) e).1
 
-is_opened : (down : Bool) → (if down then None else Some Running) ≡ None → down ≡ true
+pub is_opened : (down : Bool) → (if down then None else Some Running) ≡ None → down ≡ true
 is_opened true e = refl
 is_opened false e = absurd (cc e)
 

@@ -27,12 +27,12 @@ use Rattle.history_law.specs.Parties.{AllPartiesRun}
 use Rattle.history_law.specs.Steps.{new_file, answered_file}
 use Rattle.history_law.proofs.Files.{Each, in_at, put_each, add_each, crashed_each, declared_each, opened_each}
 use Rattle.history_law.proofs.Steps.{each_step, each_request}
-use Rattle.component_law.specs.Sound.{target_of}
 use Rattle.component_law.proofs.Drives.{drives, drives_lost, drives_on}
 use Rattle.component_law.proofs.Walking.{IsWalked, Ends, ends_hears, ends_fence, ends_declares, ends_opens, ends_making}
 use Rattle.component_law.proofs.ZoneServing.{ends_serves}
 use Rattle.component_law.specs.Listed.{IsKnown}
 use Rattle.component_law.proofs.Servers.{known_keys, offline_keys, zoned_keys}
+use Rattle.component_law.specs.Objects.{target_of}
 
 -- ---- the drives that the server knows
 

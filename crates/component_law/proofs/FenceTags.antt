@@ -15,7 +15,7 @@ use Rattle.server_rules.proofs.FileLaws.{not_there}
 use Rattle.world_history.specs.ServerNames.{Server, File, Awaited, Making, Creates, RawMap, Refusal, Note, NoteKind, Fenced, Ready}
 use Rattle.world_history.specs.Names.{note_line}
 use Rattle.component_law.specs.Words.{Each}
-use Rattle.component_law.specs.Performing.{AreDistinct}
+use Rattle.component_law.specs.Distinct.{AreDistinct}
 use Rattle.component_law.specs.Naming.{IsNamedInput}
 use Rattle.component_law.specs.Sound.{IsAimed, IsSound}
 use Rattle.component_law.specs.Going.{taken_out}

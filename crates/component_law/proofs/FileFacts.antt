@@ -20,7 +20,7 @@ use Rattle.world_history.specs.Spelled.{node_of}
 use Rattle.world_history.specs.Moves.{has_algorithm, raw_of, known_drive}
 use Rattle.world_history.specs.Book.{ServerSeen, heard, heard_for, heard_from, made_of, input_of, input_at}
 use Rattle.component_law.specs.Words.{is_there}
-use Rattle.component_law.specs.Files.{shows_file}
+use Rattle.component_law.specs.ShownFiles.{shows_file}
 use Rattle.component_law.specs.Components.{told_by, told_in, tells_component, tells_rebuilt}
 use Rattle.component_law.specs.Naming.{IsNamed, IsNamedInput}
 use Rattle.component_law.specs.Going.{declared_in, if_known, taken_out, IsMaking}
@@ -83,7 +83,8 @@ pub named_input : (s : ServerSeen) (l : Line) (i : Input) → input_at s l ≡ S
 named_input s (line.Event v) i e h = named_event v i e h
 named_input s (line.Delivered number delivery.Deaf) i e h = absurd (cc e)
 named_input s (line.Delivered number d) i e h =
-    let a : (m : Sent) × (slice_get s.sent number ≡ Some m) × (m.to ≡ party.Server) × (x : Message) × (i ≡ Hears s.clock (node_of m.from) x) =
+    let a : (m : Sent) × (slice_get s.sent number ≡ Some m) × (m.to ≡ party.Server) × (x : Message)
+    × (i ≡ Hears s.clock (node_of m.from) x) =
     heard_as s.clock (slice_get s.sent number) i e in
     subst IsNamedInput (sym a.4) tt
 named_input s l i e h = absurd (cc e)
@@ -145,7 +146,8 @@ pub declares_at : (s : ServerSeen) (l : Line) (i : Input) (d : ℕ)
 declares_at s (line.Event v) i d none e q = ap (λ (x : Event). line.Event x) (event_declares v i d e q)
 declares_at s (line.Delivered number delivery.Deaf) i d none e q = absurd (cc e)
 declares_at s (line.Delivered number w) i d none e q =
-    let a : (m : Sent) × (slice_get s.sent number ≡ Some m) × (m.to ≡ party.Server) × (x : Message) × (i ≡ Hears s.clock (node_of m.from) x) =
+    let a : (m : Sent) × (slice_get s.sent number ≡ Some m) × (m.to ≡ party.Server) × (x : Message)
+    × (i ≡ Hears s.clock (node_of m.from) x) =
     heard_as s.clock (slice_get s.sent number) i e in
     absurd (none number a.0 a.1 (hears_declared s.clock a.0.from a.3 d (ap declared_in (sym a.4) ∙ q)) a.2)
 declares_at s l i d none e q = absurd (cc e)
@@ -191,7 +193,8 @@ pub making_at : (s : ServerSeen) (l : Line) (i : Input) (n : ℕ) (known : Bool)
 making_at s (line.Event v) i n known behind e k t = making_event v i n known behind e k t
 making_at s (line.Delivered number delivery.Deaf) i n known behind e k t = absurd (cc e)
 making_at s (line.Delivered number w) i n known behind e k t =
-    let a : (m : Sent) × (slice_get s.sent number ≡ Some m) × (m.to ≡ party.Server) × (x : Message) × (i ≡ Hears s.clock (node_of m.from) x) =
+    let a : (m : Sent) × (slice_get s.sent number ≡ Some m) × (m.to ≡ party.Server) × (x : Message)
+    × (i ≡ Hears s.clock (node_of m.from) x) =
     heard_as s.clock (slice_get s.sent number) i e in
     absurd (subst (λ (x : Input). IsMaking x n) a.4 k)
 making_at s l i n known behind e k t = absurd (cc e)

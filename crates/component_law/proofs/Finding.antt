@@ -7,7 +7,7 @@ use Rattle.server_rules.specs.Files.{file_at}
 use Rattle.server_rules.specs.History.{Input}
 use Rattle.world_history.specs.ServerNames.{Component, File, Note, NoteKind}
 use Rattle.component_law.specs.Words.{Each}
-use Rattle.component_law.specs.Performing.{AreDistinct}
+use Rattle.component_law.specs.Distinct.{AreDistinct}
 use Rattle.component_law.specs.Components.{Paired, StandAlike, told_in, tells_rebuilt, without_drive}
 use Rattle.component_law.specs.Going.{GoesOn, Goes}
 use Rattle.component_law.proofs.FileNotes.{behind, any_rebuilt}

@@ -82,13 +82,13 @@ pub results_granted : (x y : LayoutGetOk) → results.LayoutGet (get.Granted x) 
     → x ≡ y
 results_granted x y e = cc e
 
-given_is : (r : Results) (given ok : LayoutGetOk) → layouts_in r ≡ Some given → r ≡ results.LayoutGet (get.Granted ok)
+pub given_is : (r : Results) (given ok : LayoutGetOk) → layouts_in r ≡ Some given → r ≡ results.LayoutGet (get.Granted ok)
     → given ≡ ok
 given_is r given ok e is =
     let same : Some ok ≡ Some given = ap layouts_in (sym is) ∙ e in
     cc (sym same)
 
-gives_ok : (r : Results) (given : LayoutGetOk) → layouts_in r ≡ Some given
+pub gives_ok : (r : Results) (given : LayoutGetOk) → layouts_in r ≡ Some given
     → r ≡ results.LayoutGet (get.Granted given)
 gives_ok (results.LayoutGet (get.Granted ok)) given e =
     let same : ok ≡ given = cc e in ap (λ (y : LayoutGetOk). results.LayoutGet (get.Granted y)) same

@@ -1,11 +1,10 @@
 -- What a step at one file leaves: owners of objects, and what was sent to them.
-use Rattle.std.proofs.Common.{◌≡◌, ℕ, ◌+◌, ◌<◌, ◌≤◌, nat_lt, Bool, true, false, List, [], ◌∷◌, Option, Some, None, refl, sym, subst, ◌∙◌, arith, inl, inr, lt-ltb, le-ltb, if◌then◌else◌}
-use Rattle.server_rules.specs.Answers.{recalls_from}
+use Rattle.std.proofs.Common.{◌≡◌, ℕ, ◌<◌, ◌≤◌, Bool, true, false, List, [], Option, Some, None, refl, sym, subst, ◌∙◌, arith, inl, inr, if◌then◌else◌}
 use Rattle.server_rules.specs.Laws.{In}
 use Rattle.server_rules.specs.Going.{Going}
 use Rattle.server_rules.specs.Files.{Step, still, at_file, put_file, to_drives}
 use Rattle.server_rules.specs.Messages.{awaited_by}
-use Rattle.history_law.specs.Names.{Kept, Command, Grant, Answer, Answers, ToDrive, Server, File, Target, Awaited}
+use Rattle.history_law.specs.Names.{Kept, Command, ToDrive, Server, File, Target, Awaited}
 use Rattle.history_law.specs.Numbered.{IsOf}
 use Rattle.history_law.proofs.JobFiles.{in_put, put_there, in_drives}
 use Rattle.component_law.specs.Objects.{target_of, IsOwned}

@@ -46,7 +46,7 @@ use Rattle.world_history.specs.Names.{where_known, known_outcome, is_tellable_no
 use Rattle.world_history.specs.Drives.{verdict_on, command_in, judges, raised, at_time, fallen, crashed, reopened, is_deaf}
 use Rattle.world_history.specs.Handed.{Handed, quiet, drive_hears, drive_replies, server_takes, client_hears, client_takes, client_goes, for_client, for_server, handed, handed_to, op_in, pending_op, end_line, ended_by}
 use Rattle.world_history.specs.Moves.{Act, Action, Opens, Delivers, TimesOut, Pends, marked, delivers_found, delivers, drops_found, by_client, called, calls_at, op_of, times_out, leaves, resends, pends_as, pends, raw_of, made_file, makes, gives, has_algorithm, by_drive, at_drive, injects_at, injects, known_drive, knows_drive, adds_drive, stops, begins, acts}
-use Rattle.component_law.specs.Following.{IsWithin}
+use Rattle.component_law.specs.Bounds.{IsWithin}
 use Rattle.component_law.proofs.Standing.{Stay, stay_same, stay_on, stay_set}
 
 -- ---- a WRITE that a drive performs

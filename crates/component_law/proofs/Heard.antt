@@ -3,7 +3,6 @@ use Rattle.std.proofs.Common.{◌≡◌, ◌⊎◌, ◌==◌, ℕ, ◌<◌, ◌^
 use Rattle.std.proofs.lemmas.Bool.Decides.{nat_tests}
 use Rattle.std.proofs.lemmas.List.{append-nil}
 use Rattle.std.proofs.lemmas.Bool.{and_parts}
-use Rattle.osd_lists.specs.declared.node.Node.{Node}
 use Rattle.osd_lists.specs.declared.node.Node.TheVariants as node
 use Rattle.osd_commands.specs.declared.actions.Action.TheVariants.{Create}
 use Rattle.osd_commands.specs.declared.commands.Command.{Command}
@@ -15,7 +14,6 @@ use Rattle.osd_drive.specs.declared.verdict.Verdict.{Verdict}
 use Rattle.osd_drive.specs.Table.{first_fault}
 use Rattle.osd_drive.specs.Effects.{format_reply, reply_by, state_by}
 use Rattle.server_rules.specs.Laws.{In}
-use Rattle.server_rules.specs.Envelopes.{message_in, by_reply}
 use Rattle.server_rules.specs.Messages.{Replies as RepliesTo, awaited_by, counters_have_room}
 use Rattle.server_rules.specs.Replies.{is_done, answers}
 use Rattle.server_rules.proofs.Members.{in_map}
@@ -38,7 +36,7 @@ use Rattle.history_law.proofs.DriveEvents.{IsRead}
 use Rattle.history_law.proofs.Spending.{all_spend}
 use Rattle.history_law.specs.Numbered.{Awaits, IsOf}
 use Rattle.history_law.specs.Reaching.{has_reached}
-use Rattle.history_law.proofs.Heard.{IsCommand}
+use Rattle.history_law.proofs.Heard.{IsCommand, world_command, read_nonce, read_reply}
 use Rattle.history_law.proofs.LaneLines.{letter, letters, letters_stay, in_get, SentTo}
 use Rattle.history_law.proofs.Letters.{Told, letters_told}
 use Rattle.history_law.proofs.Numbers.{Numbers}
@@ -46,7 +44,6 @@ use Rattle.history_law.proofs.Spelled.{command_reads, RepliesAs, reply_reads}
 use Rattle.history_law.proofs.Telling.{reply_nonce_is, verdict_low}
 use Rattle.component_law.proofs.There.{there_stays}
 use Rattle.component_law.proofs.Creating.{counts, made_behind}
-use Rattle.component_law.proofs.Letters.{world_command}
 
 -- ---- the awaited command
 
@@ -56,14 +53,6 @@ low_nonce w e = less w.server.next_nonce (2 ^ 63) (and_parts _ _ e).0
   where
     less : (a b : ℕ) → nat_lt a b ≡ true → a < b
     less a b x = grind (arith, x, nat_tests)
-
-read_nonce : (w : World) (d : ℕ) (bytes : List ℕ) (k : IsCommand w d bytes) (c : Command) → counters_have_room w.server ≡ true
-    → reading bytes ≡ Ok c → (c.nonce ≡ k.command.nonce) × (c.nonce < 2 ^ 64)
-read_nonce w d bytes k c low read =
-    let below : k.command.nonce < 2 ^ 64 = omega (arith, low_nonce w low, k.low) in
-    let same : c.nonce ≡ k.command.nonce =
-    (command_reads k.command c (ap reading (sym k.bytes_are) ∙ read)).nonce below in
-    (same, omega (arith, same, below))
 
 format_counts : (x : Reply) → x.verdict ≡ 16 → (x.verdict ≡ 0) ⊎ (x.verdict ≡ 8) → ⊥
 format_counts x is (inl e) = absurd (omega (arith, is, e))
@@ -118,19 +107,6 @@ module _ (w : World) (n : Numbers w) (low : counters_have_room w.server ≡ true
       absurd (format_counts x ((reply_reads format_reply x heard).verdict (omega arith)) told)
 
 -- ---- what is heard
-
-replied : (o : Result Reply CommandErr) (x : Reply) → by_reply o ≡ Some (RepliesTo x) → o ≡ Ok x
-replied (Ok y) x e = ap (λ (z : Reply). Ok z) (same e)
-  where
-    same : Some (RepliesTo y) ≡ Some (RepliesTo x) → y ≡ x
-    same f = cc f
-replied (Err f) x e = absurd (cc e)
-
-read_reply : (n : Node) (d : ℕ) (bytes : List ℕ) (x : Reply) → n ≡ node.Drive d
-    → message_in n bytes ≡ Some (RepliesTo x) → replies.reading bytes ≡ Ok x
-unfolding message_in
-read_reply n d bytes x is e =
-    replied (replies.reading bytes) x (ap (λ (k : Node). message_in k bytes) (sym is) ∙ e)
 
 pub heard_made : (w : World) (h : List Line) → IsRead w h → Numbers w → counters_have_room w.server ≡ true
     → (d k : ℕ) (p : Posted) → slice_get w.network.messages k ≡ Some p → p.message.to ≡ node.Server

@@ -50,7 +50,8 @@ use Rattle.component_law.specs.Seeing.{SeenIsSound}
 use Rattle.component_law.specs.Tags.{fence_note, EachStepRaisesTags}
 use Rattle.history_law.proofs.FencingMoves.{messages_in, Acts, Others, Serves, each_acts}
 use Rattle.history_law.proofs.Holding.{no_note}
-use Rattle.component_law.proofs.MoveFacts.{are_named, seen_server}
+use Rattle.component_law.proofs.NamedLines.{are_named}
+use Rattle.component_law.proofs.SeenServer.{seen_server}
 use Rattle.component_law.specs.Live.{AreShort}
 use Rattle.component_law.specs.Given.{GivesOlder, OlderIn, SpellsOlder, GivenBefore, GrantsAreOlder}
 use Rattle.component_law.proofs.Aging.{GivesUpTo, to_client, EnvelopeUpTo, Aged, aged_by, aged_first}
@@ -318,11 +319,13 @@ module _ (raise : EachStepRaisesTags) (put : FilesArePut) (on : ServerGoesOn) (a
             let mine = in_world w number client was.message there (sym was.from_is ∙ from) (sym was.to_is ∙ to) in
             subst (SpellsOlder before n tag) (sym was.bytes_are)
             (older_told raise (AreShort h) before
-            (λ short. shorter h front (subst AreShort at short)) w a (k.aged x) k.sent.bodies (sound_now w h k.followed x) (each_acts w m.chosen m.action) n tag told client
+            (λ short. shorter h front (subst AreShort at short)) w a (k.aged x) k.sent.bodies (sound_now w h k.followed x)
+            (each_acts w m.chosen m.action) n tag told client
             was.message mine)
 
         by_told : (front : List Line) → before ≡ h ++ front
-            → Place (pre ++ a.told) (sent_lines (length a.world.network.messages) a.posts) front after (line.Note n (note.Fenced tag))
+            → Place (pre ++ a.told) (sent_lines (length a.world.network.messages) a.posts) front after
+            (line.Note n (note.Fenced tag))
             → SpellsOlder before n tag y.bytes
         by_told front at (InFirst rest split) = in_front front rest at split
         by_told front at (InSecond more behind split) =
@@ -334,7 +337,8 @@ module _ (raise : EachStepRaisesTags) (put : FilesArePut) (on : ServerGoesOn) (a
         by_place (InFirst rest own) = given before rest n tag own number client y found from to
         by_place (InSecond front at split) =
             by_told front at
-            (place_of (pre ++ a.told) (sent_lines (length a.world.network.messages) a.posts) front after (line.Note n (note.Fenced tag))
+            (place_of (pre ++ a.told) (sent_lines (length a.world.network.messages) a.posts) front after
+            (line.Note n (note.Fenced tag))
             (append_assoc pre a.told (sent_lines (length a.world.network.messages) a.posts) ∙ split))
 
     aged_move : (w : World) (h ls : List Line) (m : Move) → Holds w h → AreWritten h → IsFitting (move w m).world (h ++ ls)

@@ -11,7 +11,7 @@ use Rattle.world_history.specs.State.{DriveAt, at_number}
 use Rattle.world_history.specs.Book.{ServerSeen}
 use Rattle.history_law.proofs.DriveLines.{drive_read}
 use Rattle.history_law.specs.Read.{BookIsRead}
-use Rattle.component_law.proofs.MoveFacts.{are_named}
+use Rattle.component_law.proofs.NamedLines.{are_named}
 use Rattle.history_law.specs.Reaching.{has_tag, has_reached}
 use Rattle.exchange_law.proofs.Replied.{read_at}
 use Rattle.component_law.specs.Within.{IsWithin, ObjectWithin}

@@ -12,10 +12,11 @@ use Rattle.world_history.specs.Refusals.{refusal}
 use Rattle.world_history.specs.Runs.{lines_of, AreDue}
 use Rattle.world_history.specs.Reading.{is_head}
 use Rattle.component_law.specs.Words.{Each}
-use Rattle.component_law.specs.Following.{is_opening, left_pending}
+use Rattle.component_law.specs.Opening.{is_opening}
+use Rattle.component_law.specs.LeftPending.{left_pending}
 use Rattle.component_law.proofs.Shapes.{Bare, Shape, IsHeaded, Nothing, Left, Heads, is_event, sent_bare}
 use Rattle.component_law.proofs.MoveOpening.{opens_headed, begins_bare}
-use Rattle.component_law.proofs.MoveFollowing.{next_opens, acts_shape}
+use Rattle.component_law.proofs.NextMoves.{next_opens, acts_shape}
 
 -- ---- lines among which no event begins
 

@@ -12,10 +12,11 @@ use Rattle.server_rules.specs.Repair.{repairs, after_repair, mended, storing, st
 use Rattle.server_rules.specs.Jobs.{making, ending, fenced, fences, fence_begins, goes_on, fetched, written, gathered, filled_in, audited_on, waits_or_on, loses, refills, remakes}
 use Rattle.world_history.specs.ServerNames.{Component, Kept, Note, Piece, Heard, Awaited, Target, Job, JobKind, Work, Tally, Making, Revoking, Rebuilding, Auditing, Creates, Fences, Fetches, Stores, Targets, Gathers, Fills, Lengths, Checks, Ready, Rebuilt, NoDrive, NoSpace}
 use Rattle.component_law.specs.Components.{is_lacking}
-use Rattle.component_law.specs.Sound.{target_in, IsAim}
+use Rattle.component_law.specs.Sound.{IsAim}
 use Rattle.component_law.proofs.Components.{drop_next, drop_lacks}
 use Rattle.component_law.proofs.FileNotes.{Tells, Ends, tells_plain, tells_if, tells_full, tells_made, tells_fenced}
 use Rattle.component_law.proofs.Targets.{AreKnown, aim_for}
+use Rattle.component_law.specs.Objects.{target_in}
 
 -- ---- the job rests, or goes on
 
@@ -69,7 +70,8 @@ ends_rebuilds k before g (at ∷ cs) j h known from =
 -- the component of a target, until it is made anew
 abbrev pub Aims : Going → Target → Type 0
 Aims g t =
-    (is_lacking g.file.kept.components t.component ≡ true) × (t.drive < DRIVES) × (stood_on t.drive g.file.kept.components ≡ false)
+    (is_lacking g.file.kept.components t.component ≡ true) × (t.drive < DRIVES)
+    × (stood_on t.drive g.file.kept.components ≡ false)
 
 ends_rebuilt : (k : Kept) (before : List Note) (g : Going) (t : Target) → Tells k before g → AreKnown g.drives → Aims g t
     → Ends k before (fills g t [])
@@ -99,7 +101,8 @@ ends_filling k before g t p ps bytes h known a = elim (cases_Bool (nat_lt 0 (end
 ends_gone : (k : Kept) (before : List Note) (g : Going) (t : Target) → Tells k before g → AreKnown g.drives
     → Ends k before (target_gone g t)
 ends_gone k before g t h known =
-    ends_rebuilds k before (noting g (NoDrive t.component)) _ _ (tells_plain k before g (NoDrive t.component) (λ cs. refl) refl refl refl h) known refl
+    ends_rebuilds k before (noting g (NoDrive t.component)) _ _
+    (tells_plain k before g (NoDrive t.component) (λ cs. refl) refl refl refl h) known refl
 
 pub ends_full : (k : Kept) (before : List Note) (g : Going) (t : Target) → Tells k before g → AreKnown g.drives
     → Aims g t → Ends k before (target_full g t)

@@ -15,7 +15,22 @@ use Rattle.server_rules.specs.Standing.{lose_from, lose_on, any_on}
 use Rattle.server_rules.specs.Columns.{end_of}
 use Rattle.std.specs.Prelude.{replicate}
 use Rattle.world_history.specs.ServerNames.{Kept, Phase, Still, Fencing, Repairing, FencingAgain, Note, NoteKind, Ready, Fenced, NoDrive, NoSpace, Rebuilt, Job, JobKind, Making, Revoking, Rebuilding, Auditing, Work, Creates, Fences, Fetches, Stores, Targets, Gathers, Fills, Lengths, Checks, Awaited, Heard, Piece, Target, Tally, Component, Reply}
-use Rattle.component_law.specs.KeptWalk.{WorkFits, JobFits, FileFits, is_plain, IsWalked}
+use Rattle.component_law.specs.KeptWalk.{AreAlike, WorkFits, JobFits, FileFits, is_plain, IsWalked}
+
+-- a file with other components is alike
+pub same_but_components : (k : Kept) (cs : List Component) → AreAlike k (record k { components = cs })
+same_but_components k cs = record {
+  number = refl;
+  map = refl;
+  first_tag = refl;
+  tag = refl;
+  size = refl;
+  high = refl;
+  phase = refl;
+  grants = refl;
+  ended = refl;
+  ready = λ e. e;
+}
 
 module _ (Q : Bool → Kept → List Note → Type 0) (w : (spent : Bool) → IsWalked (Q spent)) where
   -- in the middle of a step
@@ -31,19 +46,9 @@ module _ (Q : Bool → Kept → List Note → Type 0) (w : (spent : Bool) → Is
   EndBy g = OwnBy g × FileFits g.file
 
   parts : (g : Going) (cs : List Component) → OwnBy g → OwnBy (with_components g cs)
-  parts g cs h = (w g.file.spent).alike g.file.kept (record g.file.kept { components = cs }) g.effects.notes
-      (record {
-        number = refl;
-        map = refl;
-        first_tag = refl;
-        tag = refl;
-        size = refl;
-        high = refl;
-        phase = refl;
-        grants = refl;
-        ended = refl;
-        ready = λ e. e;
-      }) h
+  parts g cs h =
+      (w g.file.spent).alike g.file.kept (record g.file.kept { components = cs }) g.effects.notes
+      (same_but_components g.file.kept cs) h
 
   notes : (g : Going) (kind : NoteKind) → is_plain kind ≡ true → OwnBy g → OwnBy (noting g kind)
   notes g kind p h = (w g.file.spent).plain g.file.kept g.effects.notes kind p h

@@ -16,7 +16,7 @@ abbrev pub IsIdle : File → Type 0
 IsIdle x = x.job ≡ None
 
 -- what has nothing to fence is still
-settled : (k : Kept) (p : Phase) → k.phase ≡ p → is_unsettled k ≡ false → k.phase ≡ Still
+pub settled : (k : Kept) (p : Phase) → k.phase ≡ p → is_unsettled k ≡ false → k.phase ≡ Still
 settled k Still is u = is
 settled k Fencing is u = absurd (flag (nat_lt 0 (length k.grants)) (rw is at u))
   where

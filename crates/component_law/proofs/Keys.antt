@@ -14,26 +14,19 @@ use Rattle.world_history.specs.Drives.{first_key, made_drive}
 use Rattle.world_history.specs.State.{World, DriveAt, at_number, and_number}
 use Rattle.world_history.specs.Moves.{Action, Opens, Delivers, TimesOut, Pends, gives, known_drive, adds_drive, begins, acts}
 use Rattle.world_history.specs.Sending.{Move, move}
-use Rattle.world_history.specs.Plans.{Plan, due, due_in, went_on, plan_of}
+use Rattle.world_history.specs.Plans.{due, went_on, plan_of}
 use Rattle.world_history.specs.Runs.{world_after, plan_after}
 use Rattle.world_history.specs.History.{OneEventMore}
 use Rattle.world_history.specs.Refusals.{refusal}
-use Rattle.world_history.proofs.ReadMessages.{never_opens}
+use Rattle.world_history.proofs.Runs.{no_opening}
 use Rattle.history_law.specs.Moves.{drive_event}
 use Rattle.history_law.specs.BookMoments.{IsMoment, with_event, lines_in, plan_at}
 use Rattle.history_law.proofs.DriveEvents.{new_there}
-use Rattle.exchange_law.proofs.SlotMoments.{always}
+use Rattle.exchange_law.proofs.SlotMoments.{always, not_opened}
 use Rattle.component_law.proofs.Servers.{known_keys, added_here, added_other, not_known}
 use Rattle.component_law.proofs.Moves.{keys_of, Stays, acts_stay}
 
 -- ---- a drive that comes is new
-
-no_opening : (p : Plan) (ms : List Move) → p.opening ≡ None → (plan_after p ms).opening ≡ None
-no_opening p [] e = e
-no_opening p (m ∷ ms) e = no_opening (went_on p m.action) ms refl
-
-not_opened : (w : World) (p : Plan) (e : Event) → p.opening ≡ None → due p w ≡ Some (Opens e) → ⊥
-not_opened w p e none d = never_opens w p.rule e (sym (ap (due_in w p.rule) none) ∙ d)
 
 new_at : (w : World) (d : ℕ) (key : List ℕ) (capacity : ℕ) (stored : Bool)
     → refusal w (drive_event d key capacity stored) ≡ None → at_number w.drives d ≡ None

@@ -1,10 +1,8 @@
 -- No object of a component that isn't missing has a tag behind its file's, from each moment to the next.
-use Rattle.std.proofs.Common.{◌≡◌, ◌⊎◌, ◌<◌, ◌^◌, ◌&&◌, ◌||◌, ◌++◌, ◌∷◌, ◌+◌, ℕ, Bool, true, false, not, nat_lt, length, List, [], Option, Some, None, refl, sym, ap, subst, ◌∙◌, append_assoc, arith, inl, inr}
+use Rattle.std.proofs.Common.{◌≡◌, ◌⊎◌, ◌<◌, ◌^◌, ◌++◌, ◌+◌, ℕ, Bool, true, false, length, List, [], Option, Some, sym, ap, subst, arith, inl, inr}
 use Rattle.std.proofs.lemmas.Bool.{cases_Bool}
-use Rattle.std.proofs.lemmas.Bool.Decides.{nat_tests}
 use Rattle.std.proofs.lemmas.List.{append-nil}
 use Rattle.osd_lists.specs.declared.node.Node.TheVariants as node
-use Rattle.scenario_text.specs.declared.event.Event.{Event}
 use Rattle.scenario_text.specs.declared.line.Line.{Line}
 use Rattle.server_rules.specs.History.{Input, Hears}
 use Rattle.server_rules.specs.Laws.{In}
@@ -15,22 +13,20 @@ use Rattle.world_history.specs.State.{World, DriveAt, at_number, empty_world}
 use Rattle.world_history.specs.Moves.{acts}
 use Rattle.history_law.specs.Moves.{down_behind}
 use Rattle.world_history.specs.Sending.{Move, move}
-use Rattle.world_history.specs.Plans.{due, plan_of}
-use Rattle.world_history.specs.Refusals.{refusal}
-use Rattle.world_history.specs.Runs.{world_after, AreDue}
-use Rattle.world_history.specs.History.{StandsFor, OneEventMore}
+use Rattle.world_history.specs.Plans.{due}
+use Rattle.world_history.specs.History.{OneEventMore}
 use Rattle.history_law.proofs.DriveEvents.{IsRead}
 use Rattle.history_law.proofs.DriveLines.{drive_read}
 use Rattle.history_law.proofs.Each.{EachBehind}
-use Rattle.history_law.proofs.Histories.{stands, kept_part}
+use Rattle.history_law.proofs.Histories.{stands}
 use Rattle.history_law.proofs.Spending.{all_spend}
-use Rattle.history_law.specs.BookMoments.{IsMoment, lines_so_far, lines_in, plan_at}
+use Rattle.history_law.specs.BookMoments.{IsMoment, lines_in, plan_at}
 use Rattle.history_law.specs.Fencing.{Reached, AreFencing, IsHeardTruly}
 use Rattle.history_law.proofs.JobFiles.{found_file}
-use Rattle.history_law.specs.Reaching.{has_reached, is_spellable, reached_in, OwnAt}
-use Rattle.history_law.proofs.Ending.{next_moment}
+use Rattle.history_law.specs.Reaching.{has_reached, reached_in, OwnAt}
+use Rattle.history_law.proofs.Ending.{next_moment, own_each, at_moment, fits_reached}
 use Rattle.history_law.proofs.Heard.{heard_reached}
-use Rattle.history_law.proofs.Holding.{Holds, holds}
+use Rattle.history_law.proofs.Holding.{Holds}
 use Rattle.history_law.proofs.FencingMoves.{IsSent}
 use Rattle.history_law.specs.Unforged.{AreUnforged}
 use Rattle.history_law.proofs.Unforged.{unforged_front}
@@ -54,43 +50,6 @@ use Rattle.component_law.proofs.Moments.{each_first, each_second, named_action, 
 use Rattle.component_law.specs.Least.{NoTagIsBehind}
 use Rattle.component_law.proofs.There.{any_stays}
 use Rattle.component_law.proofs.TagTags.{made_reached}
-
--- ---- at a moment
-
-holds_moves : (v : World) (h : List Line) (e : Event) (ms : List Move) → StandsFor v h → refusal v e ≡ None
-    → AreDue (plan_of v e) v ms → Holds (world_after v ms) (h ++ lines_so_far v e ms)
-holds_moves v h e [] s allowed d = subst (Holds v) (sym (append-nil h)) (stands Holds holds v h s)
-holds_moves v h e (m ∷ ms) s allowed d = kept_part Holds holds v h e m ms d allowed (stands Holds holds v h s)
-
-holds_at : (w : World) (h : List Line) → IsMoment w h → Holds w h
-holds_at w h k =
-    subst (λ (v : World). Holds v h) (sym k.world_is)
-    (subst (Holds (world_after k.before k.moves)) (sym k.lines_are)
-    (holds_moves k.before k.history k.event k.moves k.stands k.allowed k.are_due))
-
-own_each : (first lines : List Line)
-    → ((before : List Line) (l : Line) (after : List Line) → first ++ lines ≡ before ++ l ∷ after → OwnAt before l)
-    → EachBehind OwnAt first lines
-own_each first [] own = tt
-own_each first (l ∷ lines) own = (
-  own first l lines refl,
-  own_each (first ++ l ∷ []) lines (λ before m after is. own before m after (sym (append_assoc first (l ∷ []) lines)
-      ∙ is)),
-)
-
--- what was reached, as far as the numbers fit their places
-pub fits_reached : (object tag : ℕ) (b : Bool) → object < 2 ^ 64 → tag < 2 ^ 32
-    → (not (is_spellable object tag) || b) ≡ true → b ≡ true
-fits_reached object tag b object_fits tag_fits e =
-    sym (ap (λ (fits : Bool). not fits || b) (both (nat_lt object (2 ^ 64)) (nat_lt tag (2 ^ 32))
-    (less object (2 ^ 64) object_fits) (less tag (2 ^ 32) tag_fits))) ∙ e
-  where
-    less : (m n : ℕ) → m < n → nat_lt m n ≡ true
-    less m n l = grind (arith, l, nat_tests)
-
-    both : (p q : Bool) → p ≡ true → q ≡ true → (p && q) ≡ true
-    both true q x y = y
-    both false q x y = absurd (cc x)
 
 -- ---- all moves
 
@@ -125,7 +84,7 @@ module _ (run : ServerSentItsRun) (given : EachTagWasSent) (ahead : NoCommandIsA
     own = own_each [] h (holder h (lawful_at w h k) fair_before)
 
     now : Holds w h
-    now = holds_at w h k
+    now = at_moment w h k
 
     read : IsRead (move w m).world (h ++ lines_in w m)
     read = read_at (move w m).world (h ++ lines_in w m) (next_moment w h k m d)

@@ -1,19 +1,4 @@
 pub mod Lists
-mod Tables
-mod Noting
-mod CalmShowing
-mod Logging
-mod Taking
-mod Marking
-mod Mending
-mod Harming
-mod Performing
-mod Flagging
-mod Beginning
-mod CalmTelling
-mod Ending
-mod CalmFollowing
-mod CalmOpening
 mod Pending
 pub mod Components
 pub mod FileNotes
@@ -28,10 +13,8 @@ mod Finding
 pub mod Making
 mod Tags
 mod FenceTags
-mod Short
-mod Through
+pub mod Through
 pub mod FileFacts
-mod FileShowing
 pub mod Failed
 mod Outgoing
 mod Others
@@ -43,18 +26,9 @@ pub mod Trimming
 pub mod StepTelling
 pub mod Standing
 pub mod Heads
-pub mod Sighting
-pub mod Stepping
 pub mod Shapes
 pub mod MoveOpening
-mod MoveStepping
-pub mod MoveFollowing
-pub mod Events
 pub mod Inside
-mod Watching
-mod MoveNotes
-pub mod MoveFacts
-mod Giving
 pub mod MadeLines
 pub mod OnDrives
 pub mod Zones
@@ -143,8 +117,16 @@ pub mod OriginLaw
 pub mod WithinLaw
 pub mod There
 pub mod Creating
-pub mod Letters
 pub mod Heard
 pub mod TagTags
 pub mod LeastLaw
 pub mod InLines
+pub mod OfflineServer
+pub mod OfflineMoves
+pub mod Shut
+pub mod Without
+pub mod NamedLines
+pub mod SeenServer
+pub mod NextMoves
+pub mod Begun
+pub mod Members

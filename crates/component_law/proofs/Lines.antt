@@ -24,7 +24,8 @@ pub one_line : (n : ℕ) (k : NoteKind) → n < FILES → is_tellable_note k ≡
 one_line n k named known = rw (lt-ltb n FILES named, known) refl
 
 pub line_more : (before : List Note) (n : ℕ) (k : NoteKind) (ks : List NoteKind) → n < FILES → is_tellable_note k ≡ true
-    → lines_of (noted_with before n (k ∷ ks)) ≡ lines_of (noted_with before n ks) ++ note_line (record { file = n; kind = k }) ∷ []
+    → lines_of (noted_with before n (k ∷ ks)) ≡ lines_of (noted_with before n ks) ++ note_line
+    (record { file = n; kind = k }) ∷ []
 line_more before n k ks named known =
     filter_map-append known_note_line (noted_with before n ks) (record { file = n; kind = k } ∷ [])
     ∙ ap (λ (ls : List Line). lines_of (noted_with before n ks) ++ ls) (one_line n k named known)

@@ -66,7 +66,7 @@ same_lists s c n h k same lists f g found has =
 abbrev AnyKnown : Knows
 AnyKnown op need r = Unit {0}
 
-good_with : (P Q : ℕ → Held → Type 0) (op : CallOp) (need : Need) (a : Answer)
+pub good_with : (P Q : ℕ → Held → Type 0) (op : CallOp) (need : Need) (a : Answer)
     → ((tries : ℕ) (h : Held) → need ≡ Get tries → taken a op ≡ Ok h → Q (file_of op) h) → GoodAnswer P op need a
     → GoodAnswer Q op need a
 good_with P Q op (Get tries) a on (inl g) = inl (g.0, g.1, g.2, g.3, on tries g.1 refl g.2)
@@ -77,7 +77,7 @@ good_with P Q op (Report timed) a on g = tt
 good_with P Q op (Close u report) a on g = tt
 
 -- what is known of the answer that a call waits for
-waits_known : (K : Knows) (P : ℕ → Held → Type 0) (o : Option Held) (r : Request) (op : CallOp) (need : Need) (a : Answer)
+pub waits_known : (K : Knows) (P : ℕ → Held → Type 0) (o : Option Held) (r : Request) (op : CallOp) (need : Need) (a : Answer)
     → (K op need r → GoodAnswer P op need a) → WaitFine K o (Some r) op need → GoodAnswer P op need a
 waits_known K P o r op First a on x = tt
 waits_known K P o r op (Get tries) a on x =
@@ -90,7 +90,7 @@ waits_known K P o r op (Report timed) a on x = tt
 waits_known K P o r op (Close u report) a on x = tt
 
 -- the request of a LAYOUTGET is for the call's file
-waits_file : (K : Knows) (o : Option Held) (r : Request) (op : CallOp) (need : Need) (tries : ℕ) → need ≡ Get tries
+pub waits_file : (K : Knows) (o : Option Held) (r : Request) (op : CallOp) (need : Need) (tries : ℕ) → need ≡ Get tries
     → WaitFine K o (Some r) op need → r.file ≡ file_of op
 waits_file K o r op need tries is x =
     by (subst (WaitFine K o (Some r) op) is x)

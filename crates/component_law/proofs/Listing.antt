@@ -1,58 +1,20 @@
 -- A client lists the credentials of the server as they are.
-use Rattle.std.proofs.Common.{◌≡◌, ◌<◌, ◌≤◌, ℕ, suc, ◌+◌, ◌++◌, ◌^◌, Bool, true, false, List, [], ◌∷◌, Some, None, length, replicate, slice_get, nat_eq, nat_lt, refl, ap, subst, ◌∙◌, arith, inl, inr, if◌then◌else◌}
-use Rattle.std.specs.Prelude.{IsTrue}
-use Rattle.std.specs.Int.{w64, w128, from_be_bytes, to_be_bytes}
-use Rattle.std.proofs.lemmas.Bool.{cases_eq, le-ltb, ne_eqb}
-use Rattle.std.proofs.lemmas.Nat.{from_be_bytes-to_be_bytes_8}
-use Rattle.sha1.specs.Sha1.{sha1, digest_bytes as sha1_bytes}
-use Rattle.sha2.specs.Sha256.{sha256, digest_bytes as sha256_bytes}
-use Rattle.hmac_tags.specs.Mac.{hmac, hmac_sha1, hmac_sha256}
-use Rattle.osd_capability.specs.declared.layout.TheConstants.{FORMAT_SHA256}
+use Rattle.std.proofs.Common.{◌≡◌, ◌≤◌, ℕ, suc, ◌+◌, Bool, true, false, List, [], ◌∷◌, Some, None, slice_get, nat_lt, refl, ap, subst, ◌∙◌, arith, if◌then◌else◌}
+use Rattle.std.proofs.lemmas.Bool.{le-ltb}
+use Rattle.hmac_tags.specs.Mac.{hmac_sha1, hmac_sha256}
+use Rattle.hmac_tags.proofs.Lengths.{long_sha1, long_sha256}
 use Rattle.osd_capability.specs.declared.keys.CapKey.{CapKey}
-use Rattle.osd_capability.specs.declared.keys.CapKey.TheVariants.{One, Two}
 use Rattle.osd_capability.specs.Layout as cap
 use Rattle.osd_capability.proofs.LayoutLaws.{reading-spelling}
 use Rattle.layout_types.specs.declared.cred.ObjectCred.{ObjectCred}
 use Rattle.world_history.specs.ClientNames.{Capability}
 use Rattle.client_rules.specs.declared.limits.TheConstants.{MAX_DRIVE}
-use Rattle.client_rules.specs.Layouts.{drive_of, key_of, with_key, with_capability, listed, all_listed}
+use Rattle.client_rules.specs.Layouts.{key_of, with_key, with_capability, listed, all_listed}
 use Rattle.world_history.specs.ServerNames.{Component, Drive, Grant, Kept}
 use Rattle.server_rules.specs.Commands.{key_at}
-use Rattle.server_rules.specs.Layouts.{capability_for, device_of, key_bytes, no_credential, credential, credentials_from}
+use Rattle.server_rules.specs.Layouts.{capability_for, no_credential, credential, credentials_from}
 use Rattle.exchange_law.specs.Held.{credential_of, listed_at, listed_from}
-
--- ---- the drive
-
-device_read : (xs : List ℕ) → from_be_bytes w128 (replicate 8 0 ++ xs) ≡ from_be_bytes w64 xs
-device_read xs = omega arith
-
-drive_again : (d : ℕ) → d ≤ MAX_DRIVE → drive_of (device_of d) ≡ d
-drive_again d few =
-    let low : d < 2 ^ 64 = omega (arith, few) in device_read (to_be_bytes w64 d) ∙ from_be_bytes-to_be_bytes_8 d low
-
--- ---- the key
-
-long_sha1 : (key text : List ℕ) → length (hmac_sha1 key text) ≡ 20
-unfolding hmac sha1 sha1_bytes
-long_sha1 key text = refl
-
-long_sha256 : (key text : List ℕ) → length (hmac_sha256 key text) ≡ 32
-unfolding hmac sha256 sha256_bytes
-long_sha256 key text = refl
-
--- a key of the capability's format
-abbrev key_in : (format : ℕ) → (one two : List ℕ) → CapKey
-key_in format one two = if nat_eq format FORMAT_SHA256 then Two two else One one
-
-a_format : (n : ℕ) → IsTrue (cap.is_format n) → (n ≡ 1 → ⊥) → n ≡ 2
-a_format n is not = elim (cases_eq n 2) [ inl e ↦ e | inr e ↦ absurd (cc (rw (ne_eqb n 1 not, ne_eqb n 2 e) at is)) ]
-
-key_again : (format : ℕ) (one two : List ℕ) → IsTrue (cap.is_format format) → length one ≡ 20 → length two ≡ 32
-    → key_of format (key_bytes (key_in format one two)) ≡ Some (key_in format one two)
-key_again format one two is first second = elim (cases_eq format 1) [
-  | inl e ↦ rw (e, first) refl
-  | inr e ↦ rw (a_format format is e, second) refl
-]
+use Rattle.exchange_law.proofs.Listing.{key_again, drive_again}
 
 -- ---- a component
 

@@ -13,7 +13,7 @@ use Rattle.server_rules.proofs.Placed.{length_made}
 use Rattle.server_rules.proofs.FileLaws.{not_there}
 use Rattle.world_history.specs.ServerNames.{Server, File, RawMap, Refusal, Note}
 use Rattle.component_law.specs.Words.{Each}
-use Rattle.component_law.specs.Performing.{AreDistinct}
+use Rattle.component_law.specs.Distinct.{AreDistinct}
 use Rattle.component_law.specs.Naming.{IsNamedInput}
 use Rattle.component_law.specs.Sound.{IsAimed, IsSound, EachStepIsSound}
 use Rattle.component_law.specs.Going.{taken_out, IsMaking, Goes, EachStepTells}
@@ -46,7 +46,8 @@ pub distinct_added : (fs : List File) (f : File) → AreDistinct fs → NoneHas 
 unfolding add_file
 distinct_added [] f d h = (tt, tt)
 distinct_added (g ∷ fs) f d h = elim (cases_Bool (nat_lt g.kept.number f.kept.number)) [
-  | inl t ↦ rw t (each_added (λ (x : File). x.kept.number ≡ g.kept.number → ⊥) fs f d.0 (λ e. h.0 (sym e)), distinct_added fs f d.1 h.1)
+  | inl t ↦
+      rw t (each_added (λ (x : File). x.kept.number ≡ g.kept.number → ⊥) fs f d.0 (λ e. h.0 (sym e)), distinct_added fs f d.1 h.1)
   | inr z ↦ rw z (h, d)
 ]
 

@@ -22,7 +22,7 @@ use Rattle.exchange_law.proofs.SlotLists.{said_more}
 use Rattle.exchange_law.proofs.SlotMoments.{always}
 use Rattle.component_law.specs.Naming.{IsNamed, IsNamedInput, AreNamed}
 use Rattle.component_law.proofs.Lists.{each_end}
-use Rattle.component_law.proofs.MoveFollowing.{first_begun}
+use Rattle.component_law.proofs.NextMoves.{first_begun}
 use Rattle.component_law.specs.Tagged.{sent_over}
 use Rattle.component_law.specs.Turns.{in_turn, AreInTurn, down_after}
 use Rattle.component_law.specs.Sent.{commanded, IsSentByRun, ServerSentItsRun}

@@ -22,7 +22,7 @@ use Rattle.world_history.specs.State.{DriveAt, ClientAt, World, at_number, with_
 use Rattle.world_history.specs.Moves.{Act, by_client, called, made_file, injects_at, delivers, op_of, raw_of, calls_at, leaves, resends, makes, gives, injects, begins, known_drive, has_algorithm, knows_drive, adds_drive}
 use Rattle.world_history.specs.Sending.{sends_all}
 use Rattle.world_history.specs.Refusals.{unless_stopped, unless_deaf, of_message, refusal}
-use Rattle.component_law.specs.Following.{is_opening}
+use Rattle.component_law.specs.Opening.{is_opening}
 use Rattle.component_law.proofs.Shapes.{Bare, IsHeaded, bare_notes, bare_ended, bare_goes, sent_headed, found_headed, timed_headed}
 
 -- ---- an event behind which a further step begins

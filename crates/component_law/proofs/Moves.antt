@@ -1,16 +1,10 @@
 -- Each move leaves the keys of drives, and those that the server has for them, as they were, but for an event that
 -- makes a drive.
-use Rattle.std.proofs.Common.{◌≡◌, ℕ, Bool, true, false, List, Option, Some, Result, Ok, Err, IsSome, option_map, refl, sym, ap, subst, ◌∙◌, inl, inr}
+use Rattle.std.proofs.Common.{◌≡◌, ℕ, Bool, true, false, List, Option, Some, IsSome, option_map, refl, sym, ap, subst, ◌∙◌, inl, inr}
 use Rattle.std.proofs.lemmas.Bool.{cases_eq}
-use Rattle.osd_commands.specs.declared.commands.Command.{Command}
-use Rattle.osd_commands.specs.declared.commands.CommandErr.{CommandErr}
 use Rattle.osd_commands.specs.Commands.{reading}
 use Rattle.osd_objects.proofs.Entries.{lookup_set, lookup_set_beside}
 use Rattle.osd_drive.specs.declared.keys.DriveKey.{DriveKey}
-use Rattle.osd_drive.specs.declared.verdict.Verdict.{Verdict}
-use Rattle.osd_drive.specs.declared.verdict.Verdict.TheVariants as verdict
-use Rattle.osd_drive.specs.Table.{first_fault}
-use Rattle.osd_drive.specs.Effects.{state_by}
 use Rattle.server_rules.specs.History as server_input
 use Rattle.scenario_text.specs.declared.event.Event.TheVariants as event
 use Rattle.world_history.specs.ServerNames as server_rules
@@ -19,6 +13,7 @@ use Rattle.world_history.specs.Drives.{judges, command_in}
 use Rattle.world_history.specs.Moves.{Act, Action, Opens, acts}
 use Rattle.history_law.specs.Moves.{Turns, Raised, Timed, Falls, Crashed, Reopened, drive_event, IsForServer, MoveCases}
 use Rattle.history_law.proofs.Moves.{none_added, each_act}
+use Rattle.history_law.proofs.Coming.{judged_keys}
 use Rattle.component_law.proofs.Servers.{known_keys, keys_step, known_then}
 
 -- the keys of a drive as it has them
@@ -31,15 +26,6 @@ pub record Stays (w v : World) : Type 0 where
   pub known : (d : ℕ) → known_keys v.server.drives d ≡ known_keys w.server.drives d
 
 -- ---- what a drive does
-
-verdict_keys : (a : DriveAt) (c : Command) (v : Verdict) → (state_by v a.state c).keys ≡ a.state.keys
-verdict_keys a c verdict.Perform = refl
-verdict_keys a c v = refl
-
-judged_keys : (a : DriveAt) (r : Result Command CommandErr) → (judges a r).drive.state.keys ≡ a.state.keys
-unfolding judges
-judged_keys a (Ok c) = verdict_keys a c (first_fault a.state a.clock c)
-judged_keys a (Err e) = refl
 
 turned_keys : (a b : DriveAt) → Turns a b → b.state.keys ≡ a.state.keys
 turned_keys a b (Raised format is) = ap (λ (x : DriveAt). x.state.keys) is

@@ -11,7 +11,7 @@ use Rattle.history_law.specs.Steps.{StepCases}
 use Rattle.history_law.proofs.Steps.{each_step, each_request}
 use Rattle.component_law.specs.Listed.{is_offline, IsOffline}
 
-out_more : (b : Bool) (x y : Bool) → (x ≡ true → y ≡ true) → (if b then true else x) ≡ true
+pub out_more : (b : Bool) (x y : Bool) → (x ≡ true → y ≡ true) → (if b then true else x) ≡ true
     → (if b then true else y) ≡ true
 out_more true x y on e = refl
 out_more false x y on e = on e

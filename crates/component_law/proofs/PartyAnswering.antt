@@ -1,5 +1,5 @@
 -- What a client knows of sizes behind an answer.
-use Rattle.std.proofs.Common.{◌≡◌, ◌≢◌, ◌⊎◌, ◌==◌, ◌||◌, ◌&&◌, ℕ, Bool, true, false, List, [], ◌∷◌, Option, Some, None, Result, Ok, Err, inl, inr, refl, sym, ap, subst, ◌∙◌, if◌then◌else◌}
+use Rattle.std.proofs.Common.{◌≡◌, ◌≢◌, ◌⊎◌, ◌==◌, ℕ, Bool, true, false, List, [], ◌∷◌, Option, Some, None, Result, Ok, Err, inl, inr, refl, sym, ap, subst, ◌∙◌, if◌then◌else◌}
 use Rattle.std.proofs.lemmas.Bool.{cases_eq, eq-eqb, ne_eqb}
 use Rattle.layout_types.specs.declared.err.LayoutErr.{LayoutErr}
 use Rattle.layout_types.specs.declared.layout.Layout.{Layout}
@@ -9,27 +9,20 @@ use Rattle.layout_ops.specs.declared.messages.Answer.{Answer}
 use Rattle.layout_ops.specs.declared.results.LayoutSegment.{LayoutSegment}
 use Rattle.layout_ops.specs.declared.results.LayoutGetOk.{LayoutGetOk}
 use Rattle.layout_ops.specs.declared.statuses.TheConstants.{NFS4_OK}
-use Rattle.world_history.specs.ClientNames.{Client, Call, CallOp, Held, Reach, Listed, Why, BadCredential, TimedOut, Need, First, Get, Commit, Report, Close, Phase, Starts, Needs, Waits, Reads, Probes, Gathers, Scatters, Turn, Done}
+use Rattle.world_history.specs.ClientNames.{Client, Call, CallOp, Held, Reach, Listed, Why, TimedOut, Need, First, Get, Commit, Report, Close, Phase, Starts, Needs, Waits, Reads, Probes, Gathers, Scatters, Turn, Done}
 use Rattle.client_rules.specs.Answers.{on_commit, not_granted}
-use Rattle.client_rules.specs.Calls.{file_of, is_write}
+use Rattle.client_rules.specs.Calls.{file_of}
 use Rattle.client_rules.specs.Going.{quiet, by_turn, moved, with_held}
 use Rattle.client_rules.specs.Grants.{held_of}
-use Rattle.client_rules.specs.Layouts.{first_why, fresh, is_lacking, enough, with_listed, unless_why, with_body, reach_of, one_layout, in_layouts, taken}
+use Rattle.client_rules.specs.Layouts.{first_why, fresh, with_listed, unless_why, with_body, reach_of, one_layout, in_layouts, taken}
 use Rattle.client_rules.specs.Messages.{answered_get, commit_under, on_need, on_phase, on_call}
 use Rattle.client_rules.specs.Requests.{grant_in}
 use Rattle.client_rules.specs.Results.{layouts_in, status_of}
 use Rattle.client_rules.proofs.ReadSteps.{held_file}
+use Rattle.history_law.proofs.Taking.{enough_same}
 use Rattle.component_law.proofs.Client.{IsSized, AreSized, put_over, turn_sized, same_call}
 
 -- ---- the size that is taken
-
-same_grant : (b : Bool) (h k : Held) → (if b then Err BadCredential else Ok h) ≡ Ok k → h ≡ k
-same_grant true h k e = absurd (cc e)
-same_grant false h k e = cc e
-
-enough_same : (h k : Held) (op : CallOp) → enough h op ≡ Ok k → h ≡ k
-unfolding enough
-enough_same h k op e = same_grant ((is_write op || h.reach.rw) && is_lacking h op) h k e
 
 listed_size : (a : Answer) (n : ℕ) (op : CallOp) (g : Reach) (l : Layout) (o : Option (List Listed)) (h : Held)
     → with_listed a n op g l o ≡ Ok h → h.size ≡ a.size

@@ -37,6 +37,7 @@ use Rattle.component_law.proofs.ListedServing.{MayGive, serves_may}
 use Rattle.component_law.proofs.ListedSteps.{FewerAt, AllFewer, Did, step_did}
 use Rattle.history_law.specs.Files.{Quiet, Asked}
 use Rattle.history_law.proofs.Files.{in_at}
+use Rattle.history_law.proofs.IssueTelling.{asked_client}
 
 -- where the server has a grant of client c on the file, these are its components
 abbrev pub ListsAt : Server → (c : ℕ) → (file : ℕ) → Held → Type 0
@@ -93,15 +94,15 @@ quiet_lists s t c hs stays keep all same k =
 
 -- ---- what gives no layout
 
-get_either : (b : Bool) (x y : LayoutGetResult) (ok : LayoutGetOk) → (x ≡ get.Granted ok → ⊥)
+pub get_either : (b : Bool) (x y : LayoutGetResult) (ok : LayoutGetOk) → (x ≡ get.Granted ok → ⊥)
     → (y ≡ get.Granted ok → ⊥) → (if b then x else y) ≡ get.Granted ok → ⊥
 get_either true x y ok p q e = p e
 get_either false x y ok p q e = q e
 
-results_get : (x y : LayoutGetResult) → results.LayoutGet x ≡ results.LayoutGet y → x ≡ y
+pub results_get : (x y : LayoutGetResult) → results.LayoutGet x ≡ results.LayoutGet y → x ≡ y
 results_get x y e = cc e
 
-none_given : (a : RequestArgs) (status : ℕ) (ok : LayoutGetOk) → result_of a status ≡ results.LayoutGet (get.Granted ok)
+pub none_given : (a : RequestArgs) (status : ℕ) (ok : LayoutGetOk) → result_of a status ≡ results.LayoutGet (get.Granted ok)
     → ⊥
 none_given (Get iomode offset count) status ok e =
     get_either (status == NFS4ERR_LAYOUTTRYLATER) (get.TryLater false) (get.Refused status) ok (λ x. cc x) (λ x. cc x)
@@ -111,12 +112,7 @@ none_given (Return report) status ok e = cc e
 
 -- ---- a grant that is told is the client's on its file
 
-asked_client : (f : Kept) (number client now offset count : ℕ) (b : Bool)
-    → (asked f number client now offset count b).client ≡ client
-unfolding asked
-asked_client f number client now offset count b = refl
-
-told_found : (go : Going) (next format now client : ℕ) (a : RequestArgs) (g : Grant)
+pub told_found : (go : Going) (next format now client : ℕ) (a : RequestArgs) (g : Grant)
     → (serves go next format now client a).told.grant ≡ Some g
     → grant_of (serves go next format now client a).going.file.kept.grants client ≡ Some g
 told_found go next format now client (Get iomode offset count) g told =

@@ -12,7 +12,7 @@ use Rattle.world_history.specs.ReadDrives.{injected_after}
 use Rattle.world_history.specs.Reading.{is_head, Step, Grouped, grouped_with, grouped, steps_of, sent_after}
 use Rattle.world_history.specs.Book.{created_in, placed_in, input_at, step_by, server_behind, clock_after}
 use Rattle.world_history.specs.Calm.{Seen, Watched, watched, watches, sees, sent_taken, is_told_taken, taken_by, returned_at, server_begins, failed_after, stopped_after, marks_at, mended_in, through, first_seen}
-use Rattle.component_law.specs.Following.{left_pending, PendingIsRead}
+use Rattle.component_law.specs.LeftPending.{left_pending, PendingIsRead}
 
 -- ---- the last step gets the line
 
@@ -102,7 +102,9 @@ with_pending s t c k =
     ∙ ap (λ (w : Watched). built s t.head did w (fold sent_after s.server.sent (t.head ∷ more))
     (fold log_after w.moment.log (t.head ∷ more)))
     (fold-append (watches (mended_in did)) (watched_as s t.head (is_told_taken t.rest) did) t.rest (l ∷ []))
-    ∙ ap (λ (ss : List Sent). built s t.head did (through s t did) ss (fold log_after (through s t did).moment.log (t.head ∷ more)))
+    ∙ ap
+    (λ (ss : List Sent). built s t.head did (through s t did) ss
+    (fold log_after (through s t did).moment.log (t.head ∷ more)))
     (fold-append sent_after (sent_after s.server.sent t.head) t.rest (l ∷ []))
     ∙ ap (λ (g : Log). built s t.head did (through s t did) (fold sent_after s.server.sent (t.head ∷ t.rest)) g)
     (fold-append log_after (log_after (through s t did).moment.log t.head) t.rest (l ∷ []))

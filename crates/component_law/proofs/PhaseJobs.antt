@@ -249,7 +249,8 @@ module _ (P : ℕ → Type 0) (number n : ℕ) (fresh : (o : ℕ) → n ≤ o �
   pub ends_making : (g : Going) → Own g → End (making g)
   unfolding making
   ends_making g h =
-      ends_rests_or _ g _ _ _ h tt (all_mine g _ _ h (λ e. absurd (cc e))) (λ e. absurd (cc e)) (ended (keeping g (record g.file.kept { ready = true })) h)
+      ends_rests_or _ g _ _ _ h tt (all_mine g _ _ h (λ e. absurd (cc e))) (λ e. absurd (cc e))
+      (ended (keeping g (record g.file.kept { ready = true })) h)
 
   -- the file has its next tag
   owns_raised : (g : Going) → Own g

@@ -12,7 +12,7 @@ use Rattle.server_rules.proofs.Members.{in_either}
 use Rattle.history_law.specs.Names.{Server, File, Kept, Command, Outgoing, ToDrive}
 use Rattle.history_law.proofs.JobFiles.{found_file}
 use Rattle.component_law.specs.Words.{Each}
-use Rattle.component_law.specs.Performing.{AreDistinct}
+use Rattle.component_law.specs.Distinct.{AreDistinct}
 use Rattle.component_law.specs.Sound.{IsSound, EachStepIsSound}
 use Rattle.component_law.specs.Tags.{EachStepRaisesTags}
 use Rattle.component_law.specs.Objects.{AreOwned}

@@ -8,12 +8,13 @@ use Rattle.server_rules.specs.Going.{Going, keeping, noting_if}
 use Rattle.server_rules.specs.Return.{reports_from, takes_loss}
 use Rattle.world_history.specs.ServerNames.{Component, File, Note, NoteKind, Reported}
 use Rattle.component_law.specs.Components.{Paired, StandAlike}
-use Rattle.component_law.specs.Sound.{IsAimed, target_of}
+use Rattle.component_law.specs.Sound.{IsAimed}
 use Rattle.component_law.specs.Apart.{AreApart}
 use Rattle.component_law.proofs.Drives.{apart_lost}
 use Rattle.component_law.proofs.Components.{lost, alike_same}
 use Rattle.component_law.proofs.FileNotes.{Ends, AreTellable, tag_behind, AreNext, Tagged, noted_with, behind, any_rebuilt}
 use Rattle.component_law.proofs.Targets.{aim_lost}
+use Rattle.component_law.specs.Objects.{target_of}
 
 -- ---- components that are lost one by one
 
@@ -151,7 +152,9 @@ told_of go h ks r a =
         kinds = kinds_of ns;
         notes = r.notes;
         tellable = all_told ns;
-        tags = subst (λ (f : File). Tagged go.file.kept.tag (kinds_of ns) f.kept.tag) (sym r.file) (still_tagged go.file.kept.tag ns);
+        tags =
+            subst (λ (f : File). Tagged go.file.kept.tag (kinds_of ns) f.kept.tag) (sym r.file)
+            (still_tagged go.file.kept.tag ns);
         alike = subst (λ (x : List Component). Paired StandAlike (behind cs (kinds_of ns)) x) (sym same)
             (alike_same (behind cs (kinds_of ns)));
         exact = λ e. same;

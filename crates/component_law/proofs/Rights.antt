@@ -1,5 +1,5 @@
 -- What a client may send gives no object a tag: its capability has no right to that.
-use Rattle.std.proofs.Common.{◌≡◌, ◌⊎◌, ℕ, ◌<◌, ◌^◌, Bool, true, false, ◌||◌, List, Ok, bit_and, nat_eq, refl, sym, ap, subst, ◌∙◌, inl, inr}
+use Rattle.std.proofs.Common.{◌≡◌, ◌⊎◌, ℕ, ◌<◌, ◌^◌, Bool, true, false, List, Ok, bit_and, nat_eq, refl, sym, ap, subst, ◌∙◌, inl, inr}
 use Rattle.osd_lists.proofs.Tests.{first_false}
 use Rattle.osd_capability.specs.declared.layout.Capability.{Capability}
 use Rattle.osd_capability.specs.Layout.{reading as capability_in}

@@ -1,18 +1,17 @@
 -- Files in a step, one after another.
-use Rattle.std.proofs.Common.{◌≡◌, ℕ, zero, suc, ◌<◌, ◌+◌, ◌==◌, ◌∷◌, [], List, false, Option, Some, None, length, refl, sym, ap, subst, ◌∙◌, inl, inr}
+use Rattle.std.proofs.Common.{◌≡◌, ℕ, zero, suc, ◌<◌, ◌==◌, ◌∷◌, [], List, false, Option, Some, None, length, refl, sym, ap, subst, ◌∙◌, inl, inr}
 use Rattle.std.proofs.lemmas.Bool.{cases_Bool}
 use Rattle.scenario_text.specs.declared.names.TheConstants.{FILES}
 use Rattle.scenario_text.specs.declared.line.Note.{Note as ToldNote}
 use Rattle.scenario_text.specs.declared.line.Note.TheVariants as note
 use Rattle.server_rules.specs.Going.{Going}
 use Rattle.server_rules.specs.Files.{file_at, put_file}
-use Rattle.server_rules.specs.Standing.{lose_on, lose_from}
 use Rattle.server_rules.proofs.Components.{length_lost, length_lost_on}
 use Rattle.world_history.specs.ServerNames.{Component, File, Note, NoteKind}
 use Rattle.world_history.specs.Told.{told_note}
 use Rattle.world_history.specs.Calm.{noted}
 use Rattle.component_law.specs.Words.{Each}
-use Rattle.component_law.specs.Performing.{AreDistinct, HaveComponents}
+use Rattle.component_law.specs.Distinct.{AreDistinct, HaveComponents}
 use Rattle.component_law.specs.Components.{Paired, StandAlike, without_drive}
 use Rattle.component_law.specs.Sound.{IsAimed}
 use Rattle.component_law.specs.Apart.{AreApart}

@@ -13,13 +13,14 @@ use Rattle.server_rules.specs.Return.{Returned, NoGrant, Clean, Taken, TooMany, 
 use Rattle.server_rules.specs.Requests.{serves}
 use Rattle.server_rules.specs.Openings.{opens, opens_made, opens_fenced, is_unsettled}
 use Rattle.world_history.specs.ServerNames.{Kept, File, Grant, Reply, IoErr, RequestArgs, Get, Commit, Return, Note, Awaited, Job, Work, Revoking, Targets, Gathers, Fills, NoSpace, Spent}
-use Rattle.component_law.specs.Sound.{target_in, target_of, IsAim, IsAimed}
+use Rattle.component_law.specs.Sound.{IsAim, IsAimed}
 use Rattle.component_law.proofs.Drives.{apart_again}
 use Rattle.component_law.proofs.Components.{none_lost_on, alike_same}
 use Rattle.component_law.proofs.FileNotes.{Tells, Ends, tells_plain, tells_lost, tells_first}
 use Rattle.component_law.proofs.Targets.{AreKnown, aim_lost, aim_declared}
 use Rattle.component_law.proofs.Jobs.{ends_full, ends_loses, ends_waits_or_on, ends_fence, ends_making}
 use Rattle.component_law.proofs.Reports.{ends_loss}
+use Rattle.component_law.specs.Objects.{target_of, target_in}
 
 -- the target of the job that runs
 aim_of : (f : File) (j : Job) → f.job ≡ Some j → IsAimed f → IsAim f.kept.components (target_in j.work)

@@ -26,7 +26,7 @@ use Rattle.world_history.specs.Moves.{Act, behind, by_client, pends_as, delivers
 use Rattle.world_history.specs.Sending.{sent_lines, sends_all}
 use Rattle.world_history.specs.Reading.{is_head}
 use Rattle.history_law.proofs.BookLines.{sent_no_head}
-use Rattle.component_law.specs.Following.{left_pending}
+use Rattle.component_law.specs.LeftPending.{left_pending}
 
 -- ---- lines of which none begins a step
 

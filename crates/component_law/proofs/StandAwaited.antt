@@ -142,7 +142,7 @@ other_for f (Reading offset len) k drive object nonce own e = cc e
 other_for f (Writing offset bytes) k drive object nonce own e = cc e
 other_for f Measuring k drive object nonce own e = cc e
 
-object_for : (f : Kept) (ask : Ask) (k drive object nonce : ℕ)
+pub object_for : (f : Kept) (ask : Ask) (k drive object nonce : ℕ)
     → (command_for f ask k drive object nonce).object ≡ object
 object_for f Creating k drive object nonce = refl
 object_for f Raising k drive object nonce = refl

@@ -6,7 +6,7 @@ use Rattle.world_history.specs.declared.messages.Posted.{Posted}
 use Rattle.world_history.specs.declared.messages.Sent.{Sent}
 use Rattle.world_history.specs.State.{World}
 use Rattle.world_history.specs.Laws.{shown}
-use Rattle.component_law.specs.Sightings.{messages_of}
+use Rattle.component_law.specs.Messages.{messages_of}
 
 -- ---- a message that stays
 

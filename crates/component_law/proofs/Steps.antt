@@ -21,7 +21,7 @@ use Rattle.server_rules.specs.Openings.{crashed_file, opens, opens_each, reopen}
 use Rattle.server_rules.proofs.FileLaws.{number_at}
 use Rattle.world_history.specs.ServerNames.{Server, File, Drive, Note, Effects, Job, JobKind, ClientRequest, Reply, OrderKind, ToRecall, ToRevoke, ToDeclare, ToRebuild, ToAudit, Revoking, Rebuilding, Auditing, Busy, Spent}
 use Rattle.component_law.specs.Words.{Each}
-use Rattle.component_law.specs.Performing.{AreDistinct}
+use Rattle.component_law.specs.Distinct.{AreDistinct}
 use Rattle.component_law.specs.Sound.{IsAimed, IsSound}
 use Rattle.component_law.specs.Naming.{IsNamedInput}
 use Rattle.component_law.specs.Going.{declared_by, declared_in, if_known, taken_out}
@@ -127,7 +127,8 @@ went_job : (s : Server) (chosen : List ℕ) (kind : JobKind) (n : ℕ) (f : File
 went_job s chosen kind n f (Some j) h e = record {
   each = went_one s f.kept.number f _ _ h (ap (λ (x : ℕ). file_at s.files x) (number_at s.files n f e) ∙ e)
       (went_plain f [] (noting (at_file s chosen f) (Busy (lowest j.awaited))) (
-        tells_plain f.kept [] (at_file s chosen f) (Busy (lowest j.awaited)) (λ cs. refl) refl refl refl (tells_first (at_file s chosen f)),
+        tells_plain f.kept [] (at_file s chosen f) (Busy (lowest j.awaited)) (λ cs. refl) refl refl refl
+            (tells_first (at_file s chosen f)),
         aimed_at s n f h e,
       ));
   known = h.drives;
@@ -168,7 +169,8 @@ known_offline (d ∷ ds) drive h = elim (cases_Bool (d.number == drive)) [
 
 went_declares : (drive : ℕ) (ds : List Drive) (fs : List File) (m : Effects) (chosen : List ℕ) → AreKnown ds
     → Each IsAimed fs
-    → WentEach (Some drive) fs m.notes (declares_each drive ds fs m chosen).files (declares_each drive ds fs m chosen).effects.notes
+    → WentEach (Some drive) fs m.notes (declares_each drive ds fs m chosen).files
+    (declares_each drive ds fs m chosen).effects.notes
 unfolding declares_each
 went_declares drive ds [] m chosen known a = refl
 went_declares drive ds (f ∷ fs) m chosen known a =

@@ -28,6 +28,7 @@ use Rattle.history_law.proofs.LaneLines.{letter, in_get}
 use Rattle.history_law.proofs.Numbers.{Numbers}
 use Rattle.history_law.proofs.Reaching.{reached_by}
 use Rattle.history_law.proofs.Spelled.{command_reads}
+use Rattle.history_law.proofs.Heard.{world_command}
 use Rattle.exchange_law.proofs.Knowing.{lawful_at}
 use Rattle.exchange_law.proofs.Replied.{read_at}
 use Rattle.component_law.specs.Naming.{AreNamed}
@@ -39,7 +40,6 @@ use Rattle.component_law.specs.Tagged.{HasFile, NoCommandIsAhead}
 use Rattle.component_law.specs.Origin.{GivesTag, EachTagWasSent}
 use Rattle.component_law.specs.First.{CreatesAreFirst}
 use Rattle.component_law.specs.Sent.{ServerSentItsRun}
-use Rattle.component_law.proofs.Letters.{world_command}
 use Rattle.component_law.proofs.Heard.{heard_made}
 
 given_from : (least : ℕ) (c : Command) (tag : ℕ) → least ≤ c.capability.tag → GivesTag c tag → least ≤ tag

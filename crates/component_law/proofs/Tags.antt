@@ -8,7 +8,7 @@ use Rattle.server_rules.specs.Laws.{In}
 use Rattle.server_rules.specs.Making.{refusal, unless_refused, makes_file, unmade, drives_for, create_file}
 use Rattle.server_rules.proofs.FileLaws.{not_there}
 use Rattle.world_history.specs.ServerNames.{Server, File, Note, NoteKind, Refusal, Fenced}
-use Rattle.component_law.specs.Performing.{AreDistinct}
+use Rattle.component_law.specs.Distinct.{AreDistinct}
 use Rattle.component_law.specs.Going.{taken_out}
 use Rattle.component_law.specs.Sound.{IsSound}
 use Rattle.component_law.specs.Tags.{fence_note, TagRises, EachStepRaisesTags}

@@ -11,7 +11,7 @@ use Rattle.server_rules.proofs.FileLaws.{number_at}
 use Rattle.world_history.specs.ServerNames.{Server, File, Component, Mended}
 use Rattle.world_history.specs.Calm.{Watched, watches, noted, noted_in, with_components, with_grants, untold_file, begun_file, at_begin}
 use Rattle.component_law.specs.Components.{told_by, told_in}
-use Rattle.component_law.proofs.Beginning.{begun_at as begun_each}
+use Rattle.component_law.proofs.Begun.{begun_at as begun_each}
 
 -- the file with these components
 abbrev pub with_parts : File → List Component → File

@@ -25,7 +25,7 @@ use Rattle.server_rules.specs.declared.jobs.Target.{Target}
 use Rattle.server_rules.specs.declared.jobs.Tally.{Tally}
 use Rattle.server_rules.specs.declared.files.Component.{Component}
 use Rattle.osd_commands.specs.declared.replies.Reply.{Reply}
-use Rattle.component_law.specs.Sound.{target_in, target_of}
+use Rattle.component_law.specs.Objects.{target_of, target_in}
 
 -- Q of the drives, of what is kept of a file and of the target of its rebuild lasts through each part of a job.
 pub record IsWalked (Q : List Drive → Kept → Option Target → Type 0) : Type 0 where

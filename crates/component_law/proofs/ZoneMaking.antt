@@ -7,7 +7,6 @@ use Rattle.std.proofs.lemmas.List.{drop-take, length-drop, length-take}
 use Rattle.zone_place.specs.declared.asks.ZoneAsk.{ZoneAsk}
 use Rattle.zone_place.specs.declared.loads.Holder.{Holder}
 use Rattle.zone_place.specs.Zones.{InZone, ask_of, all_asked, within, zones_of, stands_in, has_room, are_among, many_in, fits_zones, counted, group_at, spreads, spread}
-use Rattle.zone_place.specs.Zones as zones
 use Rattle.zone_place.proofs.Spreading.{spread_spreads, spread_parts}
 use Rattle.zone_place.proofs.Zoning.{none_within}
 use Rattle.server_rules.specs.declared.server.Server.{Server}

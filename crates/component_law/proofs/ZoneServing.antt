@@ -22,8 +22,8 @@ use Rattle.server_rules.specs.declared.files.Component.{Component}
 use Rattle.server_rules.specs.declared.jobs.Job.{Job}
 use Rattle.server_rules.specs.declared.jobs.Target.{Target}
 use Rattle.server_rules.specs.declared.jobs.JobKind.TheVariants.{Revoking}
-use Rattle.component_law.specs.Sound.{target_of}
 use Rattle.component_law.proofs.Walking.{IsWalked, Ends, ends_fence}
+use Rattle.component_law.specs.Objects.{target_of}
 
 -- ---- reports
 

@@ -20,7 +20,6 @@ use Rattle.history_law.specs.Steps.{new_file, answered_file}
 use Rattle.history_law.proofs.Files.{Each, in_at, put_each, add_each, crashed_each, declared_each, opened_each}
 use Rattle.history_law.proofs.Steps.{each_step, each_request}
 use Rattle.component_law.specs.Apart.{AreDifferent, IsFresh}
-use Rattle.component_law.specs.Sound.{target_of}
 use Rattle.component_law.proofs.Placing.{numbers, numbers_offline}
 use Rattle.component_law.specs.Spread.{StaysSpread, AreSpread, AreApart, EachStepSpreads}
 use Rattle.component_law.proofs.Zones.{same_equal, same_added, same_put, zones_offline}
@@ -29,6 +28,7 @@ use Rattle.component_law.proofs.ZoneMaking.{stays_made}
 use Rattle.component_law.proofs.Aiming.{Spread, spread_walked}
 use Rattle.component_law.proofs.Walking.{Ends, ends_hears, ends_fence, ends_declares, ends_opens, ends_making}
 use Rattle.component_law.proofs.ZoneServing.{ends_serves}
+use Rattle.component_law.specs.Objects.{target_of}
 
 module _ (s : Server) (chosen : List ℕ) (i : Input) (apart : AreApart s) (fresh : IsFresh s i) (h : AreSpread s) where
   abbrev Stays : File → Type 0

@@ -1,11 +1,4 @@
 pub mod Words
-pub mod Files
-pub mod Logs
-pub mod Marks
-pub mod Harms
-pub mod Performing
-pub mod Flagging
-pub mod Following
 pub mod Components
 pub mod Naming
 pub mod Sound
@@ -16,10 +9,6 @@ pub mod Moments
 pub mod Tags
 pub mod FenceTags
 pub mod Told
-pub mod Sightings
-pub mod Steps
-pub mod Moving
-pub mod Watching
 pub mod OnDrives
 pub mod Spread
 pub mod Failing
@@ -45,3 +34,10 @@ pub mod Origin
 pub mod TagWithin
 pub mod Least
 pub mod TagTags
+pub mod Offline
+pub mod Distinct
+pub mod ShownFiles
+pub mod Opening
+pub mod LeftPending
+pub mod Bounds
+pub mod Messages

@@ -3,22 +3,12 @@ use Rattle.std.specs.Prelude.{◌≡◌, ◌<◌, ℕ, false, true, List, Option
 use Rattle.scenario_text.specs.declared.names.TheConstants.{DRIVES, FILES}
 use Rattle.server_rules.specs.Standing.{stood_on}
 use Rattle.server_rules.specs.History.{Input, step}
-use Rattle.world_history.specs.ServerNames.{Server, File, Component, Drive, Work, Job, Target, Targets, Gathers, Fills}
+use Rattle.world_history.specs.ServerNames.{Server, File, Component, Drive, Target}
 use Rattle.component_law.specs.Words.{Each}
-use Rattle.component_law.specs.Performing.{AreDistinct, HaveComponents}
+use Rattle.component_law.specs.Distinct.{AreDistinct, HaveComponents}
 use Rattle.component_law.specs.Components.{is_lacking}
 use Rattle.component_law.specs.Naming.{IsNamedInput}
-
--- where a rebuild makes a component anew
-abbrev pub target_in : Work → Option Target
-target_in (Targets t) = Some t
-target_in (Gathers t todo) = Some t
-target_in (Fills t todo) = Some t
-target_in work = None
-
-abbrev pub target_of : Option Job → Option Target
-target_of None = None
-target_of (Some j) = target_in j.work
+use Rattle.component_law.specs.Objects.{target_of}
 
 -- that component is missing until then, lines can name the drive, and no component stands or last stood there
 abbrev pub IsAim : List Component → Option Target → Type 0

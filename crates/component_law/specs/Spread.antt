@@ -12,8 +12,8 @@ use Rattle.server_rules.specs.declared.jobs.Target.{Target}
 use Rattle.server_rules.specs.Zoning.{in_zones, holders_from}
 use Rattle.server_rules.specs.Laws.{In}
 use Rattle.server_rules.specs.History.{Input, step}
-use Rattle.component_law.specs.Sound.{target_of}
 use Rattle.component_law.specs.Apart.{AreDifferent, IsFresh}
+use Rattle.component_law.specs.Objects.{target_of}
 
 -- ---- a file
 

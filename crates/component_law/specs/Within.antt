@@ -32,7 +32,8 @@ sets_tag action = false
 -- A command leaves its object within the file, where it was so before, as long as it isn't past the file or gives no
 -- tag; and no other object changes.
 pub record StaysWithin (d : DriveState) (c : Command) : Type 0 where
-  pub own : (k : Kept) → (sets_tag c.action ≡ true → IsBehind k c) → ObjectWithin k d c.object → ObjectWithin k (performed d c) c.object
+  pub own : (k : Kept) → (sets_tag c.action ≡ true → IsBehind k c) → ObjectWithin k d c.object →
+      ObjectWithin k (performed d c) c.object
   pub others : (o : ℕ) → (o ≡ c.object → ⊥) → object_at (performed d c).store o ≡ object_at d.store o
 
 -- so does each that a drive performs

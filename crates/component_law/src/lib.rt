@@ -1,16 +1,12 @@
-//! Components of files and their objects, in every history: what is seen of them, what clients and the server know of them,
-//! what the server sends them, their zones and their tags.
+//! Components of files and their objects, in every history: how the server changes them, what clients and the server know
+//! of them, what the server sends them, their zones and their tags.
 //!
-//! # What is seen of a run
+//! # Components and tags of files
 //!
-//! What the code keeps to see whether a run is calm, and the moments of its history.
-//!
-//! `world_history` says by its moments whether a history is calm, each with the whole server; `world_calm` keeps less.
-//! Here is proved that this stands for the moments, step by step: files, log, marks and the flag.
-//! `specs/Following.antt` says what a step must give for it; and each move of a world gives it, by the laws of the
-//! book, by what the messages of a step tell, and by the laws of files: a step of the server changes components as
-//! its notes tell, but for those that it rebuilds, and those on a drive that is declared. So what `world_watch`
-//! keeps stands for what is read off the lines, event by event.
+//! What each step of the server does to the components and the tag of a file, and so what holds of the server that is
+//! read off the lines of a history. No two files have one number, and the components of a file stand on different
+//! drives. A step changes components as its notes tell, but for those that it rebuilds, and those on a drive that is
+//! declared.
 //!
 //! # Zones
 //!
@@ -23,8 +19,8 @@
 //!
 //! A history is that of `world_history`. A client knows the size of each file on which the server has a grant of it,
 //! and lists under it the components that the server has. The live grants of each file stand in the order in which
-//! they were given. Each drive has the key with which the server seals for it, and no return that is due rests at an
-//! idle client.
+//! they were given. Each drive has the key with which the server seals for it, one that the server has offline has
+//! failed, and no return that is due rests at an idle client.
 //!
 //! # What the server sends
 //!
@@ -41,30 +37,29 @@
 //!
 //! The grants that the server gives, and the tags of files, of these grants and of objects on drives.
 //!
-//! A history is that of `world_history`. Each layout that the server gives is of a grant that is live then, or repeats
-//! what the client was told before; so a credential that was given leads back to a live grant. The tag of a file never falls, and a fence raises it: so what was given
-//! before a fence was over is of an earlier tag, and isn't performed behind it. Where nothing is forged, each object has its tag from a command
-//! that the server sent, and none of these is ahead of its file; nor is it behind, since each component has its tag
-//! from its CREATE, which a drive answered, or from the fence that raised it. So it is its file's, or the next one
-//! while a fence is open; only a file whose making a crash of the server cut off may lack objects.
+//! A history is that of `world_history`. Each layout that the server gives is of a grant that is live then, or
+//! repeats what the client was told before; so a credential that was given leads back to a live grant. The tag of a
+//! file never falls, and a fence raises it: so what was given before a fence was over is of an earlier tag, and
+//! isn't performed behind it. Where nothing is forged, each object has its tag from a command that the server sent,
+//! and none of these is ahead of its file; nor is it behind, since each component has its tag from its CREATE,
+//! which a drive answered, or from the fence that raised it. So it is its file's, or the next one while a fence is
+//! open; only a file whose making a crash of the server cut off may lack objects.
 #![tactic(auto)]
 
-mod calm_laws;
+mod file_laws;
 mod party_laws;
 mod sent_laws;
 mod tag_laws;
 mod zone_laws;
 
-pub use calm_laws::{
-    begin_is_seen, calm_is_followed, calm_is_kept, components_apart, components_stand_apart,
-    declared_have_failed, each_step_is_apart, each_step_is_sound, each_step_raises_tags,
-    each_step_tells, each_step_tells_tags, files_are_kept, log_is_kept, losses_are_told,
-    marks_are_kept, moves_follow, moves_give, moves_show_files, pending_is_read, seen_is_sound,
-    server_writes_to_others, sightings_are_the_worlds, steps_tell, watch_begins, writes_are_marked,
+pub use file_laws::{
+    components_apart, components_stand_apart, declared_have_failed, each_step_is_apart,
+    each_step_is_sound, each_step_raises_tags, each_step_tells, each_step_tells_tags,
+    losses_are_told, pending_is_read, seen_is_sound, server_writes_to_others,
 };
 pub use party_laws::{
     components_agree, each_step_orders, grants_are_in_order, grants_read_in_order, keys_are_known,
-    nothing_due_rests, sizes_agree,
+    nothing_due_rests, offline_have_failed, sizes_agree,
 };
 pub use sent_laws::{
     creates_are_first, each_object_is_owned, each_step_stands, no_command_is_ahead,

@@ -1,10 +1,12 @@
 // What holds of every history, for the crates above.
 ghost use Rattle.component_law.specs.Keys.{KeysAreKnown};
+ghost use Rattle.component_law.specs.Offline.{OfflineHaveFailed};
 ghost use Rattle.component_law.specs.Rests.{NothingDueRests};
 ghost use Rattle.component_law.specs.Sizes.{SizesAgree};
 ghost use Rattle.component_law.specs.Listed.{ComponentsAgree};
 ghost use Rattle.component_law.specs.Order.{EachStepOrders, GrantsAreInOrder, GrantsReadInOrder};
 
+use crate::file_laws::server_writes_to_others;
 use exchange_law::{answers_are_own, clients_agree};
 use history_law::{grants_are_safe, parties_run};
 use server_rules::slots_are_kept;
@@ -16,6 +18,14 @@ pub fn keys_are_known()
     ensures { KeysAreKnown }
 {
     one_event_more();
+}
+
+/// At each moment of a history a drive that the server has offline has failed.
+pub fn offline_have_failed()
+    ensures { OfflineHaveFailed }
+{
+    one_event_more();
+    server_writes_to_others();
 }
 
 /// In each world that is reached, a client without a call that awaits no answer has nothing to return, as long as a

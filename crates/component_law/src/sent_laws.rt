@@ -6,7 +6,7 @@ ghost use Rattle.component_law.specs.First.{CreatesAreFirst};
 ghost use Rattle.component_law.specs.Standing.{EachStepStands};
 ghost use Rattle.component_law.specs.Sent.{ServerSentItsRun};
 
-use crate::calm_laws::{each_step_is_sound, each_step_raises_tags};
+use crate::file_laws::{each_step_is_sound, each_step_raises_tags};
 use world_history::one_event_more;
 
 /// Whatever comes to a server, each object number that it gives a component is one file's for ever: no component of

@@ -8,7 +8,7 @@ ghost use Rattle.component_law.specs.TagWithin.{NoTagIsAhead};
 ghost use Rattle.component_law.specs.Least.{NoTagIsBehind};
 ghost use Rattle.component_law.specs.TagTags.{EachTagIsItsFiles};
 
-use crate::calm_laws::{each_step_raises_tags, seen_is_sound};
+use crate::file_laws::{each_step_raises_tags, seen_is_sound};
 use crate::sent_laws::{
     creates_are_first, each_step_stands, no_command_is_ahead, server_sent_its_run,
 };

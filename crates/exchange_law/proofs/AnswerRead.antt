@@ -1,11 +1,9 @@
 -- What is read of an answer that the server spelled: its number, and which grant it names, however wide the rest.
-use Rattle.std.proofs.Common.{◌≡◌, ◌<◌, ◌^◌, Bool, ℕ, eqb, List, [], Some, Result, Ok, sym, ap, subst, ◌∙◌, arith, inl, inr}
+use Rattle.std.proofs.Common.{◌≡◌, ◌<◌, ◌^◌, ℕ, eqb, List, [], Some, Ok, sym, ap, subst, ◌∙◌, arith, inl, inr}
 use Rattle.std.proofs.lemmas.List.{append-nil}
 use Rattle.xdr_codec.specs.Items.{u32_item}
-use Rattle.xdr_codec.specs.Reading.{Rest, ◌>>=◌, bool_in}
+use Rattle.xdr_codec.specs.Reading.{Rest}
 use Rattle.xdr_codec.proofs.ItemLaws.{bind_ok, ok_is, chosen}
-use Rattle.layout_types.specs.Grammar.{lifted, bool_part}
-use Rattle.layout_ops.specs.declared.err.OpErr.{OpErr}
 use Rattle.layout_ops.specs.declared.operation.Operation.{Operation}
 use Rattle.layout_ops.specs.declared.results.LayoutSegment.{LayoutSegment}
 use Rattle.layout_ops.specs.declared.results.LayoutGetOk.{LayoutGetOk}
@@ -22,8 +20,9 @@ use Rattle.layout_ops.specs.Reading.{segment_in, get_ok_in, get_behind, get_resu
 use Rattle.layout_ops.proofs.Fields.{u32_law, bool_law, operation_law, stateid_law}
 use Rattle.layout_ops.proofs.Steps.{named}
 use Rattle.client_rules.specs.Results.{layouts_in}
-use Rattle.history_law.proofs.Fronts.{codec_gets, next, number_needs}
-use Rattle.history_law.proofs.Parts.{field_32, field_64, carried_ok, lifted_ok, message_ends}
+use Rattle.history_law.proofs.Fronts.{codec_gets, next}
+use Rattle.history_law.proofs.Parts.{field_32, field_64, message_ends}
+use Rattle.history_law.proofs.Given.{other_kind, none_left}
 
 -- ---- what names a grant
 
@@ -45,17 +44,6 @@ pub record IsNamedIn (ok given : LayoutGetOk) : Type 0 where
 abbrev pub NamedIn : Results → (given : LayoutGetOk) → Type 0
 NamedIn (results.LayoutGet (get.Granted ok)) given = IsNamedIn ok given
 NamedIn r given = ⊥
-
--- nothing is read in no bytes
-bool_needs : (i : Rest) (x : Bool × Rest) → bool_in i ≡ Ok x → i.left ≡ [] → ⊥
-unfolding bool_in
-bool_needs i x e none = let b = bind_ok _ _ x e in number_needs i b.0 b.1 none
-
-none_left : (i : Rest) (x : LayoutGetOk × Rest) → get_ok_in i ≡ Ok x → i.left ≡ [] → ⊥
-unfolding get_ok_in bool_field bool_part
-none_left i x e none =
-    let b = bind_ok _ _ x e in
-    bool_needs i b.0 (lifted_ok (bool_in i) b.0 (carried_ok (lifted (bool_in i)) b.0 b.1)) none
 
 get_read : (r : LayoutGetResult) (i : Rest) (x : LayoutGetResult × Rest) (given : LayoutGetOk)
     → i.left ≡ get_result_item r → get_result_in i ≡ Ok x → x.1.left ≡ []
@@ -135,14 +123,6 @@ answer_read a i x given at e ends gives =
 abbrev pub NamedBy : Envelope → (given : LayoutGetOk) → Type 0
 NamedBy (envelope.Answer a) given = NamedIn a.results given
 NamedBy e given = ⊥
-
--- no other message is read as an answer
-other_kind : {V : Type 0} (read : Rest → Result (V × Rest) OpErr) (name : V → Envelope) (i : Rest) (a : Answer)
-    (j : Rest) → ((v : V) → name v ≡ envelope.Answer a → ⊥)
-    → (read i >>= named name) ≡ Ok (envelope.Answer a, j) → ⊥
-other_kind read name i a j not e =
-    let b = bind_ok (read i) (named name) (envelope.Answer a, j) e in
-    not b.0.0 (ap (λ (p : Envelope × Rest). p.0) (ok_is _ (envelope.Answer a, j) b.2))
 
 kind_read : (m : Envelope) (i : Rest) (a : Answer) (j : Rest) (given : LayoutGetOk) → i.left ≡ envelope_item m
     → envelope_in i ≡ Ok (envelope.Answer a, j) → j.left ≡ [] → layouts_in a.results ≡ Some given → NamedBy m given

@@ -23,7 +23,8 @@ record IsQuiet (n : ℕ) (o : Option Request) (d : Done) : Type 0 where
   outstanding : d.client.outstanding ≡ o
   next : d.client.next ≡ n
 
-either_quiet : (n : ℕ) (o : Option Request) (b : Bool) (d e : Done) → IsQuiet n o d → IsQuiet n o e → IsQuiet n o (if b then d else e)
+either_quiet : (n : ℕ) (o : Option Request) (b : Bool) (d e : Done) → IsQuiet n o d → IsQuiet n o e →
+    IsQuiet n o (if b then d else e)
 either_quiet n o true d e x y = x
 either_quiet n o false d e x y = y
 
@@ -33,7 +34,9 @@ turn_quiet n o d op (Ends u) q = record { requests = q.requests; outstanding = q
 turn_quiet n o d op (Forgets u) q = record { requests = q.requests; outstanding = q.outstanding; next = q.next }
 
 moved_quiet : (n : ℕ) (o : Option Request) (d : Done) (op : CallOp) (m : Moved) → IsQuiet n o d → IsQuiet n o (moved d op m)
-moved_quiet n o d op m q = turn_quiet n o (record (with_held d m.held) { commands = m.sent }) op m.turn (record { requests = q.requests; outstanding = q.outstanding; next = q.next })
+moved_quiet n o d op m q =
+    turn_quiet n o (record (with_held d m.held) { commands = m.sent }) op m.turn
+    (record { requests = q.requests; outstanding = q.outstanding; next = q.next })
 
 phased_quiet : (n : ℕ) (o : Option Request) (d : Done) (op : CallOp) (p : Phase) → IsQuiet n o d → IsQuiet n o (phased d op p)
 phased_quiet n o d op p q = record { requests = q.requests; outstanding = q.outstanding; next = q.next }
@@ -46,16 +49,20 @@ quiet_quiet c = record { requests = refl; outstanding = refl; next = refl }
 
 -- ---- a call begins
 
-starts_with_quiet : (n : ℕ) (o : Option Request) (d : Done) (op : CallOp) (need : Need) (r : Option Request) → IsQuiet n o d → IsQuiet n o (starts_with d op need r)
+starts_with_quiet : (n : ℕ) (o : Option Request) (d : Done) (op : CallOp) (need : Need) (r : Option Request) → IsQuiet n o d →
+    IsQuiet n o (starts_with d op need r)
 starts_with_quiet n o d op need None q = phased_quiet n o d op (Needs need) q
 starts_with_quiet n o d op need (Some r) q = q
 
-starts_under_quiet : (n : ℕ) (o : Option Request) (d : Done) (op : CallOp) (h : Option Held) → IsQuiet n o d → IsQuiet n o (starts_under d op h)
+starts_under_quiet : (n : ℕ) (o : Option Request) (d : Done) (op : CallOp) (h : Option Held) → IsQuiet n o d →
+    IsQuiet n o (starts_under d op h)
 starts_under_quiet n o d op None q = starts_with_quiet n o d op (Get 0) _ q
 starts_under_quiet n o d op (Some h) q =
-    either_quiet n o (covers h op) (moved d op (begins h op)) (starts_with d op First d.client.outstanding) (moved_quiet n o d op (begins h op) q) (starts_with_quiet n o d op First _ q)
+    either_quiet n o (covers h op) (moved d op (begins h op)) (starts_with d op First d.client.outstanding)
+    (moved_quiet n o d op (begins h op) q) (starts_with_quiet n o d op First _ q)
 
-starts_at_quiet : (n : ℕ) (o : Option Request) (d : Done) (op : CallOp) (p : Phase) → IsQuiet n o d → IsQuiet n o (starts_at d op p)
+starts_at_quiet : (n : ℕ) (o : Option Request) (d : Done) (op : CallOp) (p : Phase) → IsQuiet n o d →
+    IsQuiet n o (starts_at d op p)
 starts_at_quiet n o d op Starts q = starts_under_quiet n o d op _ q
 starts_at_quiet n o d op (Needs need) q = q
 starts_at_quiet n o d op (Waits need) q = q
@@ -64,7 +71,8 @@ starts_at_quiet n o d op (Probes io) q = q
 starts_at_quiet n o d op (Gathers io) q = q
 starts_at_quiet n o d op (Scatters io queue) q = q
 
-starts_call_quiet : (n : ℕ) (o : Option Request) (d : Done) (call : Option Call) → IsQuiet n o d → IsQuiet n o (starts_call d call)
+starts_call_quiet : (n : ℕ) (o : Option Request) (d : Done) (call : Option Call) → IsQuiet n o d →
+    IsQuiet n o (starts_call d call)
 starts_call_quiet n o d None q = q
 starts_call_quiet n o d (Some call) q = starts_at_quiet n o d call.op call.phase q
 
@@ -75,29 +83,38 @@ begun_quiet n o d q = starts_call_quiet n o d d.client.call q
 -- ---- a request goes out
 
 abbrev AskedBy : (n : ℕ) (o : Option Request) (d : Done) → Type 0
-AskedBy n o d = IsQuiet n o d ⊎ ((o ≡ None) × (r : Request) × (d.requests ≡ r ∷ []) × (d.client.outstanding ≡ Some r) × (r.sequence ≡ n))
+AskedBy n o d =
+    IsQuiet n o d ⊎ ((o ≡ None) × (r : Request) × (d.requests ≡ r ∷ []) × (d.client.outstanding ≡ Some r) × (r.sequence ≡ n))
 
-requests_asked : (n : ℕ) (o : Option Request) (d : Done) (file : ℕ) (a : Args) → o ≡ None → IsQuiet n o d → AskedBy n o (requests d file a)
+requests_asked : (n : ℕ) (o : Option Request) (d : Done) (file : ℕ) (a : Args) → o ≡ None → IsQuiet n o d →
+    AskedBy n o (requests d file a)
 unfolding requests
 requests_asked n o d file a e q = inr (e, request_of d.client file a, rw q.requests refl, refl, q.next)
 
-either_asked : (n : ℕ) (o : Option Request) (b : Bool) (d e : Done) → AskedBy n o d → AskedBy n o e → AskedBy n o (if b then d else e)
+either_asked : (n : ℕ) (o : Option Request) (b : Bool) (d e : Done) → AskedBy n o d → AskedBy n o e →
+    AskedBy n o (if b then d else e)
 either_asked n o true d e x y = x
 either_asked n o false d e x y = y
 
-asks_under_asked : (n : ℕ) (o : Option Request) (d : Done) (op : CallOp) (need : Need) (h : Option Held) → o ≡ None → IsQuiet n o d → AskedBy n o (asks_under d op need h)
-asks_under_asked n o d op need None e q = requests_asked n o (phased d op (Waits need)) (file_of op) (get_args op) e (phased_quiet n o d op (Waits need) q)
-asks_under_asked n o d op need (Some h) e q = requests_asked n o (phased d op (Waits need)) (file_of op) (args_of h op need) e (phased_quiet n o d op (Waits need) q)
+asks_under_asked : (n : ℕ) (o : Option Request) (d : Done) (op : CallOp) (need : Need) (h : Option Held) → o ≡ None →
+    IsQuiet n o d → AskedBy n o (asks_under d op need h)
+asks_under_asked n o d op need None e q =
+    requests_asked n o (phased d op (Waits need)) (file_of op) (get_args op) e (phased_quiet n o d op (Waits need) q)
+asks_under_asked n o d op need (Some h) e q =
+    requests_asked n o (phased d op (Waits need)) (file_of op) (args_of h op need) e (phased_quiet n o d op (Waits need) q)
 
 returns_asked : (n : ℕ) (o : Option Request) (d : Done) (u : Option Due) → o ≡ None → IsQuiet n o d → AskedBy n o (returns d u)
 returns_asked n o d None e q = inl (record { requests = q.requests; outstanding = q.outstanding; next = q.next })
-returns_asked n o d (Some u) e q = requests_asked n o _ u.file (return_args u.number []) e (record { requests = q.requests; outstanding = q.outstanding; next = q.next })
+returns_asked n o d (Some u) e q =
+    requests_asked n o _ u.file (return_args u.number []) e
+    (record { requests = q.requests; outstanding = q.outstanding; next = q.next })
 
 returns_due_asked : (n : ℕ) (o : Option Request) (d : Done) → o ≡ None → IsQuiet n o d → AskedBy n o (returns_due d)
 unfolding returns_due
 returns_due_asked n o d e q = either_asked n o _ _ _ (inl q) (returns_asked n o d _ e q)
 
-progress_phase_asked : (n : ℕ) (o : Option Request) (d : Done) (op : CallOp) (p : Phase) → o ≡ None → IsQuiet n o d → AskedBy n o (progress_phase d op p)
+progress_phase_asked : (n : ℕ) (o : Option Request) (d : Done) (op : CallOp) (p : Phase) → o ≡ None → IsQuiet n o d →
+    AskedBy n o (progress_phase d op p)
 progress_phase_asked n o d op (Needs need) e q = asks_under_asked n o d op need _ e q
 progress_phase_asked n o d op Starts e q = inl q
 progress_phase_asked n o d op (Waits need) e q = inl q
@@ -106,11 +123,13 @@ progress_phase_asked n o d op (Probes io) e q = inl q
 progress_phase_asked n o d op (Gathers io) e q = inl q
 progress_phase_asked n o d op (Scatters io queue) e q = inl q
 
-progress_call_asked : (n : ℕ) (o : Option Request) (d : Done) (call : Option Call) → o ≡ None → IsQuiet n o d → AskedBy n o (progress_call d call)
+progress_call_asked : (n : ℕ) (o : Option Request) (d : Done) (call : Option Call) → o ≡ None → IsQuiet n o d →
+    AskedBy n o (progress_call d call)
 progress_call_asked n o d None e q = returns_due_asked n o d e q
 progress_call_asked n o d (Some call) e q = progress_phase_asked n o d call.op call.phase e q
 
-progress_free_asked : (n : ℕ) (o : Option Request) (d : Done) (x : Option Request) → d.client.outstanding ≡ x → IsQuiet n o d → AskedBy n o (progress_free d x)
+progress_free_asked : (n : ℕ) (o : Option Request) (d : Done) (x : Option Request) → d.client.outstanding ≡ x → IsQuiet n o d →
+    AskedBy n o (progress_free d x)
 progress_free_asked n o d None e q = progress_call_asked n o d d.client.call (sym q.outstanding ∙ e) q
 progress_free_asked n o d (Some r) e q = inl q
 
@@ -124,7 +143,8 @@ requests_ask : (qs : List Request) (cs : List Awaited) → requests_in (map Asks
 requests_ask [] cs = commands_ask cs
 requests_ask (q ∷ qs) cs = ap (λ (rs : List Request). q ∷ rs) (requests_ask qs cs)
 
-sends_ask : (rs : List RecallAnswer) (qs : List Request) (cs : List Awaited) → requests_in (map AnswersRecall rs ++ (map Asks qs ++ map to_drive cs)) ≡ qs
+sends_ask : (rs : List RecallAnswer) (qs : List Request) (cs : List Awaited) →
+    requests_in (map AnswersRecall rs ++ (map Asks qs ++ map to_drive cs)) ≡ qs
 sends_ask [] qs cs = requests_ask qs cs
 sends_ask (r ∷ rs) qs cs = sends_ask rs qs cs
 
@@ -137,30 +157,37 @@ closed_asks n o d (inr a) = inr (a.0, a.1, sends_ask d.recalls d.requests d.comm
 
 finished_asks : (n : ℕ) (o : Option Request) (d : Done) → IsQuiet n o d → StepAsks n o (finished d)
 unfolding finished progressed
-finished_asks n o d q = closed_asks n o (progress_free (begun d) (begun d).client.outstanding) (progress_free_asked n o (begun d) (begun d).client.outstanding refl (begun_quiet n o d q))
+finished_asks n o d q =
+    closed_asks n o (progress_free (begun d) (begun d).client.outstanding)
+    (progress_free_asked n o (begun d) (begun d).client.outstanding refl (begun_quiet n o d q))
 
 still_asks : (c : Client) → StepAsks c.next c.outstanding (still c)
 still_asks c = inl (refl, refl)
 
 -- ---- answers
 
-answered_get_quiet : (n : ℕ) (o : Option Request) (d : Done) (op : CallOp) (r : Result Held Why) → IsQuiet n o d → IsQuiet n o (answered_get d op r)
+answered_get_quiet : (n : ℕ) (o : Option Request) (d : Done) (op : CallOp) (r : Result Held Why) → IsQuiet n o d →
+    IsQuiet n o (answered_get d op r)
 answered_get_quiet n o d op (Err w) q = over_quiet n o d _ q
 answered_get_quiet n o d op (Ok h) q = record { requests = q.requests; outstanding = q.outstanding; next = q.next }
 
-commit_under_quiet : (n : ℕ) (o : Option Request) (d : Done) (op : CallOp) (a : Answer) (timed : List TimedOut) (h : Option Held) → IsQuiet n o d → IsQuiet n o (commit_under d op a (Commit timed) h)
+commit_under_quiet : (n : ℕ) (o : Option Request) (d : Done) (op : CallOp) (a : Answer) (timed : List TimedOut)
+    (h : Option Held) → IsQuiet n o d → IsQuiet n o (commit_under d op a (Commit timed) h)
 commit_under_quiet n o d op a timed None q = q
 commit_under_quiet n o d op a timed (Some h) q = moved_quiet n o d op (on_commit h op a timed) q
 
-on_need_quiet : (n : ℕ) (o : Option Request) (d : Done) (op : CallOp) (need : Need) (a : Answer) → IsQuiet n o d → IsQuiet n o (on_need d op need a)
+on_need_quiet : (n : ℕ) (o : Option Request) (d : Done) (op : CallOp) (need : Need) (a : Answer) → IsQuiet n o d →
+    IsQuiet n o (on_need d op need a)
 on_need_quiet n o d op First a q = phased_quiet n o d op Starts q
 on_need_quiet n o d op (Get tries) a q =
-    either_quiet n o (status_of a.results == NFS4_OK) (answered_get d op (taken a op)) (by_turn d op (not_granted a tries)) (answered_get_quiet n o d op (taken a op) q) (turn_quiet n o d op (not_granted a tries) q)
+    either_quiet n o (status_of a.results == NFS4_OK) (answered_get d op (taken a op)) (by_turn d op (not_granted a tries))
+    (answered_get_quiet n o d op (taken a op) q) (turn_quiet n o d op (not_granted a tries) q)
 on_need_quiet n o d op (Commit timed) a q = commit_under_quiet n o d op a timed _ q
 on_need_quiet n o d op (Report timed) a q = over_quiet n o d _ q
 on_need_quiet n o d op (Close outcome report) a q = over_quiet n o d outcome q
 
-on_phase_quiet : (n : ℕ) (o : Option Request) (d : Done) (op : CallOp) (p : Phase) (a : Answer) → IsQuiet n o d → IsQuiet n o (on_phase d op p a)
+on_phase_quiet : (n : ℕ) (o : Option Request) (d : Done) (op : CallOp) (p : Phase) (a : Answer) → IsQuiet n o d →
+    IsQuiet n o (on_phase d op p a)
 on_phase_quiet n o d op (Waits need) a q = on_need_quiet n o d op need a q
 on_phase_quiet n o d op Starts a q = q
 on_phase_quiet n o d op (Needs need) a q = q
@@ -169,7 +196,8 @@ on_phase_quiet n o d op (Probes io) a q = q
 on_phase_quiet n o d op (Gathers io) a q = q
 on_phase_quiet n o d op (Scatters io queue) a q = q
 
-on_call_quiet : (n : ℕ) (o : Option Request) (d : Done) (call : Option Call) (a : Answer) → IsQuiet n o d → IsQuiet n o (on_call d call a)
+on_call_quiet : (n : ℕ) (o : Option Request) (d : Done) (call : Option Call) (a : Answer) → IsQuiet n o d →
+    IsQuiet n o (on_call d call a)
 on_call_quiet n o d None a q = q
 on_call_quiet n o d (Some call) a q = on_phase_quiet n o d call.op call.phase a q
 
@@ -178,13 +206,18 @@ on_call_quiet n o d (Some call) a q = on_phase_quiet n o d call.op call.phase a 
 recalled_quiet : (c : Client) (r : Recall) (h : Option Held) → IsQuiet c.next c.outstanding (recalled c r h)
 recalled_quiet c r None = record { requests = refl; outstanding = refl; next = refl }
 recalled_quiet c r (Some h) =
-    either_quiet c.next c.outstanding (h.number == grant_in r.args.stateid) (obeys c r) (no_match c r) (record { requests = refl; outstanding = refl; next = refl }) (record { requests = refl; outstanding = refl; next = refl })
+    either_quiet c.next c.outstanding (h.number == grant_in r.args.stateid) (obeys c r) (no_match c r)
+    (record { requests = refl; outstanding = refl; next = refl })
+    (record { requests = refl; outstanding = refl; next = refl })
 
-reply_under_quiet : (c : Client) (call : Call) (a : Awaited) (r : Reply) (h : Option Held) → IsQuiet c.next c.outstanding (reply_under c call a r h)
+reply_under_quiet : (c : Client) (call : Call) (a : Awaited) (r : Reply) (h : Option Held) →
+    IsQuiet c.next c.outstanding (reply_under c call a r h)
 reply_under_quiet c call a r None = quiet_quiet c
-reply_under_quiet c call a r (Some h) = moved_quiet c.next c.outstanding (quiet c) call.op (replied h call.op call.phase a r) (quiet_quiet c)
+reply_under_quiet c call a r (Some h) =
+    moved_quiet c.next c.outstanding (quiet c) call.op (replied h call.op call.phase a r) (quiet_quiet c)
 
-reply_call_quiet : (c : Client) (a : Awaited) (r : Reply) (call : Option Call) → IsQuiet c.next c.outstanding (reply_call c a r call)
+reply_call_quiet : (c : Client) (a : Awaited) (r : Reply) (call : Option Call) →
+    IsQuiet c.next c.outstanding (reply_call c a r call)
 reply_call_quiet c a r None = quiet_quiet c
 reply_call_quiet c a r (Some call) = reply_under_quiet c call a r _
 
@@ -193,12 +226,18 @@ reply_call_quiet c a r (Some call) = reply_under_quiet c call a r _
 taken_asks : (c : Client) (t : Option Taken) → StepAsks c.next (left_by t c.outstanding) (by_taken c t)
 taken_asks c None = still_asks c
 taken_asks c (Some (TakesAnswer a)) =
-    finished_asks c.next None (on_taken c (TakesAnswer a)) (on_call_quiet c.next None (quiet (record c { outstanding = None })) c.call a (quiet_quiet (record c { outstanding = None })))
-taken_asks c (Some (TakesReply a r)) = finished_asks c.next c.outstanding (on_taken c (TakesReply a r)) (reply_call_quiet c a r c.call)
+    finished_asks c.next None (on_taken c (TakesAnswer a))
+    (on_call_quiet c.next None (quiet (record c { outstanding = None })) c.call a
+    (quiet_quiet (record c { outstanding = None })))
+taken_asks c (Some (TakesReply a r)) =
+    finished_asks c.next c.outstanding (on_taken c (TakesReply a r)) (reply_call_quiet c a r c.call)
 taken_asks c (Some (TakesRecall r)) = finished_asks c.next c.outstanding (on_taken c (TakesRecall r)) (recalled_quiet c r _)
 
-timeout_under_asks : (c : Client) (call : Call) (k : ℕ) (h : Option Held) (xs : List Awaited) → StepAsks c.next c.outstanding (timeout_under c call k h xs)
-timeout_under_asks c call k (Some h) (a ∷ xs) = finished_asks c.next c.outstanding _ (moved_quiet c.next c.outstanding (quiet c) call.op (timed_out h call.op call.phase k a xs) (quiet_quiet c))
+timeout_under_asks : (c : Client) (call : Call) (k : ℕ) (h : Option Held) (xs : List Awaited) →
+    StepAsks c.next c.outstanding (timeout_under c call k h xs)
+timeout_under_asks c call k (Some h) (a ∷ xs) =
+    finished_asks c.next c.outstanding _
+    (moved_quiet c.next c.outstanding (quiet c) call.op (timed_out h call.op call.phase k a xs) (quiet_quiet c))
 timeout_under_asks c call k None xs = still_asks c
 timeout_under_asks c call k (Some h) [] = still_asks c
 
@@ -207,11 +246,15 @@ timeout_call_asks c k None = still_asks c
 timeout_call_asks c k (Some call) = timeout_under_asks c call k _ _
 
 starts_asks : (c : Client) (op : CallOp) (b : Bool) →
-    StepAsks c.next c.outstanding (if b then record (still c) { outcome = Some (WriteOk 0) } else finished (quiet (record c { call = Some (record { op = op; phase = Starts }) })))
+    StepAsks c.next c.outstanding
+    (if b then record (still c) { outcome = Some (WriteOk 0) } else finished
+    (quiet (record c { call = Some (record { op = op; phase = Starts }) })))
 starts_asks c op true = still_asks c
-starts_asks c op false = finished_asks c.next c.outstanding _ (quiet_quiet (record c { call = Some (record { op = op; phase = Starts }) }))
+starts_asks c op false =
+    finished_asks c.next c.outstanding _ (quiet_quiet (record c { call = Some (record { op = op; phase = Starts }) }))
 
-refuses : (c : Client) (a b d : Bool) (x y z : CallErr) (s : Step) → StepAsks c.next c.outstanding s → StepAsks c.next c.outstanding (unless_refused c (if a then Err x else if b then Err y else if d then Err z else Ok s))
+refuses : (c : Client) (a b d : Bool) (x y z : CallErr) (s : Step) → StepAsks c.next c.outstanding s →
+    StepAsks c.next c.outstanding (unless_refused c (if a then Err x else if b then Err y else if d then Err z else Ok s))
 refuses c true b d x y z s w = still_asks c
 refuses c false true d x y z s w = still_asks c
 refuses c false false true x y z s w = still_asks c
@@ -219,7 +262,9 @@ refuses c false false false x y z s w = w
 
 calls_asks : (c : Client) (op : CallOp) → StepAsks c.next c.outstanding (unless_refused c (calls c op))
 unfolding calls
-calls_asks c op = refuses c (is_some c.call) (is_bad_range (span_of op)) (is_spent c.next) Busy BadRange SlotSpent (starts c op) (starts_asks c op (writes_nothing op))
+calls_asks c op =
+    refuses c (is_some c.call) (is_bad_range (span_of op)) (is_spent c.next) Busy BadRange SlotSpent (starts c op)
+    (starts_asks c op (writes_nothing op))
 
 pub one_request : OneRequest
 unfolding hears times_out leaves

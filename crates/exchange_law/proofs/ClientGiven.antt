@@ -1,33 +1,37 @@
 -- The grant that is taken from an answer has the number that the answer gives, and nothing was sent under it.
-use Rattle.std.proofs.Common.{◌≡◌, ℕ, Bool, true, false, List, [], ◌∷◌, refl}
-use Rattle.std.specs.Prelude.{Option, Some, None, Result, Ok, Err, ◌||◌, ◌&&◌, if◌then◌else◌}
+use Rattle.std.proofs.Common.{◌≡◌, ℕ, List, [], ◌∷◌, refl}
+use Rattle.std.specs.Prelude.{Option, Some, None, Result, Ok, Err}
 use Rattle.layout_types.specs.declared.err.LayoutErr.{LayoutErr}
 use Rattle.layout_types.specs.declared.layout.Layout.{Layout}
 use Rattle.layout_types.specs.Grammar.{whole}
 use Rattle.layout_types.specs.Reading.{layout_in}
 use Rattle.layout_ops.specs.declared.results.LayoutSegment.{LayoutSegment}
 use Rattle.layout_ops.specs.declared.results.LayoutGetOk.{LayoutGetOk}
-use Rattle.exchange_law.specs.ClientState.{CallOp, Held, Listed, Reach, Why, BadCredential, Answer}
-use Rattle.client_rules.specs.Calls.{is_write, file_of}
+use Rattle.exchange_law.specs.ClientState.{CallOp, Held, Listed, Reach, Why, Answer}
+use Rattle.client_rules.specs.Calls.{file_of}
 use Rattle.client_rules.specs.Requests.{grant_in}
 use Rattle.client_rules.specs.Results.{layouts_in}
-use Rattle.client_rules.specs.Layouts.{first_why, fresh, is_lacking, enough, with_listed, unless_why, with_body, reach_of, one_layout, in_layouts, taken}
-use Rattle.client_rules.proofs.TakenMaps.{same_grant, enough_same}
+use Rattle.client_rules.specs.Layouts.{first_why, fresh, with_listed, unless_why, with_body, reach_of, one_layout, in_layouts, taken}
+use Rattle.client_rules.proofs.TakenMaps.{enough_same}
 
 -- a grant of this number under which nothing was sent
 pub record IsFresh (n : ℕ) (h : Held) : Type 0 where
   pub number : h.number ≡ n
   pub count : h.count ≡ 0
 
-listed_fresh : (a : Answer) (n : ℕ) (op : CallOp) (g : Reach) (l : Layout) (o : Option (List Listed)) (h : Held) → with_listed a n op g l o ≡ Ok h → IsFresh n h
+listed_fresh : (a : Answer) (n : ℕ) (op : CallOp) (g : Reach) (l : Layout) (o : Option (List Listed)) (h : Held) →
+    with_listed a n op g l o ≡ Ok h → IsFresh n h
 listed_fresh a n op g l None h e = absurd (cc e)
-listed_fresh a n op g l (Some ls) h e = rw (enough_same (fresh (file_of op) n a.size g l.olo_map ls) h op e) (record { number = refl; count = refl })
+listed_fresh a n op g l (Some ls) h e =
+    rw (enough_same (fresh (file_of op) n a.size g l.olo_map ls) h op e) (record { number = refl; count = refl })
 
-why_fresh : (a : Answer) (n : ℕ) (op : CallOp) (g : Reach) (l : Layout) (w : Option Why) (h : Held) → unless_why a n op g l w ≡ Ok h → IsFresh n h
+why_fresh : (a : Answer) (n : ℕ) (op : CallOp) (g : Reach) (l : Layout) (w : Option Why) (h : Held) →
+    unless_why a n op g l w ≡ Ok h → IsFresh n h
 why_fresh a n op g l (Some w) h e = absurd (cc e)
 why_fresh a n op g l None h e = listed_fresh a n op g l _ h e
 
-body_fresh : (a : Answer) (n : ℕ) (op : CallOp) (g : Reach) (r : Result Layout LayoutErr) (h : Held) → with_body a n op g r ≡ Ok h → IsFresh n h
+body_fresh : (a : Answer) (n : ℕ) (op : CallOp) (g : Reach) (r : Result Layout LayoutErr) (h : Held) →
+    with_body a n op g r ≡ Ok h → IsFresh n h
 body_fresh a n op g (Err x) h e = absurd (cc e)
 body_fresh a n op g (Ok l) h e = why_fresh a n op g l (first_why g a.size op l) h e
 

@@ -35,9 +35,11 @@ put_other (g ∷ gs) k f n = elim (cases_eq g.file k.file) [
 ]
 
 -- the new grant, or one that was held
-pub put_read : (hs : List Held) (k : Held) (f : ℕ) (j : Held) → held_of (put_held hs k) f ≡ Some j → ((k.file ≡ f) × (k ≡ j)) ⊎ ((k.file ≢ f) × (held_of hs f ≡ Some j))
+pub put_read : (hs : List Held) (k : Held) (f : ℕ) (j : Held) → held_of (put_held hs k) f ≡ Some j →
+    ((k.file ≡ f) × (k ≡ j)) ⊎ ((k.file ≢ f) × (held_of hs f ≡ Some j))
 put_read hs k f j e = elim (cases_eq k.file f) [
-  | inl s ↦ let there : held_of (put_held hs k) f ≡ Some k = ap (λ (g : ℕ). held_of (put_held hs k) g) (sym s) ∙ put_found hs k in inl (s, cc (sym there ∙ e))
+  | inl s ↦ let there : held_of (put_held hs k) f ≡ Some k = ap (λ (g : ℕ). held_of (put_held hs k) g) (sym s) ∙ put_found hs k in
+      inl (s, cc (sym there ∙ e))
   | inr t ↦ inr (t, sym (put_other hs k f t) ∙ e)
 ]
 
@@ -54,12 +56,14 @@ unfolding held_of without_held
 without_read [] f h j e = e
 without_read (g ∷ gs) f h j e = elim (cases_eq g.file f) [
   | inl s ↦ let later : held_of (without_held gs f) h ≡ Some j = rw (eq-eqb g.file f s) at e in elim (cases_eq g.file h) [
-    | inl u ↦ let here : held_of (without_held gs f) f ≡ Some j = ap (λ (i : ℕ). held_of (without_held gs f) i) (sym s ∙ u) ∙ later in absurd (cc (sym (none_left gs f) ∙ here))
+    | inl u ↦ let here : held_of (without_held gs f) f ≡ Some j =
+        ap (λ (i : ℕ). held_of (without_held gs f) i) (sym s ∙ u) ∙ later in absurd (cc (sym (none_left gs f) ∙ here))
     | inr v ↦ rw (ne_eqb g.file h v) (without_read gs f h j later)
   ]
   | inr t ↦ elim (cases_eq g.file h) [
     | inl u ↦ let it : Some g ≡ Some j = rw (ne_eqb g.file f t, eq-eqb g.file h u) at e in rw (eq-eqb g.file h u) it
-    | inr v ↦ let later : held_of (without_held gs f) h ≡ Some j = rw (ne_eqb g.file f t, ne_eqb g.file h v) at e in rw (ne_eqb g.file h v) (without_read gs f h j later)
+    | inr v ↦ let later : held_of (without_held gs f) h ≡ Some j = rw (ne_eqb g.file f t, ne_eqb g.file h v) at e in
+        rw (ne_eqb g.file h v) (without_read gs f h j later)
   ]
 ]
 
@@ -78,11 +82,13 @@ pub record IsKeeping (hs : List Held) (before xs : List ℕ) : Type 0 where
   pub under : (f : ℕ) (h : Held) → held_of hs f ≡ Some h → IsUnder before xs h
   pub apart : (f g : ℕ) (h k : Held) → held_of hs f ≡ Some h → held_of hs g ≡ Some k → h.number ≡ k.number → f ≡ g
 
-under_put : (hs : List Held) (before xs : List ℕ) (k : Held) → IsUnder before xs k → ((f : ℕ) (j : Held) → k.file ≢ f → held_of hs f ≡ Some j → IsUnder before xs j) →
+under_put : (hs : List Held) (before xs : List ℕ) (k : Held) → IsUnder before xs k →
+    ((f : ℕ) (j : Held) → k.file ≢ f → held_of hs f ≡ Some j → IsUnder before xs j) →
     (f : ℕ) (j : Held) → held_of (put_held hs k) f ≡ Some j → IsUnder before xs j
 under_put hs before xs k new old f j e = elim (put_read hs k f j e) [ inl a ↦ rw a.1 at new | inr b ↦ old f j b.0 b.1 ]
 
-apart_put : (hs : List Held) (before xs : List ℕ) (k : Held) → IsKeeping hs before xs → ((f : ℕ) (j : Held) → k.file ≢ f → held_of hs f ≡ Some j → k.number ≢ j.number) →
+apart_put : (hs : List Held) (before xs : List ℕ) (k : Held) → IsKeeping hs before xs →
+    ((f : ℕ) (j : Held) → k.file ≢ f → held_of hs f ≡ Some j → k.number ≢ j.number) →
     (f g : ℕ) (h j : Held) → held_of (put_held hs k) f ≡ Some h → held_of (put_held hs k) g ≡ Some j → h.number ≡ j.number → f ≡ g
 apart_put hs before xs k keeping new f g h j e d s = elim (put_read hs k f h e) [
   | inl a ↦ elim (put_read hs k g j d) [
@@ -97,7 +103,8 @@ apart_put hs before xs k keeping new f g h j e d s = elim (put_read hs k f h e) 
 
 -- ---- a grant goes
 
-pub without_keeping : (hs : List Held) (f : ℕ) (before xs : List ℕ) → IsKeeping hs before xs → IsKeeping (without_held hs f) before xs
+pub without_keeping : (hs : List Held) (f : ℕ) (before xs : List ℕ) → IsKeeping hs before xs →
+    IsKeeping (without_held hs f) before xs
 without_keeping hs f before xs k = record {
   rises = k.rises;
   known = k.known;
@@ -105,7 +112,8 @@ without_keeping hs f before xs k = record {
   apart = λ g i h j e d s. k.apart g i h j (without_read hs f g h e) (without_read hs f i j d) s;
 }
 
-pub after_keeping : (hs : List Held) (f : ℕ) (a : Args) (before xs : List ℕ) → IsKeeping hs before xs → IsKeeping (held_after hs f a) before xs
+pub after_keeping : (hs : List Held) (f : ℕ) (a : Args) (before xs : List ℕ) → IsKeeping hs before xs →
+    IsKeeping (held_after hs f a) before xs
 after_keeping hs f (args.LayoutGet a) before xs k = k
 after_keeping hs f (args.LayoutCommit a) before xs k = k
 after_keeping hs f (args.LayoutReturn a) before xs k = without_keeping hs f before xs k
@@ -115,7 +123,8 @@ after_keeping hs f (args.LayoutReturn a) before xs k = without_keeping hs f befo
 more_under : (before more xs : List ℕ) (h : Held) → IsUnder before xs h → IsUnder (before ++ more) xs h
 more_under before more xs h u = record { among = among_more h.number before more u.among; below = u.below; counted = u.counted }
 
-more_known : (before more xs : List ℕ) → Each (λ x. IsAmong (grant_of x) before) xs → Each (λ x. IsAmong (grant_of x) (before ++ more)) xs
+more_known : (before more xs : List ℕ) → Each (λ x. IsAmong (grant_of x) before) xs →
+    Each (λ x. IsAmong (grant_of x) (before ++ more)) xs
 more_known before more xs k = each_map _ _ (λ x i. among_more (grant_of x) before more i) xs k
 
 pub more_keeping : (hs : List Held) (before more xs : List ℕ) → IsKeeping hs before xs → IsKeeping hs (before ++ more) xs
@@ -126,7 +135,8 @@ more_keeping hs before more xs k = record {
   apart = k.apart;
 }
 
-pub given_keeping : (hs : List Held) (before xs : List ℕ) (n : ℕ) (k : Held) → ((x : ℕ) → IsAmong x before → x ≢ n) → IsFresh n k → IsKeeping hs before xs →
+pub given_keeping : (hs : List Held) (before xs : List ℕ) (n : ℕ) (k : Held) → ((x : ℕ) → IsAmong x before → x ≢ n) →
+    IsFresh n k → IsKeeping hs before xs →
     IsKeeping (put_held hs k) (before ++ n ∷ []) xs
 given_keeping hs before xs n k new f keeping =
     let here : IsUnder (before ++ n ∷ []) xs k = record {
@@ -153,24 +163,30 @@ pub record IsCounted (h k : Held) (n : ℕ) : Type 0 where
   pub number : k.number ≡ h.number
   pub count : k.count ≡ h.count + n
 
-sent_under : (before xs : List ℕ) (h k : Held) (n : ℕ) → IsCounted h k n → IsUnder before xs h → IsUnder before (xs ++ range_with_len (nonce_at h h.count + 1) n) k
+sent_under : (before xs : List ℕ) (h k : Held) (n : ℕ) → IsCounted h k n → IsUnder before xs h →
+    IsUnder before (xs ++ range_with_len (nonce_at h h.count + 1) n) k
 sent_under before xs h k n c u = record {
   among = rw c.number u.among;
   below =
       each_more _ xs (range_with_len (nonce_at h h.count + 1) n)
-      (each_map _ _ (λ x p. λ s. let old : x ≤ nonce_at h h.count = p (s ∙ c.number) in omega (arith, old, c.number, c.count)) xs u.below)
+      (each_map _ _ (λ x p. λ s. let old : x ≤ nonce_at h h.count = p (s ∙ c.number) in
+      omega (arith, old, c.number, c.count)) xs u.below)
       (each_range _ (nonce_at h h.count + 1) n (λ y l m. λ s. omega (arith, m, c.number, c.count)));
-  counted = rw (length-append xs (range_with_len (nonce_at h h.count + 1) n), length-range_with_len (nonce_at h h.count + 1) n) (omega (arith, u.counted, c.count));
+  counted =
+      rw (length-append xs (range_with_len (nonce_at h h.count + 1) n), length-range_with_len (nonce_at h h.count + 1) n)
+      (omega (arith, u.counted, c.count));
 }
 
-other_under : (before xs : List ℕ) (g a n : ℕ) (j : Held) → g ≢ j.number → Each (λ y. grant_of y ≡ g) (range_with_len a n) → IsUnder before xs j → IsUnder before (xs ++ range_with_len a n) j
+other_under : (before xs : List ℕ) (g a n : ℕ) (j : Held) → g ≢ j.number → Each (λ y. grant_of y ≡ g) (range_with_len a n) →
+    IsUnder before xs j → IsUnder before (xs ++ range_with_len a n) j
 other_under before xs g a n j t of u = record {
   among = u.among;
   below = each_more _ xs (range_with_len a n) u.below (each_map _ _ (λ y o. λ s. absurd (t (sym o ∙ s))) (range_with_len a n) of);
   counted = rw (length-append xs (range_with_len a n)) (omega (arith, u.counted));
 }
 
-pub sent_keeping : (hs : List Held) (before xs : List ℕ) (f : ℕ) (h k : Held) (n : ℕ) → held_of hs f ≡ Some h → k.file ≡ f → IsCounted h k n → length xs + n < NONCES → IsKeeping hs before xs →
+pub sent_keeping : (hs : List Held) (before xs : List ℕ) (f : ℕ) (h k : Held) (n : ℕ) → held_of hs f ≡ Some h → k.file ≡ f →
+    IsCounted h k n → length xs + n < NONCES → IsKeeping hs before xs →
     IsKeeping (put_held hs k) before (xs ++ range_with_len (nonce_at h h.count + 1) n)
 sent_keeping hs before xs f h k n e there c b keeping =
     let a : ℕ = nonce_at h h.count + 1 in
@@ -180,8 +196,14 @@ sent_keeping hs before xs f h k n e there c b keeping =
     let other : (g : ℕ) (j : Held) → k.file ≢ g → held_of hs g ≡ Some j → h.number ≢ j.number =
     λ g j t d. λ s. t (there ∙ keeping.apart f g h j e d s) in
     record {
-      rises = rises_more h.number (nonce_at h h.count + 1) n xs keeping.rises (each_map _ _ (λ x p. λ s. let old : x ≤ nonce_at h h.count = p s in omega (arith, old)) xs u.below) of;
-      known = each_more _ xs (range_with_len (nonce_at h h.count + 1) n) keeping.known (each_map _ _ (λ y o. rw o u.among) (range_with_len (nonce_at h h.count + 1) n) of);
-      under = under_put hs before _ k (sent_under before xs h k n c u) (λ g j t d. other_under before xs h.number (nonce_at h h.count + 1) n j (other g j t d) of (keeping.under g j d));
+      rises =
+          rises_more h.number (nonce_at h h.count + 1) n xs keeping.rises
+          (each_map _ _ (λ x p. λ s. let old : x ≤ nonce_at h h.count = p s in omega (arith, old)) xs u.below) of;
+      known =
+          each_more _ xs (range_with_len (nonce_at h h.count + 1) n) keeping.known
+          (each_map _ _ (λ y o. rw o u.among) (range_with_len (nonce_at h h.count + 1) n) of);
+      under =
+          under_put hs before _ k (sent_under before xs h k n c u)
+          (λ g j t d. other_under before xs h.number (nonce_at h h.count + 1) n j (other g j t d) of (keeping.under g j d));
       apart = apart_put hs before xs k keeping (λ g j t d. λ s. other g j t d (sym c.number ∙ s));
     }

@@ -1,7 +1,7 @@
 -- The nonce that a drive reads in a command's bytes, and that a refusing reply carries.
 use Rattle.std.proofs.Common.{◌≡◌, ◌⊎◌, ◌==◌, ℕ, ◌%◌, ◌^◌, false, true≢false, List, length, Option, Some, None, Result, Ok, Err, refl, sym, ap, ◌∙◌, inl, inr}
 use Rattle.std.specs.Prelude.{slice_range, nat_lt, nat_eq, not}
-use Rattle.std.specs.Int.{w16, w32, w64, to_be_bytes, from_be_bytes}
+use Rattle.std.specs.Int.{w16, w32, w64, from_be_bytes}
 use Rattle.osd_capability.specs.declared.layout.Capability.{Capability}
 use Rattle.osd_capability.specs.declared.layout.CapErr.{CapErr}
 use Rattle.osd_capability.specs.Layout as cap
@@ -12,7 +12,7 @@ use Rattle.osd_commands.specs.declared.commands.CommandErr.{CommandErr}
 use Rattle.osd_commands.specs.declared.commands.CommandErr.TheVariants.{Short, Magic}
 use Rattle.osd_commands.specs.declared.replies.Reply.{Reply}
 use Rattle.osd_commands.specs.Actions.{action_of}
-use Rattle.osd_commands.specs.Commands.{magic, fields, head, spelling, stray, command_at, with_capability, unless_reserved, with_action, reading}
+use Rattle.osd_commands.specs.Commands.{magic, spelling, stray, command_at, with_capability, unless_reserved, with_action, reading}
 use Rattle.osd_commands.proofs.Passing.{if_ok}
 use Rattle.osd_objects.specs.declared.lanes.LaneEntry.{LaneEntry}
 use Rattle.osd_objects.specs.Store.{StoreState, object_at, lane_or_none}
@@ -25,13 +25,10 @@ use Rattle.client_rules.specs.declared.limits.TheConstants.{PERFORMED}
 use Rattle.world_history.specs.State.{DriveAt}
 use Rattle.world_history.specs.Drives.{judges}
 use Rattle.history_law.proofs.Carried.{unless_either}
+use Rattle.history_law.proofs.Spelled.{nonce_part}
 use Rattle.exchange_law.proofs.ReplyRead.{read_64}
 
 -- ---- what is read
-
-nonce_there : (c : Command) → slice_range (spelling c) 40 48 ≡ to_be_bytes w64 c.nonce
-unfolding spelling head fields
-nonce_there c = refl
 
 by_capability : (bytes : List ℕ) (a : Action) (r : Result Capability CapErr) (c : Command)
     → with_capability bytes a r ≡ Ok c → from_be_bytes w64 (slice_range bytes 40 48) ≡ c.nonce
@@ -60,7 +57,7 @@ nonce_in bytes c is =
 
 pub nonce_read : (x c : Command) → reading (spelling x) ≡ Ok c → c.nonce ≡ x.nonce % 2 ^ 64
 nonce_read x c is =
-    sym (nonce_in (spelling x) c is) ∙ ap (from_be_bytes w64) (nonce_there x) ∙ read_64 x.nonce
+    sym (nonce_in (spelling x) c is) ∙ ap (from_be_bytes w64) (nonce_part x) ∙ read_64 x.nonce
 
 -- ---- what is replied
 

@@ -3,7 +3,6 @@ use Rattle.std.specs.List.{AllByRecursion}
 use Rattle.std.proofs.Common.{◌≡◌, ◌==◌, ℕ, ◌+◌, ◌≤◌, ◌++◌, Bool, true, false, List, [], ◌∷◌, Option, Some, None, length, nat_lt, refl, ap, subst, arith, inl, inr, if◌then◌else◌}
 use Rattle.std.proofs.lemmas.Bool.{cases_Bool}
 use Rattle.std.proofs.lemmas.Bool.Decides.{nat_tests}
-use Rattle.std.proofs.lemmas.List.{length-append}
 use Rattle.osd_lists.proofs.Slices.{length_more}
 use Rattle.layout_ops.specs.declared.args.Args.{Args}
 use Rattle.layout_ops.specs.declared.args.Args.TheVariants as args

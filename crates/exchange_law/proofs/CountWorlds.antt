@@ -47,21 +47,21 @@ abbrev pub GivenAny : Option Input → Type 0
 GivenAny None = Unit {0}
 GivenAny (Some i) = IsGiven i
 
-given_heard : (now : ℕ) (from : Node) (m : Option ServerMessage) → GivenAny (heard_of now from m)
+pub given_heard : (now : ℕ) (from : Node) (m : Option ServerMessage) → GivenAny (heard_of now from m)
 given_heard now from None = tt
 given_heard now from (Some m) = tt
 
-either_given : (b : Bool) (i j : Option Input) → GivenAny i → GivenAny j → GivenAny (if b then i else j)
+pub either_given : (b : Bool) (i j : Option Input) → GivenAny i → GivenAny j → GivenAny (if b then i else j)
 either_given true i j h k = h
 either_given false i j h k = k
 
-given_to : (w : World) (m : Message) (to : Node) → GivenAny (brought_to w m to)
+pub given_to : (w : World) (m : Message) (to : Node) → GivenAny (brought_to w m to)
 given_to w m node.Server =
     either_given w.down None (heard_of w.clock m.from (for_server m)) tt (given_heard w.clock m.from (for_server m))
 given_to w m (node.Drive d) = tt
 given_to w m (node.Client c) = tt
 
-given_brought : (w : World) (o : Option Posted) → GivenAny (brought w o)
+pub given_brought : (w : World) (o : Option Posted) → GivenAny (brought w o)
 given_brought w None = tt
 given_brought w (Some p) = given_to w p.message p.message.to
 

@@ -57,7 +57,7 @@ module _ (ds : List Drive) (f : Kept) (g : Grant) where
 
 -- ---- a position that is out
 
-found_from : (out : List ℕ) (k n i : ℕ) → i < n → among (k + i) out ≡ false → is_none (source_from out k n) ≡ false
+pub found_from : (out : List ℕ) (k n i : ℕ) → i < n → among (k + i) out ≡ false → is_none (source_from out k n) ≡ false
 unfolding source_from
 found_from out k zero i less there = absurd (omega (arith, less))
 found_from out k (suc n) zero less there =
@@ -79,18 +79,18 @@ not_out m out p i is there =
     (subst (λ (x : ℕ). among x out ≡ false) (sym whole) there)
 
 -- a present replica that was found
-record IsReplica (m : RawMap) (p : ℕ) (cs : List Component) (k : ℕ) : Type 0 where
-  place : ℕ
-  at : Component
-  found : slice_get cs place ≡ Some at
-  present : at.missing ≡ false
-  position : (k + place) / replicas m ≡ p
+pub record IsReplica (m : RawMap) (p : ℕ) (cs : List Component) (k : ℕ) : Type 0 where
+  pub place : ℕ
+  pub at : Component
+  pub found : slice_get cs place ≡ Some at
+  pub present : at.missing ≡ false
+  pub position : (k + place) / replicas m ≡ p
 
 not_true : (b : Bool) → not b ≡ true → b ≡ false
 not_true true e = absurd (cc e)
 not_true false e = refl
 
-is_replica : (m : RawMap) (p : ℕ) (cs : List Component) (k n : ℕ) → replica_from m p cs k ≡ Some n
+pub is_replica : (m : RawMap) (p : ℕ) (cs : List Component) (k n : ℕ) → replica_from m p cs k ≡ Some n
     → IsReplica m p cs k
 unfolding replica_from
 is_replica m p [] k n e = absurd (cc e)

@@ -1,5 +1,5 @@
 -- Whose lanes the objects of drives have where nothing is forged, in the words of the lines.
-use Rattle.std.proofs.Common.{◌≡◌, ◌⊎◌, ℕ, ◌<◌, List, [], Bool, true, false, ◌||◌, refl, sym, subst, inl, inr}
+use Rattle.std.proofs.Common.{◌≡◌, ◌⊎◌, ℕ, ◌<◌, List, [], false, sym, subst, inl, inr}
 use Rattle.std.proofs.lemmas.List.{append-nil}
 use Rattle.osd_lists.proofs.Tests.{first_false}
 use Rattle.osd_commands.specs.declared.commands.Command.{Command}

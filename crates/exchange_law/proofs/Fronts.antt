@@ -2,11 +2,9 @@
 use Rattle.std.proofs.Common.{◌≡◌, ℕ, zero, suc, ◌^◌, ◌<◌, ◌++◌, Bool, true, false, List, [], ◌∷◌, Result, Ok, Err, length, nat_lt, nat_eq, ap, subst, ◌∙◌, arith, if◌then◌else◌}
 use Rattle.std.specs.Int.{w16, w32, w64, to_be_bytes}
 use Rattle.osd_lists.proofs.Options.{guard_ok}
-use Rattle.xdr_codec.specs.declared.err.XdrErr.{XdrErr}
 use Rattle.xdr_codec.specs.Items.{u32_item}
 use Rattle.xdr_codec.specs.Reading.{Rest, ◌>>=◌, u32_in, end_of}
 use Rattle.xdr_codec.proofs.ItemLaws.{bind_ok, ok_is}
-use Rattle.layout_types.specs.declared.err.LayoutErr.{LayoutErr}
 use Rattle.layout_types.specs.Grammar.{lifted, u32_part}
 use Rattle.layout_types.specs.declared.err.LayoutErr.TheVariants.{BadEnum}
 use Rattle.layout_ops.specs.declared.err.OpErr.{OpErr}
@@ -26,6 +24,7 @@ use Rattle.osd_commands.specs.Replies as replies
 use Rattle.world_history.specs.declared.messages.Body.{Body}
 use Rattle.world_history.specs.declared.messages.Body.TheVariants.{Command as OfCommand, Reply as OfReply, Envelope as OfEnvelope}
 use Rattle.world_history.specs.Spelled.{spelled}
+use Rattle.history_law.proofs.Parts.{carried_ok, lifted_ok}
 
 -- ---- bytes at the front
 
@@ -34,14 +33,6 @@ abbrev pub BeginsWithBytes : ℕ → List ℕ → Type 0
 BeginsWithBytes zero xs = Unit {0}
 BeginsWithBytes (suc n) [] = Unit {0}
 BeginsWithBytes (suc n) (x ∷ xs) = (x < 256) × BeginsWithBytes n xs
-
-pub lifted_ok : {A : Type 0} (r : Result A XdrErr) (x : A) → lifted r ≡ Ok x → r ≡ Ok x
-lifted_ok (Ok y) x e = cc
-lifted_ok (Err d) x e = absurd (cc e)
-
-carried_ok : {A : Type 0} (r : Result A LayoutErr) (x : A) → carried r ≡ Ok x → r ≡ Ok x
-carried_ok (Ok y) x e = cc
-carried_ok (Err d) x e = absurd (cc e)
 
 -- a number that is read at the front is small
 abbrev IsSmall : ℕ → ℕ × Rest → Type 0

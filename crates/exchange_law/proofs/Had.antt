@@ -33,23 +33,29 @@ stretch_in (t ∷ ts) us p o (inr h) = elim (stretch_in ts us p o h) [ inl x ↦
 
 -- ---- commands
 
-commands_from : (h : Held) (count p o : ℕ) (xs : List Ask) → IsAsked xs p o → HasStretch (map awaited_stretch (numbered h false count (carrying_none xs))) p o
+commands_from : (h : Held) (count p o : ℕ) (xs : List Ask) → IsAsked xs p o →
+    HasStretch (map awaited_stretch (numbered h false count (carrying_none xs))) p o
 unfolding numbered
 commands_from h count p o [] a = absurd a
 commands_from h count p o (x ∷ xs) (inl a) = inl a
 commands_from h count p o (x ∷ xs) (inr a) = inr (commands_from h (count + 1) p o xs a)
 
 -- what is sent is had
-pub had_sent : (h : Held) (got : List Column) (awaited : List Awaited) (xs : List Ask) (p o : ℕ) → HasStretch (had got awaited) p o ⊎ IsAsked xs p o → HasStretch (had got (awaited ++ read_commands h xs)) p o
+pub had_sent : (h : Held) (got : List Column) (awaited : List Awaited) (xs : List Ask) (p o : ℕ) →
+    HasStretch (had got awaited) p o ⊎ IsAsked xs p o → HasStretch (had got (awaited ++ read_commands h xs)) p o
 unfolding had read_commands
 had_sent h got awaited xs p o (inl a) = elim (stretch_in (map got_stretch got) (map awaited_stretch awaited) p o a) [
-  | inl x ↦ stretch_left (map got_stretch got) (map awaited_stretch (awaited ++ numbered h false h.count (carrying_none xs))) p o x
+  | inl x ↦
+      stretch_left (map got_stretch got) (map awaited_stretch (awaited ++ numbered h false h.count (carrying_none xs))) p o x
   | inr y ↦ stretch_right (map got_stretch got) (map awaited_stretch (awaited ++ numbered h false h.count (carrying_none xs))) p o
-      (rw (map-append awaited_stretch awaited (numbered h false h.count (carrying_none xs))) (stretch_left (map awaited_stretch awaited) (map awaited_stretch (numbered h false h.count (carrying_none xs))) p o y))
+      (rw (map-append awaited_stretch awaited (numbered h false h.count (carrying_none xs)))
+      (stretch_left (map awaited_stretch awaited) (map awaited_stretch (numbered h false h.count (carrying_none xs))) p o y))
 ]
 had_sent h got awaited xs p o (inr a) =
     stretch_right (map got_stretch got) (map awaited_stretch (awaited ++ numbered h false h.count (carrying_none xs))) p o
-    (rw (map-append awaited_stretch awaited (numbered h false h.count (carrying_none xs))) (stretch_right (map awaited_stretch awaited) (map awaited_stretch (numbered h false h.count (carrying_none xs))) p o (commands_from h h.count p o xs a)))
+    (rw (map-append awaited_stretch awaited (numbered h false h.count (carrying_none xs)))
+    (stretch_right (map awaited_stretch awaited) (map awaited_stretch (numbered h false h.count (carrying_none xs))) p o
+    (commands_from h h.count p o xs a)))
 
 -- ---- what was got
 
@@ -71,7 +77,12 @@ had_got got p o h = got_from got p o h
 carried_length : (n : ℕ) (bytes : List ℕ) → n ≤ length (carried n bytes)
 carried_length n bytes =
     let none : ℕ = 0 in
-    omega (arith, length-append (take n bytes) (replicate (n - length bytes) 0), length-replicate (n - length bytes) none, length-take n bytes)
+    omega (
+      arith,
+      length-append (take n bytes) (replicate (n - length bytes) 0),
+      length-replicate (n - length bytes) none,
+      length-take n bytes,
+    )
 
 -- a command with this nonce is this one
 abbrev AreItself : Awaited → List Awaited → Type 0
@@ -105,38 +116,59 @@ stays a p o (x ∷ xs) s (inl h) = elim (cases_eq x.command.nonce a.command.nonc
 ]
 stays a p o (x ∷ xs) s (inr h) = elim (cases_eq x.command.nonce a.command.nonce) [
   | inl same ↦ rw (eq-eqb x.command.nonce a.command.nonce same) (stays a p o xs s.1 h)
-  | inr other ↦ rw (ne_eqb x.command.nonce a.command.nonce other) (elim (stays a p o xs s.1 h) [ inl y ↦ inl (inr y) | inr c ↦ inr c ])
+  | inr other ↦
+      rw (ne_eqb x.command.nonce a.command.nonce other) (elim (stays a p o xs s.1 h) [ inl y ↦ inl (inr y) | inr c ↦ inr c ])
 ]
 
 of_reply : (a : Awaited) (r : Reply) (p o : ℕ) → Covers a p o → HasStretch (got_stretch (got_of a r) ∷ []) p o
-of_reply a r p o c = let long : a.ask.length ≤ length (carried a.ask.length r.payload) = carried_length a.ask.length r.payload in inl (c.0, c.1, omega (arith, c.2, long))
+of_reply a r p o c = let long : a.ask.length ≤ length (carried a.ask.length r.payload) = carried_length a.ask.length r.payload in
+    inl (c.0, c.1, omega (arith, c.2, long))
 
 -- a reply takes the place of its command
-pub had_replied : (got : List Column) (awaited : List Awaited) (a : Awaited) (r : Reply) (p o : ℕ) → AllDiffer (map nonce_of awaited) → IsIn a awaited → HasStretch (had got awaited) p o →
+pub had_replied : (got : List Column) (awaited : List Awaited) (a : Awaited) (r : Reply) (p o : ℕ) →
+    AllDiffer (map nonce_of awaited) → IsIn a awaited → HasStretch (had got awaited) p o →
     HasStretch (had (got ++ got_of a r ∷ []) (others awaited a.command.nonce)) p o
 unfolding had others
 had_replied got awaited a r p o d i h =
-    rw (map-append got_stretch got (got_of a r ∷ [])) (elim (stretch_in (map got_stretch got) (map awaited_stretch awaited) p o h) [
-      | inl x ↦ stretch_left (map got_stretch got ++ got_stretch (got_of a r) ∷ []) (map awaited_stretch (filter (λ (x : Awaited). not (x.command.nonce == a.command.nonce)) awaited)) p o (stretch_left (map got_stretch got) (got_stretch (got_of a r) ∷ []) p o x)
+    rw (map-append got_stretch got (got_of a r ∷ []))
+    (elim (stretch_in (map got_stretch got) (map awaited_stretch awaited) p o h) [
+      | inl x ↦
+          stretch_left (map got_stretch got ++ got_stretch (got_of a r) ∷ [])
+          (map awaited_stretch (filter (λ (x : Awaited). not (x.command.nonce == a.command.nonce)) awaited)) p o
+          (stretch_left (map got_stretch got) (got_stretch (got_of a r) ∷ []) p o x)
       | inr y ↦ elim (stays a p o awaited (itself a awaited d i) y) [
-        | inl z ↦ stretch_right (map got_stretch got ++ got_stretch (got_of a r) ∷ []) (map awaited_stretch (filter (λ (x : Awaited). not (x.command.nonce == a.command.nonce)) awaited)) p o z
-        | inr c ↦ stretch_left (map got_stretch got ++ got_stretch (got_of a r) ∷ []) (map awaited_stretch (filter (λ (x : Awaited). not (x.command.nonce == a.command.nonce)) awaited)) p o (stretch_right (map got_stretch got) (got_stretch (got_of a r) ∷ []) p o (of_reply a r p o c))
+        | inl z ↦
+            stretch_right (map got_stretch got ++ got_stretch (got_of a r) ∷ [])
+            (map awaited_stretch (filter (λ (x : Awaited). not (x.command.nonce == a.command.nonce)) awaited)) p o z
+        | inr c ↦
+            stretch_left (map got_stretch got ++ got_stretch (got_of a r) ∷ [])
+            (map awaited_stretch (filter (λ (x : Awaited). not (x.command.nonce == a.command.nonce)) awaited)) p o
+            (stretch_right (map got_stretch got) (got_stretch (got_of a r) ∷ []) p o (of_reply a r p o c))
       ]
     ])
 
 -- ---- nonces of what is awaited
 
-none_filter : (n : ℕ) (q : Awaited → Bool) (xs : List Awaited) → NoneIs n (map nonce_of xs) → NoneIs n (map nonce_of (filter q xs))
+none_filter : (n : ℕ) (q : Awaited → Bool) (xs : List Awaited) → NoneIs n (map nonce_of xs) →
+    NoneIs n (map nonce_of (filter q xs))
 none_filter n q [] d = tt
-none_filter n q (x ∷ xs) d = elim (cases_Bool (q x)) [ inl t ↦ rw t (d.0, none_filter n q xs d.1) | inr f ↦ rw f (none_filter n q xs d.1) ]
+none_filter n q (x ∷ xs) d =
+    elim (cases_Bool (q x)) [ inl t ↦ rw t (d.0, none_filter n q xs d.1) | inr f ↦ rw f (none_filter n q xs d.1) ]
 
 differ_filter : (q : Awaited → Bool) (xs : List Awaited) → AllDiffer (map nonce_of xs) → AllDiffer (map nonce_of (filter q xs))
 differ_filter q [] d = tt
-differ_filter q (x ∷ xs) d = elim (cases_Bool (q x)) [ inl t ↦ rw t (none_filter x.command.nonce q xs d.0, differ_filter q xs d.1) | inr f ↦ rw f (differ_filter q xs d.1) ]
+differ_filter q (x ∷ xs) d =
+    elim (cases_Bool (q x)) [
+      | inl t ↦ rw t (none_filter x.command.nonce q xs d.0, differ_filter q xs d.1)
+      | inr f ↦
+          rw f (differ_filter q xs d.1)
+    ]
 
-each_filter : (P : ℕ → Type 0) (q : Awaited → Bool) (xs : List Awaited) → Each P (map nonce_of xs) → Each P (map nonce_of (filter q xs))
+each_filter : (P : ℕ → Type 0) (q : Awaited → Bool) (xs : List Awaited) → Each P (map nonce_of xs) →
+    Each P (map nonce_of (filter q xs))
 each_filter P q [] e = tt
-each_filter P q (x ∷ xs) e = elim (cases_Bool (q x)) [ inl t ↦ rw t (e.0, each_filter P q xs e.1) | inr f ↦ rw f (each_filter P q xs e.1) ]
+each_filter P q (x ∷ xs) e =
+    elim (cases_Bool (q x)) [ inl t ↦ rw t (e.0, each_filter P q xs e.1) | inr f ↦ rw f (each_filter P q xs e.1) ]
 
 -- nonces that differ, none above this
 pub record AreBelow (top : ℕ) (xs : List Awaited) : Type 0 where
@@ -163,7 +195,8 @@ pub differ_range : (a n : ℕ) (xs : List ℕ) → AllDiffer xs → Each (λ x. 
 differ_range a n [] d e = rising_differ (range_with_len a n) (range_rises a n)
 differ_range a n (x ∷ xs) d e = (none_more x xs (range_with_len a n) d.0 (none_range x a n e.0), differ_range a n xs d.1 e.1)
 
-numbered_from : (h : Held) (count a : ℕ) (ws : List Store) → a ≡ nonce_at h count + 1 → map nonce_of (numbered h false count ws) ≡ range_with_len a (length (numbered h false count ws))
+numbered_from : (h : Held) (count a : ℕ) (ws : List Store) → a ≡ nonce_at h count + 1 →
+    map nonce_of (numbered h false count ws) ≡ range_with_len a (length (numbered h false count ws))
 unfolding numbered command sealed
 numbered_from h count a [] e = refl
 numbered_from h count a (w ∷ ws) e =
@@ -171,15 +204,24 @@ numbered_from h count a (w ∷ ws) e =
     rw (numbered_from h (count + 1) (a + 1) ws (omega (arith, e)), head) refl
 
 -- more are sent
-pub sent_below : (h : Held) (xs : List Awaited) (due : List Ask) → AreBelow (nonce_at h h.count) xs → AreBelow (nonce_at h (h.count + length (read_commands h due))) (xs ++ read_commands h due)
+pub sent_below : (h : Held) (xs : List Awaited) (due : List Ask) → AreBelow (nonce_at h h.count) xs →
+    AreBelow (nonce_at h (h.count + length (read_commands h due))) (xs ++ read_commands h due)
 unfolding read_commands
 sent_below h xs due b =
-    let next : map nonce_of (numbered h false h.count (carrying_none due)) ≡ range_with_len (nonce_at h h.count + 1) (length (numbered h false h.count (carrying_none due))) = numbered_from h h.count _ (carrying_none due) refl in
-    let all : map nonce_of (xs ++ numbered h false h.count (carrying_none due)) ≡ map nonce_of xs ++ range_with_len (nonce_at h h.count + 1) (length (numbered h false h.count (carrying_none due))) =
+    let next : map nonce_of (numbered h false h.count (carrying_none due)) ≡ range_with_len (nonce_at h h.count + 1)
+    (length (numbered h false h.count (carrying_none due))) = numbered_from h h.count _ (carrying_none due) refl in
+    let all : map nonce_of (xs ++ numbered h false h.count (carrying_none due)) ≡ map nonce_of xs ++ range_with_len
+    (nonce_at h h.count + 1) (length (numbered h false h.count (carrying_none due))) =
     map-append nonce_of xs (numbered h false h.count (carrying_none due)) ∙ ap (λ (ys : List ℕ). map nonce_of xs ++ ys) next in
     record {
-      differ = rw all (differ_range (nonce_at h h.count + 1) (length (numbered h false h.count (carrying_none due))) (map nonce_of xs) b.differ (each_map _ _ (λ x l. omega (arith, l)) (map nonce_of xs) b.below));
-      below = rw all (each_more _ (map nonce_of xs) (range_with_len (nonce_at h h.count + 1) (length (numbered h false h.count (carrying_none due))))
+      differ =
+          rw all (differ_range (nonce_at h h.count + 1) (length (numbered h false h.count (carrying_none due))) (map nonce_of xs)
+          b.differ (each_map _ _ (λ x l. omega (arith, l)) (map nonce_of xs) b.below));
+      below =
+          rw all
+          (each_more _ (map nonce_of xs)
+          (range_with_len (nonce_at h h.count + 1) (length (numbered h false h.count (carrying_none due))))
           (each_map _ _ (λ x l. omega (arith, l)) (map nonce_of xs) b.below)
-          (each_range _ (nonce_at h h.count + 1) (length (numbered h false h.count (carrying_none due))) (λ y l u. omega (arith, u))));
+          (each_range _ (nonce_at h h.count + 1) (length (numbered h false h.count (carrying_none due)))
+          (λ y l u. omega (arith, u))));
     }

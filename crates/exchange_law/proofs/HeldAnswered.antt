@@ -50,7 +50,7 @@ refused_fair status detail tries (Later e) = rw e (either_fair (nat_lt (tries + 
 refused_fair status detail tries (Fencing e) = rw e (either_fair (nat_lt (tries + 1) MAX_TRIES) _ _ tt tt)
 refused_fair status detail tries (Unavailable e) = rw e (unavailable_fair detail)
 
-not_ok : (status : ℕ) → IsRefusal status → status ≡ NFS4_OK → ⊥
+pub not_ok : (status : ℕ) → IsRefusal status → status ≡ NFS4_OK → ⊥
 not_ok status (NoFile e) ok = absurd (omega (arith, e, ok))
 not_ok status (Later e) ok = absurd (omega (arith, e, ok))
 not_ok status (Fencing e) ok = absurd (omega (arith, e, ok))
@@ -62,7 +62,7 @@ unfolding not_granted
 refused_good P op tries a refusal =
     inr (not_ok (status_of a.results) refusal, refused_fair (status_of a.results) a.detail tries refusal)
 
-status_again : (status : ℕ) → get_status (get_refused status) ≡ status
+pub status_again : (status : ℕ) → get_status (get_refused status) ≡ status
 status_again status = elim (cases_eq status NFS4ERR_LAYOUTTRYLATER) [
   | inl e ↦ rw (eq-eqb status NFS4ERR_LAYOUTTRYLATER e) (sym e)
   | inr other ↦ rw (ne_eqb status NFS4ERR_LAYOUTTRYLATER other) refl

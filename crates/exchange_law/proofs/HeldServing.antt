@@ -42,7 +42,7 @@ fewer_first f k client v x m = record {
     before c g (inr new) = inr new
 
 -- one more grant
-found_more : (gs : List Grant) (n g : Grant) (c : ℕ) → grant_of (gs ++ (n ∷ [])) c ≡ Some g
+pub found_more : (gs : List Grant) (n g : Grant) (c : ℕ) → grant_of (gs ++ (n ∷ [])) c ≡ Some g
     → (grant_of gs c ≡ Some g) ⊎ ((n.client ≡ c) × (n ≡ g))
 found_more [] n g c e = elim (cases_eq n.client c) [
   | inl is ↦ inr (is, cc (rw (eq-eqb n.client c is) at e))

@@ -28,7 +28,8 @@ either : (h : Held) (b : Bool) (m n : Moved) → IsKept h m → IsKept h n → I
 either h true m n x y = x
 either h false m n x y = y
 
-either_turn : (sent : List Awaited) (b : Bool) (t u : Turn) → FairTurn t sent → FairTurn u sent → FairTurn (if b then t else u) sent
+either_turn : (sent : List Awaited) (b : Bool) (t u : Turn) → FairTurn t sent → FairTurn u sent →
+    FairTurn (if b then t else u) sent
 either_turn sent true t u x y = x
 either_turn sent false t u x y = y
 
@@ -44,29 +45,35 @@ turn_still t = tt
 still : (h k : Held) (t : Turn) → k.file ≡ h.file → IsKept h (turned k t)
 still h k t e = record { file = e; fair = turn_still t }
 
-reads_on_kept : (h : Held) (r : Span) (got : List Column) (timed : List TimedOut) (sent awaited : List Awaited) → IsKept h (reads_on h r got timed sent awaited)
+reads_on_kept : (h : Held) (r : Span) (got : List Column) (timed : List TimedOut) (sent awaited : List Awaited) →
+    IsKept h (reads_on h r got timed sent awaited)
 unfolding reads_on
 reads_on_kept h r got timed sent [] = record { file = refl; fair = tt }
 reads_on_kept h r got timed sent (a ∷ xs) = record { file = refl; fair = tt }
 
-reads_unless_kept : (h : Held) (r : Span) (got : List Column) (timed : List TimedOut) (awaited : List Awaited) (o : Option (List ℕ)) → IsKept h (reads_unless h r got timed awaited o)
+reads_unless_kept : (h : Held) (r : Span) (got : List Column) (timed : List TimedOut) (awaited : List Awaited)
+    (o : Option (List ℕ)) → IsKept h (reads_unless h r got timed awaited o)
 reads_unless_kept h r got timed awaited None = reads_on_kept h r got timed _ _
 reads_unless_kept h r got timed awaited (Some ps) = still h h _ refl
 
-reads_kept : (h : Held) (r : Span) (got : List Column) (timed : List TimedOut) (awaited : List Awaited) → IsKept h (reads h r got timed awaited)
+reads_kept : (h : Held) (r : Span) (got : List Column) (timed : List TimedOut) (awaited : List Awaited) →
+    IsKept h (reads h r got timed awaited)
 unfolding reads
 reads_kept h r got timed awaited = reads_unless_kept h r got timed awaited _
 
-probes_on_kept : (h : Held) (got : List Column) (timed : List TimedOut) (sent awaited : List Awaited) → IsKept h (probes_on h got timed sent awaited)
+probes_on_kept : (h : Held) (got : List Column) (timed : List TimedOut) (sent awaited : List Awaited) →
+    IsKept h (probes_on h got timed sent awaited)
 unfolding probes_on
 probes_on_kept h got timed sent [] = record { file = refl; fair = tt }
 probes_on_kept h got timed sent (a ∷ xs) = record { file = refl; fair = tt }
 
-probes_by_kept : (h : Held) (got : List Column) (timed : List TimedOut) (awaited : List Awaited) (o : Option ℕ) → IsKept h (probes_by h got timed awaited o)
+probes_by_kept : (h : Held) (got : List Column) (timed : List TimedOut) (awaited : List Awaited) (o : Option ℕ) →
+    IsKept h (probes_by h got timed awaited o)
 probes_by_kept h got timed awaited None = still h h _ refl
 probes_by_kept h got timed awaited (Some k) = either h _ _ _ (still h h _ refl) (probes_on_kept h got timed _ _)
 
-probes_kept : (h : Held) (got : List Column) (timed : List TimedOut) (awaited : List Awaited) → IsKept h (probes h got timed awaited)
+probes_kept : (h : Held) (got : List Column) (timed : List TimedOut) (awaited : List Awaited) →
+    IsKept h (probes h got timed awaited)
 unfolding probes
 probes_kept h got timed awaited = probes_by_kept h got timed awaited _
 
@@ -76,9 +83,11 @@ accounted_fair op (t ∷ ts) sent = tt
 
 written_fair : (h : Held) (op : CallOp) (timed : List TimedOut) (sent : List Awaited) → FairTurn (written h op timed) sent
 unfolding written
-written_fair h op timed sent = either_turn sent (is_past_size h op) (needing (Commit timed)) (accounted op timed) tt (accounted_fair op timed sent)
+written_fair h op timed sent =
+    either_turn sent (is_past_size h op) (needing (Commit timed)) (accounted op timed) tt (accounted_fair op timed sent)
 
-scatters_on_kept : (h : Held) (op : CallOp) (timed : List TimedOut) (queue : List Store) (sent awaited : List Awaited) → IsKept h (scatters_on h op timed queue sent awaited)
+scatters_on_kept : (h : Held) (op : CallOp) (timed : List TimedOut) (queue : List Store) (sent awaited : List Awaited) →
+    IsKept h (scatters_on h op timed queue sent awaited)
 unfolding scatters_on
 scatters_on_kept h op timed queue sent [] = record { file = refl; fair = written_fair h op timed sent }
 scatters_on_kept h op timed queue sent (a ∷ xs) = record { file = refl; fair = tt }
@@ -87,16 +96,19 @@ scatters_kept : (h : Held) (op : CallOp) (got : List Column) (timed : List Timed
 unfolding scatters
 scatters_kept h op got timed = scatters_on_kept h op timed _ _ _
 
-scatters_next_kept : (h : Held) (op : CallOp) (timed : List TimedOut) (queue : List Store) (k : ℕ) (awaited : List Awaited) → IsKept h (scatters_next h op timed queue k awaited)
+scatters_next_kept : (h : Held) (op : CallOp) (timed : List TimedOut) (queue : List Store) (k : ℕ) (awaited : List Awaited) →
+    IsKept h (scatters_next h op timed queue k awaited)
 unfolding scatters_next
 scatters_next_kept h op timed queue k awaited = scatters_on_kept h op timed _ _ _
 
-gathers_on_kept : (h : Held) (op : CallOp) (got : List Column) (timed : List TimedOut) (sent awaited : List Awaited) → IsKept h (gathers_on h op got timed sent awaited)
+gathers_on_kept : (h : Held) (op : CallOp) (got : List Column) (timed : List TimedOut) (sent awaited : List Awaited) →
+    IsKept h (gathers_on h op got timed sent awaited)
 unfolding gathers_on
 gathers_on_kept h op got timed sent [] = scatters_kept h op got timed
 gathers_on_kept h op got timed sent (a ∷ xs) = record { file = refl; fair = tt }
 
-gathers_kept : (h : Held) (op : CallOp) (got : List Column) (timed : List TimedOut) (awaited : List Awaited) → IsKept h (gathers h op got timed awaited)
+gathers_kept : (h : Held) (op : CallOp) (got : List Column) (timed : List TimedOut) (awaited : List Awaited) →
+    IsKept h (gathers h op got timed awaited)
 unfolding gathers
 gathers_kept h op got timed awaited = gathers_on_kept h op got timed _ _
 
@@ -121,11 +133,13 @@ gather_timed_kept : (h : Held) (op : CallOp) (io : Io) (k : ℕ) (timed : List T
 unfolding gather_timed
 gather_timed_kept h op io k timed = either h _ _ _ (still h h _ refl) (gathers_kept h op io.got timed _)
 
-scatter_timed_kept : (h : Held) (op : CallOp) (io : Io) (queue : List Store) (k : ℕ) (timed : List TimedOut) → IsKept h (scatter_timed h op io queue k timed)
+scatter_timed_kept : (h : Held) (op : CallOp) (io : Io) (queue : List Store) (k : ℕ) (timed : List TimedOut) →
+    IsKept h (scatter_timed h op io queue k timed)
 unfolding scatter_timed
 scatter_timed_kept h op io queue k timed = either h _ _ _ (still h h _ refl) (scatters_on_kept h op timed _ [] _)
 
-pub timed_out_kept : (h : Held) (op : CallOp) (p : Phase) (k : ℕ) (a : Awaited) (xs : List Awaited) → IsKept h (timed_out h op p k a xs)
+pub timed_out_kept : (h : Held) (op : CallOp) (p : Phase) (k : ℕ) (a : Awaited) (xs : List Awaited) →
+    IsKept h (timed_out h op p k a xs)
 timed_out_kept h op (Reads io) k a xs = reads_kept h _ io.got _ _
 timed_out_kept h op (Probes io) k a xs = probes_kept h io.got _ _
 timed_out_kept h op (Gathers io) k a xs = gather_timed_kept h op io k _
@@ -141,4 +155,5 @@ begins_kept h op = either h _ _ _ (gathers_kept h op [] [] []) (either h _ _ _ (
 pub on_commit_kept : (h : Held) (op : CallOp) (a : Answer) (timed : List TimedOut) → IsKept h (on_commit h op a timed)
 unfolding on_commit
 on_commit_kept h op a timed =
-    either h (status_of a.results == NFS4_OK) (committed h op a timed) (turned h (not_committed (status_of a.results) a.detail)) (still h (record h { size = a.size }) (accounted op timed) refl) (still h h _ refl)
+    either h (status_of a.results == NFS4_OK) (committed h op a timed) (turned h (not_committed (status_of a.results) a.detail))
+    (still h (record h { size = a.size }) (accounted op timed) refl) (still h h _ refl)

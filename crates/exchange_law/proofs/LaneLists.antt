@@ -1,9 +1,8 @@
 -- The lanes of an object, as a list: no two have one holder, and few holders have few lanes.
-use Rattle.std.proofs.Common.{◌≡◌, ◌⊎◌, ◌==◌, ℕ, zero, suc, ◌+◌, ◌≤◌, ◌<◌, nat_eq, ◌++◌, ◌∷◌, [], List, true, Option, Some, None, length, slice_set, refl, sym, ap, subst, ◌∙◌, arith, inl, inr, eq-eqb, ne_eqb, lt-ltb, if◌then◌else◌}
+use Rattle.std.proofs.Common.{◌≡◌, ◌⊎◌, ◌==◌, ℕ, zero, suc, ◌+◌, ◌≤◌, ◌<◌, nat_eq, ◌++◌, ◌∷◌, [], List, Option, Some, None, length, slice_set, refl, sym, ap, subst, ◌∙◌, arith, inl, inr, eq-eqb, ne_eqb, lt-ltb, if◌then◌else◌}
 use Rattle.std.specs.Prelude.{get_or}
 use Rattle.std.specs.List.{position_or_len}
 use Rattle.std.proofs.lemmas.Bool.{cases_eq, cases_lt}
-use Rattle.std.proofs.lemmas.Bool.Decides.{nat_tests}
 use Rattle.std.proofs.lemmas.List.Quantifiers.{position-Some}
 use Rattle.osd_lists.proofs.Tests.{nat_same}
 use Rattle.osd_objects.specs.declared.lanes.LaneEntry.{LaneEntry}

@@ -127,7 +127,8 @@ no_write h w nonce e = cc e
 numbered_reads : (h : Held) (count : ℕ) (ws : List Store) → NoneWrites (numbered h false count ws)
 unfolding numbered
 numbered_reads h count [] x i e = i
-numbered_reads h count (w ∷ ws) x (inl same) e = no_write h w _ (ap (λ (y : Awaited). is_mutating y.command.action) (sym same) ∙ e)
+numbered_reads h count (w ∷ ws) x (inl same) e =
+    no_write h w _ (ap (λ (y : Awaited). is_mutating y.command.action) (sym same) ∙ e)
 numbered_reads h count (w ∷ ws) x (inr i) e = numbered_reads h (count + 1) ws x i e
 
 read_of : (h : Held) (xs : List Ask) → AreOf h (read_commands h xs)

@@ -174,7 +174,7 @@ pub record IsLate (o : Option StoredObject) (holder nonce : ℕ) : Type 0 where
   pub holder_is : lane.holder ≡ holder
   pub later : nonce < lane.nonce
 
-in_lanes : (ls : List LaneEntry) (n : ℕ) (l : LaneEntry) → slice_get ls n ≡ Some l → In l ls
+pub in_lanes : (ls : List LaneEntry) (n : ℕ) (l : LaneEntry) → slice_get ls n ≡ Some l → In l ls
 in_lanes [] n l e = absurd (cc e)
 in_lanes (x ∷ ls) zero l e = inl (sym (same e))
   where
@@ -182,7 +182,7 @@ in_lanes (x ∷ ls) zero l e = inl (sym (same e))
     same f = cc f
 in_lanes (x ∷ ls) (suc n) l e = inr (in_lanes ls n l e)
 
-lane_found : (ls : List LaneEntry) (q : ℕ) (o : Option ℕ) (l : LaneEntry) → place_of ls q ≡ o
+pub lane_found : (ls : List LaneEntry) (q : ℕ) (o : Option ℕ) (l : LaneEntry) → place_of ls q ≡ o
     → lane_at ls o ≡ Some l → In l ls × (l.holder ≡ q)
 lane_found ls q None l e f = absurd (cc f)
 lane_found ls q (Some i) l e f =

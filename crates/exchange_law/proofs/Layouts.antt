@@ -3,14 +3,11 @@ use Rattle.std.specs.List.{AllByRecursion}
 use Rattle.std.proofs.Common.{◌≡◌, ℕ, zero, suc, ◌+◌, ◌-◌, ◌*◌, ◌^◌, ◌≤◌, ◌<◌, ◌++◌, Bool, true, false, List, [], ◌∷◌, Some, length, nat_eq, slice_get, flat_map, replicate, refl, ap, subst, ◌∙◌, arith, if◌then◌else◌}
 use Rattle.std.proofs.lemmas.List.{length-append, length-replicate}
 use Rattle.std.proofs.lemmas.List.Concat.{flat_map-cons}
-use Rattle.hmac_tags.specs.Mac.{hmac, hmac_sha1, hmac_sha256}
+use Rattle.hmac_tags.specs.Mac.{hmac_sha1, hmac_sha256}
 use Rattle.hmac_tags.proofs.Lengths.{long_sha1, long_sha256}
-use Rattle.sha1.specs.Sha1.{sha1, digest_bytes as sha1_bytes}
-use Rattle.sha2.specs.Sha256.{sha256, digest_bytes as sha256_bytes}
 use Rattle.xdr_codec.specs.Items.{padded, u32_item, u64_item, fixed_item, opaque_item}
-use Rattle.xdr_codec.proofs.ItemLaws.{length-u32, length-u64}
+use Rattle.xdr_codec.proofs.ItemLaws.{length-u32}
 use Rattle.data_map.specs.declared.check.RawMap.{RawMap}
-use Rattle.layout_types.specs.declared.objid.ObjId.{ObjId}
 use Rattle.layout_types.specs.declared.cred.ObjectCred.{ObjectCred}
 use Rattle.layout_types.specs.Enumerations.{version_number, security_number}
 use Rattle.layout_types.specs.Grammar.{list_item}
@@ -23,6 +20,7 @@ use Rattle.world_history.specs.ServerNames.{Kept, Component, Drive, Grant}
 use Rattle.server_rules.specs.Commands.{key_at}
 use Rattle.server_rules.specs.Layouts.{capability_for, key_bytes, no_credential, credential, credentials_from, layout_for, body_of}
 use Rattle.history_law.specs.Granted.{NumbersFit}
+use Rattle.history_law.proofs.Fronts.{length_opaque}
 use Rattle.exchange_law.specs.Files.{ComponentFits, GrantFits, KeptFits}
 use Rattle.exchange_law.proofs.Parts.{PartsFit}
 use Rattle.exchange_law.proofs.Ranges.{map_fits, capability_fits}
@@ -116,12 +114,6 @@ numbers_fit ds n f g l kept grant = record {
 }
 
 -- ---- its bytes
-
-length_opaque : (b : List ℕ) → length (opaque_item b) ≡ 4 + padded (length b)
-unfolding opaque_item u32_item fixed_item
-length_opaque b =
-    let fill = length-replicate {A = ℕ} (padded (length b) - length b) 0 in
-    omega (arith, length-append b (replicate (padded (length b) - length b) 0), fill)
 
 length_fixed : (b : List ℕ) → length (fixed_item b) ≡ padded (length b)
 unfolding fixed_item

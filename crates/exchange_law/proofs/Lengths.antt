@@ -3,7 +3,7 @@ use Rattle.std.proofs.Common.{◌≡◌, ◌||◌, ℕ, zero, suc, ◌+◌, Bool
 use Rattle.std.specs.Prelude.{slice_set}
 use Rattle.std.proofs.lemmas.Bool.{cases_Bool}
 use Rattle.world_history.specs.ServerNames.{Kept, RawMap, Piece, Heard, Component, Awaited, Target, Job, JobKind, Work, Tally, Making, Revoking, Rebuilding, Auditing, Creates, Fences, Fetches, Stores, Targets, Gathers, Fills, Lengths, Checks, NoDrive}
-use Rattle.server_rules.specs.Standing.{any_on, lose_on, lose_from}
+use Rattle.server_rules.specs.Standing.{any_on}
 use Rattle.server_rules.specs.Columns.{end_of}
 use Rattle.server_rules.specs.Going.{Going, over, noting_if, rests_or}
 use Rattle.server_rules.specs.Audit.{audits, audit_begins}

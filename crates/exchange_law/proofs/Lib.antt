@@ -72,7 +72,7 @@ pub mod Exact
 mod Fences
 pub mod HeldTelling
 pub mod Covered
-mod Listing
+pub mod Listing
 mod HeldRows
 pub mod Missing
 pub mod Enough
@@ -135,3 +135,8 @@ pub mod FairLanes
 pub mod LaneRows
 pub mod Knowing
 pub mod TakenLaw
+pub mod PendingCalls
+pub mod PendingEntries
+pub mod PendingLines
+pub mod PendingMoves
+pub mod PendingTurns

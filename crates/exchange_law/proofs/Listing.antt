@@ -25,20 +25,20 @@ use Rattle.exchange_law.specs.Held.{credential_of, listed_at, listed_from}
 pub device_read : (xs : List ℕ) → from_be_bytes w128 (replicate 8 0 ++ xs) ≡ from_be_bytes w64 xs
 device_read xs = omega arith
 
-drive_again : (d : ℕ) → d ≤ MAX_DRIVE → drive_of (device_of d) ≡ d
+pub drive_again : (d : ℕ) → d ≤ MAX_DRIVE → drive_of (device_of d) ≡ d
 drive_again d few =
     let low : d < 2 ^ 64 = omega (arith, few) in device_read (to_be_bytes w64 d) ∙ from_be_bytes-to_be_bytes_8 d low
 
 -- ---- the key
 
 -- a key of the capability's format
-abbrev key_in : (format : ℕ) → (one two : List ℕ) → CapKey
+abbrev pub key_in : (format : ℕ) → (one two : List ℕ) → CapKey
 key_in format one two = if nat_eq format FORMAT_SHA256 then Two two else One one
 
-a_format : (n : ℕ) → IsTrue (cap.is_format n) → (n ≡ 1 → ⊥) → n ≡ 2
+pub a_format : (n : ℕ) → IsTrue (cap.is_format n) → (n ≡ 1 → ⊥) → n ≡ 2
 a_format n is not = elim (cases_eq n 2) [ inl e ↦ e | inr e ↦ absurd (cc (rw (ne_eqb n 1 not, ne_eqb n 2 e) at is)) ]
 
-key_again : (format : ℕ) (one two : List ℕ) → IsTrue (cap.is_format format) → length one ≡ 20 → length two ≡ 32
+pub key_again : (format : ℕ) (one two : List ℕ) → IsTrue (cap.is_format format) → length one ≡ 20 → length two ≡ 32
     → key_of format (key_bytes (key_in format one two)) ≡ Some (key_in format one two)
 key_again format one two is first second = elim (cases_eq format 1) [
   | inl e ↦ rw (e, first) refl

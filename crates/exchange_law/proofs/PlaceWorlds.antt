@@ -1,14 +1,11 @@
 -- What clients send to drives is placed, and what they take of the server is its own.
-use Rattle.std.proofs.Common.{◌≡◌, ℕ, ◌∷◌, [], List, Bool, true, false, Some, Result, Ok, Err, IsSome, map, filter, slice_get, refl, sym, ap, subst, ◌∙◌, inl, inr, if◌then◌else◌}
+use Rattle.std.proofs.Common.{◌≡◌, ℕ, ◌∷◌, [], List, Bool, true, false, Some, IsSome, map, filter, slice_get, refl, sym, ap, subst, ◌∙◌, inl, inr, if◌then◌else◌}
 use Rattle.std.proofs.lemmas.Bool.{cases_eq}
 use Rattle.osd_lists.specs.declared.node.Node.{Node}
 use Rattle.osd_lists.specs.declared.node.Node.TheVariants as node
-use Rattle.layout_ops.specs.declared.err.OpErr.{OpErr}
-use Rattle.layout_ops.specs.declared.envelope.Envelope.{Envelope}
-use Rattle.layout_ops.specs.declared.envelope.Envelope.TheVariants as envelope
 use Rattle.layout_ops.specs.Reading.{envelope_of}
 use Rattle.osd_objects.proofs.Entries.{lookup_inserted, lookup_beside, lookup_set, lookup_set_beside}
-use Rattle.client_rules.specs.Envelopes.{by_envelope, message_in}
+use Rattle.client_rules.specs.Envelopes.{message_in}
 use Rattle.client_rules.specs.Messages.{Message as ClientMessage, Answers}
 use Rattle.world_history.specs.ServerNames as server_rules
 use Rattle.world_history.specs.ClientNames as client_rules
@@ -19,6 +16,7 @@ use Rattle.world_history.specs.State.{ClientAt, at_number, with_number, and_numb
 use Rattle.world_history.specs.Spelled.{party_of}
 use Rattle.world_history.specs.Handed.{Post, is_addressed, server_post, client_posts}
 use Rattle.world_history.specs.Moves.{Act}
+use Rattle.history_law.proofs.Issuing.{answer_read}
 use Rattle.exchange_law.specs.PlaceAnswers.{SpellsFitting, AnswersFit}
 use Rattle.exchange_law.proofs.Commands.{MaySend}
 use Rattle.exchange_law.proofs.PlaceGoing.{ClientFits, SendsPlaced}
@@ -107,17 +105,6 @@ add_client xs c b k now d x there = elim (cases_eq d c) [
 ]
 
 -- ---- an answer that is delivered is the server's
-
-answer_read : (bytes : List ℕ) (r : Result Envelope OpErr) (a : client_rules.Answer) → envelope_of bytes ≡ r
-    → by_envelope r ≡ Some (Answers a) → envelope_of bytes ≡ Ok (envelope.Answer a)
-answer_read bytes (Ok (envelope.Answer b)) a read e =
-    let same : b ≡ a = cc e in read ∙ ap (λ (x : client_rules.Answer). Ok (envelope.Answer x)) same
-answer_read bytes (Ok (envelope.Recall b)) a read e = absurd (cc e)
-answer_read bytes (Ok (envelope.Request b)) a read e = absurd (cc e)
-answer_read bytes (Ok (envelope.RecallAnswer b)) a read e = absurd (cc e)
-answer_read bytes (Ok (envelope.Order b)) a read e = absurd (cc e)
-answer_read bytes (Ok (envelope.OrderAnswer b)) a read e = absurd (cc e)
-answer_read bytes (Err x) a read e = absurd (cc e)
 
 pub heard_own : (ss : List Sent) (n : ℕ) (m : Sent) → slice_get ss n ≡ Some m → AnswersFit ss → (c : ℕ) (from : Node)
     (bytes : List ℕ) (x : ClientMessage) → m.from ≡ party_of from → m.to ≡ party_of (node.Client c) → m.bytes ≡ bytes

@@ -10,7 +10,6 @@ use Rattle.data_map.specs.Striping.{positions, replicas, groups, data_units, str
 use Rattle.data_map.proofs.Shape.{whole_positions, some_positions, some_stripe}
 use Rattle.data_map.proofs.Numbers.{row_most}
 use Rattle.layout_types.specs.Spelling.{MapFits}
-use Rattle.osd_capability.specs.Layout.{is_format}
 use Rattle.osd_capability.specs.Layout as capabilities
 use Rattle.server_rules.specs.declared.limits.TheConstants.{WRITE_RIGHTS, READ_RIGHTS}
 use Rattle.world_history.specs.ServerNames.{Kept, Component, Grant}

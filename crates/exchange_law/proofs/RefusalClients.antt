@@ -26,7 +26,6 @@ use Rattle.world_history.specs.Sending.{Move, move}
 use Rattle.world_history.specs.Refusals.{refusal}
 use Rattle.world_history.specs.History.{OneEventMore}
 use Rattle.history_law.specs.Counters.{GrantsAreCounted}
-use Rattle.history_law.specs.HistoryMoments.{IsReached}
 use Rattle.history_law.specs.BookMoments.{IsMoment, lines_in}
 use Rattle.exchange_law.specs.InStep.{IsInStep, state_of, ClientsAreInStep}
 use Rattle.exchange_law.proofs.Along.{MayMove, at_moment}
@@ -36,6 +35,7 @@ use Rattle.exchange_law.proofs.Replied.{from_server, from_client, none_posted}
 use Rattle.exchange_law.proofs.RefusalGiven.{AreOrdered, ordered_move, none_ordered}
 use Rattle.exchange_law.proofs.Owning.{are_own}
 use Rattle.exchange_law.proofs.Ran.{HasRun, StepSends, run_on, new_run, step_run, new_awaited}
+use Rattle.exchange_law.proofs.HeldWorlds.{reached}
 
 -- there are few messages
 abbrev pub HasFew : World → Type 0
@@ -59,15 +59,6 @@ length_bodies (p ∷ ps) = ap suc (length_bodies ps)
 
 pub few_sent : (w : World) → HasFew w → length (sent_by w) < 2 ^ 31
 few_sent w few = omega (arith, length_bodies w.network.messages, few)
-
-reached : (w : World) (h : List Line) → IsMoment w h → IsReached w
-reached w h k = record {
-  before = k.before;
-  history = k.history;
-  stands = k.stands;
-  moves = k.moves;
-  world_is = k.world_is;
-}
 
 pub grants_few : Known → (w : World) (h : List Line) → IsMoment w h → HasFew w → w.server.next_grant < 2 ^ 32
 grants_few q w h k few = omega (arith, q.counted w (reached w h k), few)

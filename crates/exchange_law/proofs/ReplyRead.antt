@@ -19,7 +19,7 @@ reserved_ok : (bytes : List ℕ) (o : Option ℕ) (r : Reply) → unless_reserve
 reserved_ok bytes None r e = e
 reserved_ok bytes (Some at) r e = absurd cc
 
-read_at : (bytes : List ℕ) (r : Reply) → reading bytes ≡ Ok r → reply_at bytes ≡ r
+pub read_at : (bytes : List ℕ) (r : Reply) → reading bytes ≡ Ok r → reply_at bytes ≡ r
 unfolding reading reply_at
 read_at bytes r e =
     let one = guard_ok (nat_lt (length bytes) 40) Short _ r e in

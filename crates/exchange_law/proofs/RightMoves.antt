@@ -80,7 +80,8 @@ is_read (y ∷ xs) a x (inr i) = is_read xs a x.1 i
 -- all that a read needs of positions that aren't out
 abbrev pub IsHad : RawMap → Span → List ℕ → List Column → List Awaited → Type 0
 IsHad m r out got awaited =
-    (s b c : ℕ) → IsTouchedStripe m r s → c < group_width m → is_out m out (position_of m s c) ≡ false → IsWithin b (needed ToRead m r out s c)
+    (s b c : ℕ) → IsTouchedStripe m r s → c < group_width m → is_out m out (position_of m s c) ≡ false →
+    IsWithin b (needed ToRead m r out s c)
     → HasStretch (had got awaited) (position_of m s c) (offset_of m s b)
 
 -- it can be read, and all that it needs is had or awaited
@@ -124,7 +125,8 @@ goes : (h k : Held) (op : CallOp) (p : Phase) (got : List Column) → GoodPhase 
 unfolding GoodTurn
 goes h k op p got x = x
 
-ends : (h k : Held) (op : CallOp) (o : Outcome) (got : List Column) → FitsOutcome (Follows h op got) o → GoodTurn h k op (Ends o) got
+ends : (h k : Held) (op : CallOp) (o : Outcome) (got : List Column) → FitsOutcome (Follows h op got) o →
+    GoodTurn h k op (Ends o) got
 unfolding GoodTurn
 ends h k op o got x = x
 
@@ -132,11 +134,13 @@ forgets : (h k : Held) (op : CallOp) (o : Outcome) (got : List Column) → Answe
 unfolding GoodTurn
 forgets h k op o got x = x
 
-either_turn : (h k : Held) (op : CallOp) (got : List Column) (b : Bool) (t u : Turn) → GoodTurn h k op t got → GoodTurn h k op u got → GoodTurn h k op (if b then t else u) got
+either_turn : (h k : Held) (op : CallOp) (got : List Column) (b : Bool) (t u : Turn) → GoodTurn h k op t got →
+    GoodTurn h k op u got → GoodTurn h k op (if b then t else u) got
 either_turn h k op got true t u x y = x
 either_turn h k op got false t u x y = y
 
-either : (h : Held) (op : CallOp) (got : List Column) (b : Bool) (m n : Moved) → GoodMoved h op m got → GoodMoved h op n got → GoodMoved h op (if b then m else n) got
+either : (h : Held) (op : CallOp) (got : List Column) (b : Bool) (m n : Moved) → GoodMoved h op m got → GoodMoved h op n got →
+    GoodMoved h op (if b then m else n) got
 either h op got true m n x y = x
 either h op got false m n x y = y
 
@@ -150,34 +154,45 @@ unfolding outs
 counted_outs h sent timed = refl
 
 -- where nothing is awaited, all was fetched
-pub fetched : (m : RawMap) (r : Span) (out : List ℕ) (got : List Column) (top : ℕ) → IsReady m r out got [] top → IsFetched ToRead m r got out
+pub fetched : (m : RawMap) (r : Span) (out : List ℕ) (got : List Column) (top : ℕ) → IsReady m r out got [] top →
+    IsFetched ToRead m r got out
 fetched m r out got top x = λ s b c t l n w. had_got got (position_of m s c) (offset_of m s b) (x.needs s b c t l n w)
 
-reads_on_good : (h : Held) (op : CallOp) (got : List Column) (timed : List TimedOut) (sent awaited : List Awaited) → IsChecked h.map →
+reads_on_good : (h : Held) (op : CallOp) (got : List Column) (timed : List TimedOut) (sent awaited : List Awaited) →
+    IsChecked h.map →
     0 < (clipped h.size (span_of op)).length → (awaited ≡ [] → got ≢ []) → AreReads awaited →
-    (top : ℕ) → top ≡ nonce_at h (h.count + length sent) → IsReady h.map (clipped h.size (span_of op)) (outs h timed) got awaited top →
+    (top : ℕ) → top ≡ nonce_at h (h.count + length sent) →
+    IsReady h.map (clipped h.size (span_of op)) (outs h timed) got awaited top →
     GoodMoved h op (reads_on h (clipped h.size (span_of op)) got timed sent awaited) got
 unfolding reads_on
 reads_on_good h op got timed sent [] ch some n rs top e x =
     record {
       file = refl;
       map = refl;
-      turn = ends _ _ _ _ _ (n refl, λ d bs ag. read_follows h.map (clipped h.size (span_of op)) got (outs h timed) ch x.readable d bs (fetched h.map (clipped h.size (span_of op)) (outs h timed) got top x) ag);
+      turn =
+          ends _ _ _ _ _ (
+            n refl,
+            λ d bs ag. read_follows h.map (clipped h.size (span_of op)) got (outs h timed) ch x.readable d
+                bs (fetched h.map (clipped h.size (span_of op)) (outs h timed) got top x) ag,
+          );
     }
 reads_on_good h op got timed sent (a ∷ xs) ch some n rs top e x =
     record { file = refl; map = refl; turn = goes _ _ _ _ _ (some, refl, rs, rw (counted_outs h sent timed) (rw e at x)) }
 
 pub ready_sent : (h : Held) (r : Span) (got : List Column) (timed : List TimedOut) (awaited : List Awaited) → 0 < r.length →
     unreadable h.map r (outs h timed) (stripes h.map r) ≡ None → AreBelow (nonce_at h h.count) awaited →
-    IsReady h.map r (outs h timed) got (awaited ++ read_commands h (reads_due h r got timed awaited)) (nonce_at h (h.count + length (read_commands h (reads_due h r got timed awaited))))
+    IsReady h.map r (outs h timed) got (awaited ++ read_commands h (reads_due h r got timed awaited))
+    (nonce_at h (h.count + length (read_commands h (reads_due h r got timed awaited))))
 ready_sent h r got timed awaited some u b = record {
   readable = u;
-  needs = λ s b c t l n w. had_sent h got awaited (reads_due h r got timed awaited) (position_of h.map s c) (offset_of h.map s b) (asks_cover ToRead h.map r (outs h timed) (had got awaited) s b c tt some t l n w);
+  needs = λ s b c t l n w. had_sent h got awaited (reads_due h r got timed awaited) (position_of h.map s c) (offset_of h.map s b)
+      (asks_cover ToRead h.map r (outs h timed) (had got awaited) s b c tt some t l n w);
   nonces = sent_below h awaited (reads_due h r got timed awaited) b;
 }
 
 -- the plan of a read asks something
-pub asked_some : (h : Held) (op : CallOp) (got : List Column) (timed : List TimedOut) (awaited : List Awaited) → IsChecked h.map → 0 < (clipped h.size (span_of op)).length →
+pub asked_some : (h : Held) (op : CallOp) (got : List Column) (timed : List TimedOut) (awaited : List Awaited) → IsChecked h.map →
+    0 < (clipped h.size (span_of op)).length →
     unreadable h.map (clipped h.size (span_of op)) (outs h timed) (stripes h.map (clipped h.size (span_of op))) ≡ None →
     awaited ++ read_commands h (reads_due h (clipped h.size (span_of op)) got timed awaited) ≡ [] → got ≢ []
 unfolding had
@@ -186,7 +201,8 @@ asked_some h op got timed awaited ch some u none = λ g.
     let due = no_commands h _ (rest_none awaited _ none) in
     some_asked h.map (clipped h.size (span_of op)) (outs h timed) ch some u (rw (g, free) at due)
 
-reads_unless_good : (h : Held) (op : CallOp) (got : List Column) (timed : List TimedOut) (awaited : List Awaited) (o : Option (List ℕ)) →
+reads_unless_good : (h : Held) (op : CallOp) (got : List Column) (timed : List TimedOut) (awaited : List Awaited)
+    (o : Option (List ℕ)) →
     IsChecked h.map → 0 < (clipped h.size (span_of op)).length → AreReads awaited → AreBelow (nonce_at h h.count) awaited →
     unreadable h.map (clipped h.size (span_of op)) (outs h timed) (stripes h.map (clipped h.size (span_of op))) ≡ o →
     GoodMoved h op (reads_unless h (clipped h.size (span_of op)) got timed awaited o) got
@@ -228,15 +244,21 @@ probes_sent_good h op got timed awaited p ch none rs kept =
     (all_reads awaited _ rs (commands_read h _))
 
 probes_by_good : (h : Held) (op : CallOp) (got : List Column) (timed : List TimedOut) (awaited : List Awaited) (o : Option ℕ) →
-    IsChecked h.map → (clipped h.size (span_of op)).length ≡ 0 → AreReads awaited → GoodMoved h op (probes_by h got timed awaited o) got
+    IsChecked h.map → (clipped h.size (span_of op)).length ≡ 0 → AreReads awaited →
+    GoodMoved h op (probes_by h got timed awaited o) got
 probes_by_good h op got timed awaited None ch none rs = turned_good h op _ got (ends _ _ _ _ _ tt)
-probes_by_good h op got timed awaited (Some k) ch none rs = elim (cases_Bool (is_probe_lost h.map (outs h timed) (k / replicas h.map))) [
-  | inl gone ↦ rw gone (turned_good h op (Ends (Lost (positions_out h.map (outs h timed) (k / replicas h.map / group_width h.map)))) got (ends _ _ _ _ _ tt))
-  | inr kept ↦ rw kept (probes_sent_good h op got timed awaited (k / replicas h.map) ch none rs kept)
-]
+probes_by_good h op got timed awaited (Some k) ch none rs =
+    elim (cases_Bool (is_probe_lost h.map (outs h timed) (k / replicas h.map))) [
+      | inl gone ↦
+          rw gone
+          (turned_good h op (Ends (Lost (positions_out h.map (outs h timed) (k / replicas h.map / group_width h.map)))) got
+          (ends _ _ _ _ _ tt))
+      | inr kept ↦ rw kept (probes_sent_good h op got timed awaited (k / replicas h.map) ch none rs kept)
+    ]
 
 probes_good : (h : Held) (op : CallOp) (got : List Column) (timed : List TimedOut) (awaited : List Awaited) →
-    IsChecked h.map → (clipped h.size (span_of op)).length ≡ 0 → AreReads awaited → GoodMoved h op (probes h got timed awaited) got
+    IsChecked h.map → (clipped h.size (span_of op)).length ≡ 0 → AreReads awaited →
+    GoodMoved h op (probes h got timed awaited) got
 unfolding probes
 probes_good h op got timed awaited ch none rs = probes_by_good h op got timed awaited _ ch none rs
 
@@ -250,31 +272,37 @@ written_good : (h k l : Held) (op : CallOp) (timed : List TimedOut) (got : List 
 unfolding written
 written_good h k l op timed got = either_turn h k op got _ _ _ (goes _ _ _ _ _ tt) (accounted_good h k op timed got)
 
-scatters_on_good : (h : Held) (op : CallOp) (timed : List TimedOut) (queue : List Store) (sent awaited : List Awaited) (got : List Column) → AreApart awaited → GoodMoved h op (scatters_on h op timed queue sent awaited) got
+scatters_on_good : (h : Held) (op : CallOp) (timed : List TimedOut) (queue : List Store) (sent awaited : List Awaited)
+    (got : List Column) → AreApart awaited → GoodMoved h op (scatters_on h op timed queue sent awaited) got
 unfolding scatters_on
 scatters_on_good h op timed queue sent [] got x = record { file = refl; map = refl; turn = written_good _ _ h op timed got }
 scatters_on_good h op timed queue sent (a ∷ xs) got x = record { file = refl; map = refl; turn = goes _ _ _ _ _ x }
 
-scatters_good : (h : Held) (op : CallOp) (cols : List Column) (timed : List TimedOut) (got : List Column) → GoodMoved h op (scatters h op cols timed) got
+scatters_good : (h : Held) (op : CallOp) (cols : List Column) (timed : List TimedOut) (got : List Column) →
+    GoodMoved h op (scatters h op cols timed) got
 unfolding scatters
 scatters_good h op cols timed got = scatters_on_good h op timed _ _ _ got (firsts_apart h _)
 
-scatters_next_good : (h : Held) (op : CallOp) (timed : List TimedOut) (queue : List Store) (k : ℕ) (awaited : List Awaited) (got : List Column) → AreApart awaited → NoneTo k awaited → GoodMoved h op (scatters_next h op timed queue k awaited) got
+scatters_next_good : (h : Held) (op : CallOp) (timed : List TimedOut) (queue : List Store) (k : ℕ) (awaited : List Awaited)
+    (got : List Column) → AreApart awaited → NoneTo k awaited → GoodMoved h op (scatters_next h op timed queue k awaited) got
 unfolding scatters_next
 scatters_next_good h op timed queue k awaited got x n = scatters_on_good h op timed _ _ _ got (next_apart h k queue awaited x n)
 
-gathers_on_good : (h : Held) (op : CallOp) (cols : List Column) (timed : List TimedOut) (sent awaited : List Awaited) (got : List Column) → GoodMoved h op (gathers_on h op cols timed sent awaited) got
+gathers_on_good : (h : Held) (op : CallOp) (cols : List Column) (timed : List TimedOut) (sent awaited : List Awaited)
+    (got : List Column) → GoodMoved h op (gathers_on h op cols timed sent awaited) got
 unfolding gathers_on
 gathers_on_good h op cols timed sent [] got = scatters_good h op cols timed got
 gathers_on_good h op cols timed sent (a ∷ xs) got = record { file = refl; map = refl; turn = goes _ _ _ _ _ tt }
 
-gathers_good : (h : Held) (op : CallOp) (cols : List Column) (timed : List TimedOut) (awaited : List Awaited) (got : List Column) → GoodMoved h op (gathers h op cols timed awaited) got
+gathers_good : (h : Held) (op : CallOp) (cols : List Column) (timed : List TimedOut) (awaited : List Awaited)
+    (got : List Column) → GoodMoved h op (gathers h op cols timed awaited) got
 unfolding gathers
 gathers_good h op cols timed awaited got = gathers_on_good h op cols timed _ _ got
 
 -- ---- replies
 
-refused_good : (h : Held) (op : CallOp) (p : Phase) (a : Awaited) (r : Reply) (got : List Column) → GoodMoved h op (refused h p a r) got
+refused_good : (h : Held) (op : CallOp) (p : Phase) (a : Awaited) (r : Reply) (got : List Column) →
+    GoodMoved h op (refused h p a r) got
 unfolding refused
 refused_good h op p a r got =
     either h op got _ (turned h (Forgets (refusal a r))) (turned h (closing (refusal a r) (refused_report h p a r)))
@@ -285,27 +313,37 @@ grown x [] e = cc e
 grown x (y ∷ xs) e = cc e
 
 -- a reply leaves all had or awaited
-pub ready_replied : (m : RawMap) (r : Span) (out : List ℕ) (got : List Column) (awaited : List Awaited) (a : Awaited) (reply : Reply) (top : ℕ) → IsIn a awaited → IsReady m r out got awaited top →
+pub ready_replied : (m : RawMap) (r : Span) (out : List ℕ) (got : List Column) (awaited : List Awaited) (a : Awaited)
+    (reply : Reply) (top : ℕ) → IsIn a awaited → IsReady m r out got awaited top →
     IsReady m r out (got ++ got_of a reply ∷ []) (others awaited a.command.nonce) top
 ready_replied m r out got awaited a reply top i x = record {
   readable = x.readable;
-  needs = λ s b c t l n w. had_replied got awaited a reply (position_of m s c) (offset_of m s b) x.nonces.differ i (x.needs s b c t l n w);
+  needs =
+      λ s b c t l n w. had_replied got awaited a reply (position_of m s c) (offset_of m s b) x.nonces.differ i
+      (x.needs s b c t l n w);
   nonces = others_below top a.command.nonce awaited x.nonces;
 }
 
 -- a READ that was performed, in a phase that reads
-read_good : (h : Held) (op : CallOp) (io : Io) (a : Awaited) (r : Reply) (got : List Column) → IsChecked h.map → IsIn a io.awaited → GoodPhase h op (Reads io) got →
+read_good : (h : Held) (op : CallOp) (io : Io) (a : Awaited) (r : Reply) (got : List Column) → IsChecked h.map →
+    IsIn a io.awaited → GoodPhase h op (Reads io) got →
     GoodMoved h op (performed h op (Reads io) a r) (got ++ got_of a r ∷ [])
 read_good h op io a r got ch i g =
-    let next : IsReady h.map (clipped h.size (span_of op)) (outs h io.timed) (io.got ++ got_of a r ∷ []) (others io.awaited a.command.nonce) (nonce_at h h.count) =
+    let next : IsReady h.map (clipped h.size (span_of op)) (outs h io.timed) (io.got ++ got_of a r ∷ [])
+    (others io.awaited a.command.nonce) (nonce_at h h.count) =
     ready_replied h.map (clipped h.size (span_of op)) (outs h io.timed) io.got io.awaited a r (nonce_at h h.count) i g.3 in
-    rw (sym g.1) (reads_on_good h op (io.got ++ got_of a r ∷ []) io.timed [] _ ch g.0 (λ e. grown (got_of a r) io.got) (others_read io.awaited a.command.nonce g.2) (nonce_at h h.count) (omega arith) next)
+    rw (sym g.1) (reads_on_good h op (io.got ++ got_of a r ∷ []) io.timed [] _ ch g.0 (λ e. grown (got_of a r) io.got)
+    (others_read io.awaited a.command.nonce g.2) (nonce_at h h.count) (omega arith) next)
 
-probe_good : (h : Held) (op : CallOp) (io : Io) (a : Awaited) (r : Reply) (got : List Column) → GoodPhase h op (Probes io) got → GoodMoved h op (performed h op (Probes io) a r) (got ++ got_of a r ∷ [])
+probe_good : (h : Held) (op : CallOp) (io : Io) (a : Awaited) (r : Reply) (got : List Column) → GoodPhase h op (Probes io) got →
+    GoodMoved h op (performed h op (Probes io) a r) (got ++ got_of a r ∷ [])
 probe_good h op io a r got g =
-    rw (sym g.1) (probes_on_good h op (io.got ++ got_of a r ∷ []) io.timed [] _ g.0 (λ e. grown (got_of a r) io.got) (others_read io.awaited a.command.nonce g.2))
+    rw (sym g.1)
+    (probes_on_good h op (io.got ++ got_of a r ∷ []) io.timed [] _ g.0 (λ e. grown (got_of a r) io.got)
+    (others_read io.awaited a.command.nonce g.2))
 
-pub replied_good : (h : Held) (op : CallOp) (p : Phase) (a : Awaited) (r : Reply) (got : List Column) → IsChecked h.map → GoodPhase h op p got → IsIn a (awaited_in p) →
+pub replied_good : (h : Held) (op : CallOp) (p : Phase) (a : Awaited) (r : Reply) (got : List Column) → IsChecked h.map →
+    GoodPhase h op p got → IsIn a (awaited_in p) →
     GoodMoved h op (replied h op p a r) (with_reply got (Some (TakesReply a r)))
 unfolding replied
 replied_good h op (Reads io) a r got ch g i =
@@ -320,28 +358,38 @@ replied_good h op (Probes io) a r got ch g i =
       | inl done ↦ rw (eq-eqb r.verdict 0 done, w) (probe_good h op io a r got g)
       | inr other ↦ rw (ne_eqb r.verdict 0 other) (refused_good h op (Probes io) a r got)
     ]
-replied_good h op (Gathers io) a r got ch g i = either h op _ _ _ _ (gathers_on_good h op _ io.timed [] _ _) (refused_good h op (Gathers io) a r _)
-replied_good h op (Scatters io queue) a r got ch g i = either h op _ _ _ _ (scatters_next_good h op io.timed queue _ _ _ (others_apart io.awaited a.command.nonce g) (others_none io.awaited a g i)) (refused_good h op (Scatters io queue) a r _)
+replied_good h op (Gathers io) a r got ch g i =
+    either h op _ _ _ _ (gathers_on_good h op _ io.timed [] _ _) (refused_good h op (Gathers io) a r _)
+replied_good h op (Scatters io queue) a r got ch g i =
+    either h op _ _ _ _ (scatters_next_good h op io.timed queue _ _ _ (others_apart io.awaited a.command.nonce g)
+    (others_none io.awaited a g i)) (refused_good h op (Scatters io queue) a r _)
 replied_good h op Starts a r got ch g i = absurd i
 replied_good h op (Needs need) a r got ch g i = absurd i
 replied_good h op (Waits need) a r got ch g i = absurd i
 
 -- ---- timeouts
 
-gather_timed_good : (h : Held) (op : CallOp) (io : Io) (k : ℕ) (timed : List TimedOut) (got : List Column) → GoodMoved h op (gather_timed h op io k timed) got
+gather_timed_good : (h : Held) (op : CallOp) (io : Io) (k : ℕ) (timed : List TimedOut) (got : List Column) →
+    GoodMoved h op (gather_timed h op io k timed) got
 unfolding gather_timed
 gather_timed_good h op io k timed got =
-    either h op got (is_too_short h op timed) (ended h (Silent k)) (gathers h op io.got timed (not_of k io.awaited)) (turned_good h op _ got (ends _ _ _ _ _ tt)) (gathers_good h op io.got timed _ got)
+    either h op got (is_too_short h op timed) (ended h (Silent k)) (gathers h op io.got timed (not_of k io.awaited))
+    (turned_good h op _ got (ends _ _ _ _ _ tt)) (gathers_good h op io.got timed _ got)
 
-scatter_timed_good : (h : Held) (op : CallOp) (io : Io) (queue : List Store) (k : ℕ) (timed : List TimedOut) (got : List Column) → AreApart io.awaited → GoodMoved h op (scatter_timed h op io queue k timed) got
+scatter_timed_good : (h : Held) (op : CallOp) (io : Io) (queue : List Store) (k : ℕ) (timed : List TimedOut) (got : List Column) →
+    AreApart io.awaited → GoodMoved h op (scatter_timed h op io queue k timed) got
 unfolding scatter_timed
 scatter_timed_good h op io queue k timed got x =
-    either h op got (is_too_short h op timed) (turned h (closing (Silent k) (report_of h timed))) (scatters_on h op timed (without_component k queue) [] (not_of k io.awaited))
+    either h op got (is_too_short h op timed) (turned h (closing (Silent k) (report_of h timed)))
+    (scatters_on h op timed (without_component k queue) [] (not_of k io.awaited))
     (turned_good h op _ got (goes _ _ _ _ _ tt)) (scatters_on_good h op timed _ [] _ got (rest_apart k io.awaited x))
 
-pub timed_good : (h : Held) (op : CallOp) (p : Phase) (k : ℕ) (a : Awaited) (xs : List Awaited) (got : List Column) → IsChecked h.map → GoodPhase h op p got →
+pub timed_good : (h : Held) (op : CallOp) (p : Phase) (k : ℕ) (a : Awaited) (xs : List Awaited) (got : List Column) →
+    IsChecked h.map → GoodPhase h op p got →
     GoodMoved h op (timed_out h op p k a xs) got
-timed_good h op (Reads io) k a xs got ch g = rw (sym g.1) (reads_good h op io.got _ _ ch g.0 (rest_read io.awaited k g.2) (rest_below (nonce_at h h.count) k io.awaited g.3.nonces))
+timed_good h op (Reads io) k a xs got ch g =
+    rw (sym g.1)
+    (reads_good h op io.got _ _ ch g.0 (rest_read io.awaited k g.2) (rest_below (nonce_at h h.count) k io.awaited g.3.nonces))
 timed_good h op (Probes io) k a xs got ch g = rw (sym g.1) (probes_good h op io.got _ _ ch g.0 (rest_read io.awaited k g.2))
 timed_good h op (Gathers io) k a xs got ch g = gather_timed_good h op io k _ got
 timed_good h op (Scatters io queue) k a xs got ch g = scatter_timed_good h op io queue k _ got g
@@ -357,17 +405,22 @@ begins_good h op ch = elim (cases_Bool (is_write op)) [
   | inl t ↦ rw t (gathers_good h op [] [] [] [])
   | inr f ↦ elim (cases_eq (clipped h.size (span_of op)).length 0) [
     | inl z ↦ rw (f, eq-eqb (clipped h.size (span_of op)).length 0 z) (probes_good h op [] [] [] ch z tt)
-    | inr n ↦ rw (f, ne_eqb (clipped h.size (span_of op)).length 0 n) (reads_good h op [] [] [] ch (omega (arith, n)) tt (record { differ = tt; below = tt }))
+    | inr n ↦
+        rw (f, ne_eqb (clipped h.size (span_of op)).length 0 n)
+        (reads_good h op [] [] [] ch (omega (arith, n)) tt (record { differ = tt; below = tt }))
   ]
 ]
 
-not_committed_good : (h k : Held) (op : CallOp) (status detail : ℕ) (got : List Column) → GoodTurn h k op (not_committed status detail) got
+not_committed_good : (h k : Held) (op : CallOp) (status detail : ℕ) (got : List Column) →
+    GoodTurn h k op (not_committed status detail) got
 unfolding not_committed
 not_committed_good h k op status detail got = either_turn h k op got _ _ _ (forgets _ _ _ _ _ tt) (ends _ _ _ _ _ tt)
 
-pub on_commit_good : (h : Held) (op : CallOp) (a : Answer) (timed : List TimedOut) (got : List Column) → GoodMoved h op (on_commit h op a timed) got
+pub on_commit_good : (h : Held) (op : CallOp) (a : Answer) (timed : List TimedOut) (got : List Column) →
+    GoodMoved h op (on_commit h op a timed) got
 unfolding on_commit
 on_commit_good h op a timed got =
-    either h op got (status_of a.results == NFS4_OK) (committed h op a timed) (turned h (not_committed (status_of a.results) a.detail))
+    either h op got (status_of a.results == NFS4_OK) (committed h op a timed)
+    (turned h (not_committed (status_of a.results) a.detail))
     (record { file = refl; map = refl; turn = accounted_good _ _ op timed got })
     (turned_good h op _ got (not_committed_good _ _ op _ _ got))

@@ -19,7 +19,8 @@ each_map P Q f (a ∷ xs) x = (f a x.0, each_map P Q f xs x.1)
 
 pub each_range : (P : ℕ → Type 0) (a n : ℕ) → ((y : ℕ) → a ≤ y → y < a + n → P y) → Each P (range_with_len a n)
 each_range P a zero f = tt
-each_range P a (suc n) f = (f a (omega arith) (omega arith), each_range P (a + 1) n (λ y l m. f y (omega (arith, l)) (omega (arith, m))))
+each_range P a (suc n) f =
+    (f a (omega arith) (omega arith), each_range P (a + 1) n (λ y l m. f y (omega (arith, l)) (omega (arith, m))))
 
 -- ---- members
 
@@ -74,7 +75,8 @@ range_rises a zero = tt
 range_rises a (suc n) = (behind_range a (a + 1) n (omega arith), range_rises (a + 1) n)
 
 -- numbers of grant g are behind those that are below them, if they are of that grant
-behind_of : (g x a n : ℕ) → (grant_of x ≡ g → x < a) → Each (λ y. grant_of y ≡ g) (range_with_len a n) → AreBehind x (range_with_len a n)
+behind_of : (g x a n : ℕ) → (grant_of x ≡ g → x < a) → Each (λ y. grant_of y ≡ g) (range_with_len a n) →
+    AreBehind x (range_with_len a n)
 behind_of g x a zero l e = tt
 behind_of g x a (suc n) l e =
     (λ s. l (s ∙ e.0), behind_of g x (a + 1) n (λ s. let less : x < a = l s in omega (arith, less)) e.1)
@@ -83,7 +85,9 @@ behind_more : (x : ℕ) (xs ys : List ℕ) → AreBehind x xs → AreBehind x ys
 behind_more x [] ys a b = b
 behind_more x (z ∷ xs) ys a b = (a.0, behind_more x xs ys a.1 b)
 
-pub rises_more : (g a n : ℕ) (xs : List ℕ) → RiseInGrants xs → Each (λ x. grant_of x ≡ g → x < a) xs → Each (λ y. grant_of y ≡ g) (range_with_len a n) →
+pub rises_more : (g a n : ℕ) (xs : List ℕ) → RiseInGrants xs → Each (λ x. grant_of x ≡ g → x < a) xs →
+    Each (λ y. grant_of y ≡ g) (range_with_len a n) →
     RiseInGrants (xs ++ range_with_len a n)
 rises_more g a n [] r l e = range_rises a n
-rises_more g a n (x ∷ xs) r l e = (behind_more x xs (range_with_len a n) r.0 (behind_of g x a n l.0 e), rises_more g a n xs r.1 l.1 e)
+rises_more g a n (x ∷ xs) r l e =
+    (behind_more x xs (range_with_len a n) r.0 (behind_of g x a n l.0 e), rises_more g a n xs r.1 l.1 e)

@@ -161,7 +161,8 @@ makes_run g k d ds s l named = record {
 }
 
 made_or : (g : Going) (b : Bool) (k : ℕ) (free : List Drive) (later : Going) → Sound g
-    → k < MAX_FILE_COMPONENTS → AreNamed free → From g later → From g (makes_or g (if b then target_on g k (picked g.chosen free) else None) later)
+    → k < MAX_FILE_COMPONENTS → AreNamed free → From g later
+    → From g (makes_or g (if b then target_on g k (picked g.chosen free) else None) later)
 made_or g false k free later s l named r = r
 made_or g true k [] later s l named r = r
 made_or g true k (d ∷ ds) later s l named r = makes_run g k d ds s l named

@@ -14,11 +14,11 @@ pub use Rattle.history_law.proofs.Moments.{IsKept, always}
 use Rattle.world_history.proofs.Runs.{no_opening}
 use Rattle.world_history.proofs.ReadMessages.{never_opens}
 
-not_opened : (w : World) (p : Plan) (e : Event) → p.opening ≡ None → due p w ≡ Some (Opens e) → ⊥
+pub not_opened : (w : World) (p : Plan) (e : Event) → p.opening ≡ None → due p w ≡ Some (Opens e) → ⊥
 not_opened w p e none d =
     never_opens w p.rule e (sym (ap (due_in w p.rule) none) ∙ d)
 
-not_there : {X : Type 0} (o : Option X) → unless_there (is_some o) ≡ None → o ≡ None
+pub not_there : {X : Type 0} (o : Option X) → unless_there (is_some o) ≡ None → o ≡ None
 not_there None e = refl
 not_there (Some x) e = absurd (cc e)
 

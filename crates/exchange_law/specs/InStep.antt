@@ -46,6 +46,10 @@ abbrev pub state_of : (c : ℕ) → Option ClientAt → Client
 state_of c None = new_client c 1
 state_of c (Some a) = a.state
 
+-- client c of a world
+abbrev pub client_of : World → (c : ℕ) → Client
+client_of w c = state_of c (at_number w.clients c)
+
 -- so it is of each client at each moment
 abbrev pub ClientsAreInStep : Type 0
 ClientsAreInStep =

@@ -34,3 +34,4 @@ pub mod FairLanes
 pub mod Given
 pub mod Latest
 pub mod LaneTaken
+pub mod Pending

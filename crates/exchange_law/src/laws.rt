@@ -25,6 +25,7 @@ ghost use Rattle.exchange_law.specs.Lanes.{LanesAreOwn};
 ghost use Rattle.exchange_law.specs.FairLanes.{LanesAreFair};
 ghost use Rattle.exchange_law.specs.Latest.{AwaitedAreLatest};
 ghost use Rattle.exchange_law.specs.LaneTaken.{AwaitedAreTaken};
+ghost use Rattle.exchange_law.specs.Pending.{PendingIfTold};
 
 use history_law::{
     commands_are_issued, grants_are_counted, grants_are_safe, parties_run, unforged_are_issued,
@@ -279,4 +280,12 @@ pub fn awaited_are_taken()
     one_event_more();
     lanes_are_own();
     awaited_are_latest();
+}
+
+/// If a line can tell each outcome of a call, the calls that are pending by the lines of a history are at each moment
+/// those of the world's clients.
+pub fn calls_are_pending()
+    ensures { PendingIfTold }
+{
+    one_event_more();
 }

@@ -16,7 +16,15 @@ unfolding updated
 lawful_copied = (
   record { free = refl; home = refl; none = refl; idle = refl },
   (
-    record { new = omega arith; asks = inl refl; over = refl; repaired = refl; none = refl; apart = λ d g e. absurd (cc e); apart_ext = λ d g e. absurd (cc e) },
+    record {
+      new = omega arith;
+      asks = inl refl;
+      over = refl;
+      repaired = refl;
+      none = refl;
+      apart = λ d g e. absurd (cc e);
+      apart_ext = λ d g e. absurd (cc e);
+    },
     (
       record { waits = refl; comes = inl refl },
       (
@@ -50,9 +58,18 @@ lawful_copied = (
                     (
                       inl refl,
                       (
-                        record { runs = refl; first = refl; all = three_cases _ (inr (inr (inr (inl refl)))) (inr (inr (inl refl))) (inr (inl refl)) },
+                        record {
+                          runs = refl;
+                          first = refl;
+                          all = three_cases _ (inr (inr (inr (inl refl)))) (inr (inr (inl refl))) (inr (inl refl));
+                        },
                         (
-                          record { at_work = refl; stands = refl; all = λ z q on c. (0, 0, rw (c ∙ at_first_zero z on) refl, refl, rw (c ∙ at_first_zero z on) refl) },
+                          record {
+                            at_work = refl;
+                            stands = refl;
+                            all =
+                                λ z q on c. (0, 0, rw (c ∙ at_first_zero z on) refl, refl, rw (c ∙ at_first_zero z on) refl);
+                          },
                           (tt, tt),
                         ),
                       ),
@@ -70,19 +87,46 @@ lawful_copied = (
 
 -- the parts of a call that waits for its third
 abbrev outs3 : ℕ → ℕ → PartState
-outs3 = updated (updated (updated (updated (updated (λ k i. NotSent) 0 (updated (λ i. NotSent) 0 (Sent 1))) 1 (updated (λ i. NotSent) 0 (Sent 2))) 2 (updated (λ i. NotSent) 0 (Sent 3))) 0 (updated (updated (λ i. NotSent) 0 (Sent 1)) 0 Done)) 1 (updated (updated (λ i. NotSent) 0 (Sent 2)) 0 Done)
+outs3 =
+    updated
+    (updated
+    (updated (updated (updated (λ k i. NotSent) 0 (updated (λ i. NotSent) 0 (Sent 1))) 1 (updated (λ i. NotSent) 0 (Sent 2))) 2
+    (updated (λ i. NotSent) 0 (Sent 3))) 0 (updated (updated (λ i. NotSent) 0 (Sent 1)) 0 Done)) 1
+    (updated (updated (λ i. NotSent) 0 (Sent 2)) 0 Done)
 
 outs3_told : (k i v : ℕ) → outs3 k i ≡ Sent v → k ≡ 2
-outs3_told k i v e = elim (updated_read (updated (updated (updated (updated (λ k2 i2. NotSent) 0 (updated (λ i2. NotSent) 0 (Sent 1))) 1 (updated (λ i2. NotSent) 0 (Sent 2))) 2 (updated (λ i2. NotSent) 0 (Sent 3))) 0 (updated (updated (λ i2. NotSent) 0 (Sent 1)) 0 Done)) 1 (updated (updated (λ i2. NotSent) 0 (Sent 2)) 0 Done) k).1 [
-  | inl y ↦ absurd (part (Sent 2) (sym (ap (λ f. f i) y.1) ∙ e))
-  | inr y ↦ elim (updated_read (updated (updated (updated (λ k2 i2. NotSent) 0 (updated (λ i2. NotSent) 0 (Sent 1))) 1 (updated (λ i2. NotSent) 0 (Sent 2))) 2 (updated (λ i2. NotSent) 0 (Sent 3))) 0 (updated (updated (λ i2. NotSent) 0 (Sent 1)) 0 Done) k).1 [
-    | inl x ↦ absurd (part (Sent 1) (sym (ap (λ f. f i) (y.1 ∙ x.1)) ∙ e))
-    | inr x ↦ elim (updated_read (updated (updated (λ k2 i2. NotSent) 0 (updated (λ i2. NotSent) 0 (Sent 1))) 1 (updated (λ i2. NotSent) 0 (Sent 2))) 2 (updated (λ i2. NotSent) 0 (Sent 3)) k).1 [
-      | inl w ↦ w.0
-      | inr w ↦ absurd (let z : NotSent ≡ Sent v = sym (ap (λ f. f i) (y.1 ∙ x.1 ∙ w.1 ∙ updated_other (updated (λ k2 i2. NotSent) 0 (updated (λ i2. NotSent) 0 (Sent 1))) 1 _ k y.0 ∙ updated_other (λ k2 i2. NotSent) 0 _ k x.0)) ∙ e in cc z)
+outs3_told k i v e =
+    elim
+    (updated_read
+    (updated
+    (updated (updated (updated (λ k2 i2. NotSent) 0 (updated (λ i2. NotSent) 0 (Sent 1))) 1 (updated (λ i2. NotSent) 0 (Sent 2)))
+    2 (updated (λ i2. NotSent) 0 (Sent 3))) 0 (updated (updated (λ i2. NotSent) 0 (Sent 1)) 0 Done)) 1
+    (updated (updated (λ i2. NotSent) 0 (Sent 2)) 0 Done) k).1 [
+      | inl y ↦ absurd (part (Sent 2) (sym (ap (λ f. f i) y.1) ∙ e))
+      | inr y ↦
+          elim
+          (updated_read
+          (updated (updated (updated (λ k2 i2. NotSent) 0 (updated (λ i2. NotSent) 0 (Sent 1))) 1
+          (updated (λ i2. NotSent) 0 (Sent 2))) 2 (updated (λ i2. NotSent) 0 (Sent 3))) 0
+          (updated (updated (λ i2. NotSent) 0 (Sent 1)) 0 Done) k).1 [
+            | inl x ↦ absurd (part (Sent 1) (sym (ap (λ f. f i) (y.1 ∙ x.1)) ∙ e))
+            | inr x ↦
+                elim
+                (updated_read
+                (updated (updated (λ k2 i2. NotSent) 0 (updated (λ i2. NotSent) 0 (Sent 1))) 1
+                (updated (λ i2. NotSent) 0 (Sent 2))) 2
+                (updated (λ i2. NotSent) 0 (Sent 3)) k).1 [
+                  | inl w ↦ w.0
+                  | inr w ↦
+                      absurd
+                      (let z : NotSent ≡ Sent v =
+                      sym
+                      (ap (λ f. f i) (y.1 ∙ x.1 ∙ w.1
+                      ∙ updated_other (updated (λ k2 i2. NotSent) 0 (updated (λ i2. NotSent) 0 (Sent 1))) 1 _ k y.0
+                      ∙ updated_other (λ k2 i2. NotSent) 0 _ k x.0)) ∙ e in cc z)
+                ]
+          ]
     ]
-  ]
-]
   where
     part : (x : PartState) → updated (updated (λ i2. NotSent) 0 x) 0 Done i ≡ Sent v → ⊥
     part x f = elim (updated_read (updated (λ i2. NotSent) 0 x) 0 Done i).1 [
@@ -90,7 +134,8 @@ outs3_told k i v e = elim (updated_read (updated (updated (updated (updated (λ 
       | inr y ↦ let z : NotSent ≡ Sent v = sym (updated_other (λ i2. NotSent) 0 x i y.0) ∙ sym y.1 ∙ f in cc z
     ]
 
-outs3_all : (t x k z v : ℕ) → only (first_cells 3 k z) x ≡ Some v → (outs3 k 0 ≡ Done) ⊎ ((updated never 2 true k ≡ true) × (t ≡ t))
+outs3_all : (t x k z v : ℕ) → only (first_cells 3 k z) x ≡ Some v →
+    (outs3 k 0 ≡ Done) ⊎ ((updated never 2 true k ≡ true) × (t ≡ t))
 unfolding updated
 outs3_all t x zero zero v e = inl refl
 outs3_all t x (suc zero) zero v e = inl refl
@@ -103,7 +148,15 @@ unfolding updated
 lawful_reported = (
   record { free = refl; home = refl; none = refl; idle = refl },
   (
-    record { new = omega arith; asks = inl refl; over = refl; repaired = refl; none = refl; apart = λ d g e. absurd (cc e); apart_ext = λ d g e. absurd (cc e) },
+    record {
+      new = omega arith;
+      asks = inl refl;
+      over = refl;
+      repaired = refl;
+      none = refl;
+      apart = λ d g e. absurd (cc e);
+      apart_ext = λ d g e. absurd (cc e);
+    },
     (
       record { waits = refl; comes = inl refl },
       (
@@ -131,9 +184,23 @@ lawful_reported = (
               (
                 record { new = omega arith; runs = refl; has = refl; listed = refl; first = refl },
                 (
-                  record { comes = inr (inr (inl refl)); there = omega arith; stands = refl; here = refl; right = refl; new = omega arith },
+                  record {
+                    comes = inr (inr (inl refl));
+                    there = omega arith;
+                    stands = refl;
+                    here = refl;
+                    right = refl;
+                    new = omega arith;
+                  },
                   (
-                    record { comes = inr (inl refl); there = omega arith; stands = refl; here = refl; right = refl; new = omega arith },
+                    record {
+                      comes = inr (inl refl);
+                      there = omega arith;
+                      stands = refl;
+                      here = refl;
+                      right = refl;
+                      new = omega arith;
+                    },
                     (
                       record { runs = refl; sent = refl; comes = inr (inl refl) },
                       (
@@ -155,9 +222,21 @@ lawful_reported = (
                                       (
                                         record { free = refl; out = refl; next = refl },
                                         (
-                                          record { over = refl; repaired = refl; has = (_, refl); only = λ d ne. updated_other (λ y. None) 0 (Some (lease 1 1 true true)) d ne },
+                                          record {
+                                            over = refl;
+                                            repaired = refl;
+                                            has = (_, refl);
+                                            only = λ d ne. updated_other (λ y. None) 0 (Some (lease 1 1 true true)) d ne;
+                                          },
                                           (
-                                            record { runs = refl; plain = refl; fits = inr refl; told = λ k i v e. gone_third k (outs3_told k i v e); all = λ k z v e. outs3_all 1 _ k z v e },
+                                            record {
+                                              runs = refl;
+                                              plain = refl;
+                                              fits = inr refl;
+                                              told = λ k i v e. gone_third k
+                                                  (outs3_told k i v e);
+                                              all = λ k z v e. outs3_all 1 _ k z v e;
+                                            },
                                             (
                                               record { has = refl; idle = refl },
                                               (
@@ -167,16 +246,52 @@ lawful_reported = (
                                                   (
                                                     record { free = refl; home = refl; none = refl; idle = refl },
                                                     (
-                                                      record { new = omega arith; asks = inl refl; over = refl; repaired = refl; none = refl; apart = λ d g e. absurd (none_left d g e); apart_ext = λ d g e. absurd (none_left d g e) },
+                                                      record {
+                                                        new = omega arith;
+                                                        asks = inl refl;
+                                                        over = refl;
+                                                        repaired = refl;
+                                                        none = refl;
+                                                        apart = λ d g e. absurd (none_left d g e);
+                                                        apart_ext = λ d g e. absurd (none_left d g e);
+                                                      },
                                                       (
                                                         record { waits = refl; comes = inl refl },
                                                         (
-                                                          record { comes = inl refl; there = omega arith; lost = refl; right = refl; new = omega arith },
+                                                          record {
+                                                            comes = inl refl;
+                                                            there = omega arith;
+                                                            lost = refl;
+                                                            right = refl;
+                                                            new = omega arith;
+                                                          },
                                                           (
-                                                            record { has = refl; idle = refl; within = λ x r. refl; reaches = λ p w. refl },
+                                                            record {
+                                                              has = refl;
+                                                              idle = refl;
+                                                              within = λ x r. refl;
+                                                              reaches = λ p w. refl;
+                                                            },
                                                             (
-                                                              record { client = refl; in_log = omega arith; right = refl; there = omega arith; stands = refl },
-                                                              (record { runs = refl; told = (_, inl refl, refl); all = λ p w d bs ag. shown_first 7 ((after_all (new_file_state tripled) reported).cell 0) d refl p w (ag _ (inl refl) refl p refl refl) }, tt),
+                                                              record {
+                                                                client = refl;
+                                                                in_log = omega arith;
+                                                                right = refl;
+                                                                there = omega arith;
+                                                                stands = refl;
+                                                              },
+                                                              (
+                                                                record {
+                                                                  runs = refl;
+                                                                  told = (_, inl refl, refl);
+                                                                  all =
+                                                                      λ p w d bs ag. shown_first 7
+                                                                      ((after_all (new_file_state tripled) reported).cell 0) d
+                                                                      refl p
+                                                                      w (ag _ (inl refl) refl p refl refl);
+                                                                },
+                                                                tt,
+                                                              ),
                                                             ),
                                                           ),
                                                         ),
@@ -220,10 +335,12 @@ lawful_reported = (
 
 row_other : (k z : ℕ) → (after_all (new_file_state tripled) copied_on).applied 1 (suc k) z ≡ false
 unfolding updated
-row_other k z = ap (λ (y : ℕ → Bool). y z) (updated_other (λ f y. false) 0 (λ y. false || (0 == 0)) (suc k) (λ e. absurd (omega (arith, e))))
+row_other k z =
+    ap (λ (y : ℕ → Bool). y z) (updated_other (λ f y. false) 0 (λ y. false || (0 == 0)) (suc k) (λ e. absurd (omega (arith, e))))
 
 -- the only part that was performed stands on a component that is lost
-none_now : (j k z : ℕ) → j < 3 → ((after_all (new_file_state tripled) copied_on).start j).is_write ≡ true → (after_all (new_file_state tripled) copied_on).applied j k z ≡ true →
+none_now : (j k z : ℕ) → j < 3 → ((after_all (new_file_state tripled) copied_on).start j).is_write ≡ true →
+    (after_all (new_file_state tripled) copied_on).applied j k z ≡ true →
     (after_all (new_file_state tripled) copied_on).lost k ≡ false → ⊥
 unfolding updated
 none_now zero k z l w a lo = true≢false (sym w)
@@ -234,5 +351,8 @@ none_now (suc (suc (suc j))) k z l w a lo = absurd (omega (arith, l))
 
 pub is_meant_then : IsMeantThen
 unfolding updated
-is_meant_then h = let d = h tripled copied_on 0 tripled_code lawful_copied (calms_plain (new_file_state tripled) copied_on (λ x. refl)) (λ t. none_now t.0 t.1 t.2 t.5 t.6 t.11 t.12) in
-    let one : 1 ≡ d.0 0 = d.1 1 0 refl refl refl in let zero1 : 0 ≡ d.0 0 = d.1 2 0 refl refl refl in absurd (grind (arith, one, zero1))
+is_meant_then h = let d =
+    h tripled copied_on 0 tripled_code lawful_copied (calms_plain (new_file_state tripled) copied_on (λ x. refl))
+    (λ t. none_now t.0 t.1 t.2 t.5 t.6 t.11 t.12) in
+    let one : 1 ≡ d.0 0 = d.1 1 0 refl refl refl in let zero1 : 0 ≡ d.0 0 = d.1 2 0 refl refl refl in
+    absurd (grind (arith, one, zero1))

@@ -1,6 +1,7 @@
--- Kept: what is fixed of an entry at its start agrees with the layout and the tags; what is gone is lost; no grant is outstanding while a repair runs, and the tag that it settles is old.
+-- Kept: what is fixed of an entry at its start agrees with the layout and the tags; what is gone is lost; no grant is outstanding
+-- while a repair runs, and the tag that it settles is old.
 -- The guards of the starts say it, and later events change no entry's start.
-use Rattle.std.proofs.Common.{◌≡◌, ℕ, ◌+◌, ◌<◌, ◌≤◌, Bool, true, false, ◌||◌, ◌==◌, Some, None, ◌⊎◌, refl, sym, ◌∙◌, inl, inr, arith}
+use Rattle.std.proofs.Common.{◌≡◌, ℕ, ◌+◌, ◌<◌, ◌≤◌, Bool, true, false, ◌==◌, Some, None, refl, sym, ◌∙◌, inl, inr, arith}
 use Rattle.std.proofs.lemmas.Bool.{false_from_ne_true, eqb-false, true≢false, or_cases}
 use Rattle.fence_law.specs.Words.{updated}
 use Rattle.fence_law.specs.State.{State, Event, Grant, Call, Start}
@@ -34,18 +35,29 @@ old_low b g c has o e = grind (arith, o.has c g has, eqb-false g.tag b.tag e)
 
 -- no grant is outstanding while a repair runs, and the writes that it settles have a tag below the file's
 abbrev pub Mending : State → Type 0
-Mending b = record { outstanding : (c : ℕ) → b.repairing ≡ true → b.outstanding c ≡ None; low : b.repairing ≡ true → b.ended_tag < b.tag }
+Mending b =
+    record { outstanding : (c : ℕ) → b.repairing ≡ true → b.outstanding c ≡ None; low : b.repairing ≡ true → b.ended_tag < b.tag }
 
 pub keep_mending : (b : State) (e : Event) → Allowed b e → Mending b → Mending (after b e)
 keep_mending b (Grants c number rw range extending) a h = record {
-  outstanding = λ d m. grind (arith, updated_read b.outstanding c (Some (granted b c number rw range extending)) d, h.outstanding d m, a.repaired, m);
+  outstanding =
+      λ d m. grind (
+        arith,
+        updated_read b.outstanding c (Some (granted b c number rw range extending)) d,
+        h.outstanding d m,
+        a.repaired,
+        m,
+      );
   low = h.low;
 }
-keep_mending b (Leaves c g) a h = record { outstanding = λ d m. grind (arith, updated_read b.outstanding c None d, h.outstanding d m); low = h.low }
-keep_mending b (Frees c) a h = record { outstanding = λ d m. grind (arith, updated_read b.outstanding c None d, h.outstanding d m); low = h.low }
+keep_mending b (Leaves c g) a h =
+    record { outstanding = λ d m. grind (arith, updated_read b.outstanding c None d, h.outstanding d m); low = h.low }
+keep_mending b (Frees c) a h =
+    record { outstanding = λ d m. grind (arith, updated_read b.outstanding c None d, h.outstanding d m); low = h.low }
 keep_mending b Fenced a h = record { outstanding = λ d m. refl; low = λ m. omega arith }
 keep_mending b Refenced a h = record { outstanding = λ d m. refl; low = λ m. let l = h.low m in omega (arith, l) }
-keep_mending b (Repaired done e0) a h = record { outstanding = λ d m. absurd (true≢false (sym m)); low = λ m. absurd (true≢false (sym m)) }
+keep_mending b (Repaired done e0) a h =
+    record { outstanding = λ d m. absurd (true≢false (sym m)); low = λ m. absurd (true≢false (sym m)) }
 keep_mending b e a h = h
 
 -- what was lost is lost
@@ -54,24 +66,48 @@ Gone_lost b = (k : ℕ) → b.gone k ≡ true → b.lost k ≡ true
 
 -- what layouts leave out is lost; whose drive lives though it was lost is left out
 abbrev pub Missing_lost : State → Type 0
-Missing_lost b = record { lost : (k : ℕ) → b.missing k ≡ true → b.lost k ≡ true; dropped : (k : ℕ) → b.dropped k ≡ true → b.missing k ≡ true }
+Missing_lost b =
+    record { lost : (k : ℕ) → b.missing k ≡ true → b.lost k ≡ true; dropped : (k : ℕ) → b.dropped k ≡ true → b.missing k ≡ true }
 
 pub keep_missing : (b : State) (e : Event) → Allowed b e → Missing_lost b → Missing_lost (after b e)
-keep_missing b (Fails k0) a h = record { lost = λ k m. grind (arith, updated_read b.lost k0 true k, h.lost k m); dropped = h.dropped }
-keep_missing b (Loses c k0) a h = record { lost = λ k m. grind (arith, updated_read b.lost k0 true k, updated_read b.missing k0 true k, h.lost k, m); dropped = λ k m. up_on b.missing k0 k (h.dropped k m) }
-keep_missing b (Drops k0) a h = record { lost = λ k m. grind (arith, updated_read b.lost k0 true k, updated_read b.missing k0 true k, h.lost k, m); dropped = λ k m. grind (arith, updated_read b.dropped k0 true k, updated_read b.missing k0 true k, h.dropped k, m) }
-keep_missing b (Declares k0) a h = record { lost = λ k m. grind (arith, updated_read b.missing k0 true k, h.lost k, m, a); dropped = λ k m. grind (arith, updated_read b.missing k0 true k, h.dropped k m) }
-keep_missing b (Rebuilds k0 cells) a h = record { lost = λ k m. grind (arith, updated_read b.lost k0 false k, updated_read b.missing k0 false k, h.lost k, m); dropped = λ k m. grind (arith, updated_read b.dropped k0 false k, updated_read b.missing k0 false k, h.dropped k, m) }
+keep_missing b (Fails k0) a h =
+    record { lost = λ k m. grind (arith, updated_read b.lost k0 true k, h.lost k m); dropped = h.dropped }
+keep_missing b (Loses c k0) a h =
+    record {
+      lost = λ k m. grind (arith, updated_read b.lost k0 true k, updated_read b.missing k0 true k, h.lost k, m);
+      dropped = λ k m. up_on b.missing k0 k (h.dropped k m);
+    }
+keep_missing b (Drops k0) a h =
+    record {
+      lost = λ k m. grind (arith, updated_read b.lost k0 true k, updated_read b.missing k0 true k, h.lost k, m);
+      dropped = λ k m. grind (arith, updated_read b.dropped k0 true k, updated_read b.missing k0 true k, h.dropped k, m);
+    }
+keep_missing b (Declares k0) a h =
+    record {
+      lost = λ k m. grind (arith, updated_read b.missing k0 true k, h.lost k, m, a);
+      dropped = λ k m. grind (
+        arith,
+        updated_read b.missing k0 true k,
+        h.dropped k m,
+      );
+    }
+keep_missing b (Rebuilds k0 cells) a h =
+    record {
+      lost = λ k m. grind (arith, updated_read b.lost k0 false k, updated_read b.missing k0 false k, h.lost k, m);
+      dropped = λ k m. grind (arith, updated_read b.dropped k0 false k, updated_read b.missing k0 false k, h.dropped k, m);
+    }
 keep_missing b e a h = h
 
 pub keep_gone_lost : (b : State) (e : Event) → Missing_lost b → Gone_lost b → Gone_lost (after b e)
-keep_gone_lost b (Grants c number rw range extending) m h = λ k g. elim (or_cases (b.gone k) (b.missing k) g) [ inl x ↦ h k x | inr x ↦ m.lost k x ]
+keep_gone_lost b (Grants c number rw range extending) m h =
+    λ k g. elim (or_cases (b.gone k) (b.missing k) g) [ inl x ↦ h k x | inr x ↦ m.lost k x ]
 keep_gone_lost b Fenced m h = λ k g. g
 keep_gone_lost b (Repaired done e0) m h = λ k g. g
 keep_gone_lost b (Fails k0) m h = λ k g. grind (arith, updated_read b.lost k0 true k, h k g)
 keep_gone_lost b (Loses c k0) m h = λ k g. grind (arith, updated_read b.lost k0 true k, updated_read b.gone k0 true k, h k, g)
 keep_gone_lost b (Drops k0) m h = λ k g. grind (arith, updated_read b.lost k0 true k, h k g)
-keep_gone_lost b (Rebuilds k0 cells) m h = λ k g. grind (arith, updated_read b.lost k0 false k, updated_read b.gone k0 false k, h k, g)
+keep_gone_lost b (Rebuilds k0 cells) m h =
+    λ k g. grind (arith, updated_read b.lost k0 false k, updated_read b.gone k0 false k, h k, g)
 keep_gone_lost b e m h = h
 
 pub not_gone : (b : State) (k : ℕ) → Gone_lost b → b.lost k ≡ false → b.gone k ≡ false
@@ -94,9 +130,11 @@ FormedOne b s = record {
   asks : s.is_read ≡ true → (p : ℕ) → s.wanted p ≡ spans s.from_ (gives s) p;
   some : s.is_write ≡ true → (p v : ℕ) × (s.data_at p ≡ Some v);
   silent : s.is_read ≡ true → (k z : ℕ) → s.content k z ≡ None;
-  lands : (p v : ℕ) → s.is_write ≡ true → s.data_at p ≡ Some v → (k z u : ℕ) × (s.content k z ≡ Some u) × (b.layout.cell_col k z ≡ b.layout.col p) × (b.layout.is_cell k z ≡ true);
+  lands : (p v : ℕ) → s.is_write ≡ true → s.data_at p ≡ Some v →
+      (k z u : ℕ) × (s.content k z ≡ Some u) × (b.layout.cell_col k z ≡ b.layout.col p) × (b.layout.is_cell k z ≡ true);
   bytes : (p v : ℕ) → s.data_at p ≡ Some v → v < 256;
-  misses : (k z : ℕ) → s.is_write ≡ true → b.layout.is_cell k z ≡ true → s.left k ≡ false → s.content k z ≡ None → (e : ℕ → ℕ) → b.layout.word k z (overlaid s.data_at e) ≡ b.layout.word k z e;
+  misses : (k z : ℕ) → s.is_write ≡ true → b.layout.is_cell k z ≡ true → s.left k ≡ false → s.content k z ≡ None → (e : ℕ → ℕ) →
+      b.layout.word k z (overlaid s.data_at e) ≡ b.layout.word k z e;
 }
 
 abbrev pub Formed : State → Type 0
@@ -178,25 +216,27 @@ keep_formed b Refenced a o h = λ j l. let x = h j l in record {
   misses = x.misses;
   bytes = x.bytes;
 }
-keep_formed b (StartsWrite c g i d touch hit seen e1 pt) a o h = formed_added b (written_start b c g d touch hit seen e1 pt) (λ k z. false) (record {
-  low = grind (arith, o.has c g a.has);
-  number = λ w. (o.has c g a.has).0;
-  touches = a.touches;
-  none = λ p w. absurd (true≢false w);
-  apart = λ p w. absurd (true≢false (sym w));
-  payless = λ k z t. only_false (hit k z) _ (false_from_ne_true (hit k z) (λ on. true≢false (sym ((a.hits k z on).1) ∙ t)));
-  reaches = λ x t. t;
-  wants = λ p w. absurd (true≢false (sym w));
-  own = λ w. refl;
-  reads = λ w. refl;
-  plain = λ w. absurd (true≢false (sym w));
-  asks = λ w. absurd (true≢false (sym w));
-  some = λ w. (a.some.0, a.some.1, a.some.2);
-  silent = λ w. absurd (true≢false (sym w));
-  lands = λ p v w e. let x = a.lands p v e in (x.0, x.1, b.layout.word x.0 x.1 (overlaid d seen), only_true (hit x.0 x.1) _ x.2, x.3, (a.hits x.0 x.1 x.2).0);
-  bytes = a.bytes;
-  misses = λ k z w is lf n. a.misses k z is lf (only_none (hit k z) _ n);
-}) h
+keep_formed b (StartsWrite c g i d touch hit seen e1 pt) a o h =
+    formed_added b (written_start b c g d touch hit seen e1 pt) (λ k z. false) (record {
+      low = grind (arith, o.has c g a.has);
+      number = λ w. (o.has c g a.has).0;
+      touches = a.touches;
+      none = λ p w. absurd (true≢false w);
+      apart = λ p w. absurd (true≢false (sym w));
+      payless = λ k z t. only_false (hit k z) _ (false_from_ne_true (hit k z) (λ on. true≢false (sym ((a.hits k z on).1) ∙ t)));
+      reaches = λ x t. t;
+      wants = λ p w. absurd (true≢false (sym w));
+      own = λ w. refl;
+      reads = λ w. refl;
+      plain = λ w. absurd (true≢false (sym w));
+      asks = λ w. absurd (true≢false (sym w));
+      some = λ w. (a.some.0, a.some.1, a.some.2);
+      silent = λ w. absurd (true≢false (sym w));
+      lands = λ p v w e. let x = a.lands p v e in
+          (x.0, x.1, b.layout.word x.0 x.1 (overlaid d seen), only_true (hit x.0 x.1) _ x.2, x.3, (a.hits x.0 x.1 x.2).0);
+      bytes = a.bytes;
+      misses = λ k z w is lf n. a.misses k z is lf (only_none (hit k z) _ n);
+    }) h
 keep_formed b (StartsRead c g lo hi reach) a o h = formed_added b (read_start b c g lo hi reach) (λ k z. false) (record {
   low = grind (arith, o.has c g a.has);
   number = λ w. absurd (true≢false (sym w));
@@ -216,25 +256,26 @@ keep_formed b (StartsRead c g lo hi reach) a o h = formed_added b (read_start b 
   misses = λ k z w. absurd (true≢false (sym w));
   bytes = λ p v e. absurd (cc e);
 }) h
-keep_formed b (Repairs k which e0) a o h = formed_added b (repair_start b k which e0) (λ f y. updated (λ w. false) k true f) (record {
-  low = grind arith;
-  number = λ w. absurd (true≢false (sym w));
-  touches = λ p v e. absurd (cc e);
-  none = λ p w. refl;
-  apart = λ p w. refl;
-  payless = λ f y t. absurd (true≢false t);
-  reaches = λ y t. t;
-  wants = λ p w. absurd (true≢false (sym w));
-  own = λ w. absurd (true≢false (sym w));
-  reads = λ w. absurd (true≢false (sym w));
-  plain = λ w. absurd (true≢false (sym w));
-  asks = λ w. absurd (true≢false (sym w));
-  some = λ w. absurd (true≢false (sym w));
-  silent = λ w. absurd (true≢false (sym w));
-  lands = λ p v w. absurd (true≢false (sym w));
-  misses = λ f y w. absurd (true≢false (sym w));
-  bytes = λ p v e. absurd (cc e);
-}) h
+keep_formed b (Repairs k which e0) a o h =
+    formed_added b (repair_start b k which e0) (λ f y. updated (λ w. false) k true f) (record {
+      low = grind arith;
+      number = λ w. absurd (true≢false (sym w));
+      touches = λ p v e. absurd (cc e);
+      none = λ p w. refl;
+      apart = λ p w. refl;
+      payless = λ f y t. absurd (true≢false t);
+      reaches = λ y t. t;
+      wants = λ p w. absurd (true≢false (sym w));
+      own = λ w. absurd (true≢false (sym w));
+      reads = λ w. absurd (true≢false (sym w));
+      plain = λ w. absurd (true≢false (sym w));
+      asks = λ w. absurd (true≢false (sym w));
+      some = λ w. absurd (true≢false (sym w));
+      silent = λ w. absurd (true≢false (sym w));
+      lands = λ p v w. absurd (true≢false (sym w));
+      misses = λ f y w. absurd (true≢false (sym w));
+      bytes = λ p v e. absurd (cc e);
+    }) h
 keep_formed b (Rebuilds k cells) a o h = formed_added b (rebuilt_start b k cells) (λ f y. updated (λ w. false) k true f) (record {
   low = grind arith;
   number = λ w. absurd (true≢false (sym w));
@@ -263,18 +304,22 @@ Running b = record {
   reads : (c j : ℕ) → b.call c ≡ Reads j → (b.start j).is_read ≡ true;
 }
 
-running_call : (b : State) (c : ℕ) (x : Call) → ((j : ℕ) → x ≡ Writes j → ⊥) → ((j : ℕ) → x ≡ Reads j → ⊥) → Running b → Running (record b { call = updated b.call c x })
+running_call : (b : State) (c : ℕ) (x : Call) → ((j : ℕ) → x ≡ Writes j → ⊥) → ((j : ℕ) → x ≡ Reads j → ⊥) → Running b →
+    Running (record b { call = updated b.call c x })
 running_call b c x nw nr h = record {
   writes = λ d j e. h.writes d j (grind (arith, updated_read b.call c x d, nw j, e));
   reads = λ d j e. h.reads d j (grind (arith, updated_read b.call c x d, nr j, e));
 }
 
-running_old_w : (b : State) (s : Start) (row : ℕ → ℕ → Bool) (d j : ℕ) → Calls b → Running b → b.call d ≡ Writes j → ((updated b.start b.count s j).is_write ≡ true) × (updated b.acknowledged b.count false j ≡ false)
+running_old_w : (b : State) (s : Start) (row : ℕ → ℕ → Bool) (d j : ℕ) → Calls b → Running b → b.call d ≡ Writes j →
+    ((updated b.start b.count s j).is_write ≡ true) × (updated b.acknowledged b.count false j ≡ false)
 running_old_w b s row d j r h e = let u = r.writes d j e in let ne : j ≡ b.count → ⊥ = grind (arith, u.below) in
     rw (updated_other b.start b.count s j ne, updated_other b.acknowledged b.count false j ne) (h.writes d j e)
 
-running_old_r : (b : State) (s : Start) (d j : ℕ) → Calls b → Running b → b.call d ≡ Reads j → (updated b.start b.count s j).is_read ≡ true
-running_old_r b s d j r h e = let u = r.reads d j e in let ne : j ≡ b.count → ⊥ = grind (arith, u.below) in rw (updated_other b.start b.count s j ne) (h.reads d j e)
+running_old_r : (b : State) (s : Start) (d j : ℕ) → Calls b → Running b → b.call d ≡ Reads j →
+    (updated b.start b.count s j).is_read ≡ true
+running_old_r b s d j r h e = let u = r.reads d j e in let ne : j ≡ b.count → ⊥ = grind (arith, u.below) in
+    rw (updated_other b.start b.count s j ne) (h.reads d j e)
 
 running_acks : (b : State) (c j : ℕ) → Allowed b (Acknowledges c j) → Calls b → Running b → Running (after b (Acknowledges c j))
 running_acks b c i a r h = record {
@@ -293,15 +338,25 @@ keep_running b (Forgets c) a r h = running_call b c Idle (λ j e. cc) (λ j e. c
 keep_running b (TakesRefusal c j0) a r h = running_call b c Idle (λ j e. cc) (λ j e. cc) h
 keep_running b (StartsWrite c g i d touch hit seen e1 pt) a r h = record {
   writes = λ f j e. elim (updated_read b.call c (Writes b.count) f).1 [
-    | inl w ↦ let same : j ≡ b.count = grind (arith, w, e) in rw (same, updated_same b.start b.count (written_start b c g d touch hit seen e1 pt), updated_same b.acknowledged b.count false) (refl, refl)
+    | inl w ↦ let same : j ≡ b.count = grind (arith, w, e) in
+        rw (
+          same,
+          updated_same b.start b.count (written_start b c g d touch hit seen e1 pt),
+          updated_same b.acknowledged b.count false,
+        ) (refl, refl)
     | inr w ↦ running_old_w b (written_start b c g d touch hit seen e1 pt) (λ k z. false) f j r h (sym w.1 ∙ e)
   ];
-  reads = λ f j e. running_old_r b (written_start b c g d touch hit seen e1 pt) f j r h (grind (arith, updated_read b.call c (Writes b.count) f, e));
+  reads =
+      λ f j e. running_old_r b (written_start b c g d touch hit seen e1 pt) f j r h
+      (grind (arith, updated_read b.call c (Writes b.count) f, e));
 }
 keep_running b (StartsRead c g lo hi reach) a r h = record {
-  writes = λ f j e. running_old_w b (read_start b c g lo hi reach) (λ k z. false) f j r h (grind (arith, updated_read b.call c (Reads b.count) f, e));
+  writes =
+      λ f j e. running_old_w b (read_start b c g lo hi reach) (λ k z. false) f j r h
+      (grind (arith, updated_read b.call c (Reads b.count) f, e));
   reads = λ f j e. elim (updated_read b.call c (Reads b.count) f).1 [
-    | inl w ↦ let same : j ≡ b.count = grind (arith, w, e) in rw (same, updated_same b.start b.count (read_start b c g lo hi reach)) refl
+    | inl w ↦ let same : j ≡ b.count = grind (arith, w, e) in
+        rw (same, updated_same b.start b.count (read_start b c g lo hi reach)) refl
     | inr w ↦ running_old_r b (read_start b c g lo hi reach) f j r h (sym w.1 ∙ e)
   ];
 }
@@ -321,4 +376,5 @@ keep_running b e a r h = h
 
 -- the bytes that the log leaves are bytes
 pub bytes_before : (b : State) (j : ℕ) → j ≤ b.count → Formed b → AreBytes (byte_before b j)
-bytes_before b j low f q = chain_low (λ i. b.chosen i q) (λ i. (b.start i).data_at q) j (λ i l v e. (f i (omega (arith, l, low))).bytes q v e)
+bytes_before b j low f q =
+    chain_low (λ i. b.chosen i q) (λ i. (b.start i).data_at q) j (λ i l v e. (f i (omega (arith, l, low))).bytes q v e)

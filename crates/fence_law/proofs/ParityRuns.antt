@@ -13,7 +13,15 @@ unfolding updated
 lawful_41 = (
   record { free = refl; home = refl; none = refl; idle = refl },
   (
-    record { new = omega arith; asks = inl refl; over = refl; repaired = refl; none = refl; apart = λ d g e. absurd (cc e); apart_ext = λ d g e. absurd (cc e) },
+    record {
+      new = omega arith;
+      asks = inl refl;
+      over = refl;
+      repaired = refl;
+      none = refl;
+      apart = λ d g e. absurd (cc e);
+      apart_ext = λ d g e. absurd (cc e);
+    },
     (
       record { waits = refl; comes = inl refl },
       (
@@ -39,7 +47,8 @@ lawful_41 = (
             (
               record { new = omega arith; runs = refl; has = refl; listed = refl; first = refl },
               (
-                record { comes = inr (inl refl); there = omega arith; stands = refl; here = refl; right = refl; new = omega arith },
+                record
+                    { comes = inr (inl refl); there = omega arith; stands = refl; here = refl; right = refl; new = omega arith },
                 (
                   record { comes = inl refl; there = omega arith; stands = refl; here = refl; right = refl; new = omega arith },
                   (
@@ -59,7 +68,14 @@ lawful_41 = (
                                 (
                                   refl,
                                   (
-                                    record { runs = refl; plain = refl; fits = inr refl; told = λ k i v e. absurd (outs_told 1 2 k i v e); all = λ k z v e. inl (outs_all 1 2 _ k z v e) },
+                                    record {
+                                      runs = refl;
+                                      plain = refl;
+                                      fits = inr refl;
+                                      told = λ k i v e. absurd
+                                          (outs_told 1 2 k i v e);
+                                      all = λ k z v e. inl (outs_all 1 2 _ k z v e);
+                                    },
                                     (record { low = omega arith; on = refl }, tt),
                                   ),
                                 ),
@@ -82,17 +98,24 @@ lawful_41 = (
 
 -- the state when the repair begins
 abbrev at_repair : State
-at_repair = after_all (after_all (new_file_state doubled) written_41) (StartsRead 0 (lease 1 1 true true) 0 0 always ∷ StartsWrite 0 (lease 1 1 true true) 2 (byte 42) at_first (first_cells 2) nothing 1 one_part ∷
+at_repair =
+    after_all (after_all (new_file_state doubled) written_41)
+    (StartsRead 0 (lease 1 1 true true) 0 0 always ∷ StartsWrite 0 (lease 1 1 true true) 2 (byte 42) at_first (first_cells 2)
+    nothing 1 one_part ∷
     Sends 0 0 (lease 1 1 true true) 3 0 3 ∷ Performs (message 0 1 1 3 0 3) ∷ Fences ∷ SetsTag 0 ∷ SetsTag 1 ∷ Fenced ∷ [])
 
 abbrev after_repair : State
 after_repair = after at_repair (Repairs 1 at_first (file 42))
 
-abbrev both_written : State
-both_written = after_all (after_all (new_file_state doubled) written_41) (StartsRead 0 (lease 1 1 true true) 0 0 always ∷ StartsWrite 0 (lease 1 1 true true) 2 (byte 42) at_first (first_cells 2) nothing 1 one_part ∷
-    Sends 0 0 (lease 1 1 true true) 3 0 3 ∷ Sends 0 1 (lease 1 1 true true) 3 0 4 ∷ Performs (message 0 1 1 3 0 3) ∷ Performs (message 0 1 1 4 1 3) ∷ [])
+abbrev pub both_written : State
+both_written =
+    after_all (after_all (new_file_state doubled) written_41)
+    (StartsRead 0 (lease 1 1 true true) 0 0 always ∷ StartsWrite 0 (lease 1 1 true true) 2 (byte 42) at_first (first_cells 2)
+    nothing 1 one_part ∷
+    Sends 0 0 (lease 1 1 true true) 3 0 3 ∷ Sends 0 1 (lease 1 1 true true) 3 0 4 ∷ Performs (message 0 1 1 3 0 3) ∷ Performs
+    (message 0 1 1 4 1 3) ∷ [])
 
-abbrev written_43 : ℕ → ℕ
+abbrev pub written_43 : ℕ → ℕ
 written_43 = (after_all (new_file_state doubled) (written_41 ++ late)).cell 0
 
 pub lawful_stopped : Lawful (after_all (new_file_state doubled) written_41) stopped
@@ -128,7 +151,11 @@ lawful_stopped = (
               (
                 record { runs = refl; first = refl; all = two_cases _ (inr (inr (inl refl))) (inr (inl refl)) },
                 (
-                  record { at_work = refl; stands = refl; all = λ z q on c. (0, 0, rw (c ∙ at_first_zero z on) refl, refl, rw (c ∙ at_first_zero z on) refl) },
+                  record {
+                    at_work = refl;
+                    stands = refl;
+                    all = λ z q on c. (0, 0, rw (c ∙ at_first_zero z on) refl, refl, rw (c ∙ at_first_zero z on) refl);
+                  },
                   (
                     record {
                       runs = refl;
@@ -139,14 +166,31 @@ lawful_stopped = (
                     (
                       record { free = refl; home = refl; none = refl; idle = refl },
                       (
-                        record { new = omega arith; asks = inl refl; over = refl; repaired = refl; none = refl; apart = λ d g e. absurd (cc e); apart_ext = λ d g e. absurd (cc e) },
+                        record {
+                          new = omega arith;
+                          asks = inl refl;
+                          over = refl;
+                          repaired = refl;
+                          none = refl;
+                          apart = λ d g e.
+                              absurd (cc e);
+                          apart_ext = λ d g e. absurd (cc e);
+                        },
                         (
                           record { waits = refl; comes = inl refl },
                           (
                             record { has = refl; idle = refl; within = λ x r. refl; reaches = λ p w. refl },
                             (
                               record { client = refl; in_log = omega arith; right = refl; there = omega arith; stands = refl },
-                              (record { runs = refl; told = (_, inl refl, refl); all = λ p w d bs ag. shown_first 42 (after_repair.cell 0) d refl p w (ag _ (inl refl) refl p refl refl) }, tt),
+                              (
+                                record {
+                                  runs = refl;
+                                  told = (_, inl refl, refl);
+                                  all = λ p w d bs ag. shown_first 42
+                                      (after_repair.cell 0) d refl p w (ag _ (inl refl) refl p refl refl);
+                                },
+                                tt,
+                              ),
                             ),
                           ),
                         ),
@@ -204,7 +248,11 @@ lawful_cut_off = (
                   (
                     inl refl,
                     (
-                      record { at_work = refl; stands = refl; all = λ z q on c. (0, 0, rw (c ∙ at_first_zero z on) refl, refl, rw (c ∙ at_first_zero z on) refl) },
+                      record {
+                        at_work = refl;
+                        stands = refl;
+                        all = λ z q on c. (0, 0, rw (c ∙ at_first_zero z on) refl, refl, rw (c ∙ at_first_zero z on) refl);
+                      },
                       (
                         inl refl,
                         (
@@ -213,149 +261,43 @@ lawful_cut_off = (
                             record {
                               runs = refl;
                               left = λ x d. absurd (true≢false d);
-                              right = λ x d k z is here l. four_cells after_late_repair.cell 42 refl (λ y. refl) refl (λ y. refl) k z is;
+                              right =
+                                  λ x d k z is here l. four_cells after_late_repair.cell 42 refl (λ y. refl) refl
+                                  (λ y. refl) k z is;
                               copies = λ q d. (0, q, rw (eq-eqb q q refl) refl, refl);
                             },
                             (
                               record { free = refl; home = refl; none = refl; idle = refl },
                               (
-                                record { new = omega arith; asks = inl refl; over = refl; repaired = refl; none = refl; apart = λ d g e. absurd (cc e); apart_ext = λ d g e. absurd (cc e) },
+                                record {
+                                  new = omega arith;
+                                  asks = inl refl;
+                                  over = refl;
+                                  repaired = refl;
+                                  none = refl;
+                                  apart = λ d g e. absurd (cc e);
+                                  apart_ext = λ d g e. absurd (cc e);
+                                },
                                 (
                                   record { waits = refl; comes = inl refl },
                                   (
                                     record { has = refl; idle = refl; within = λ x r. refl; reaches = λ p w. refl },
                                     (
-                                      record { client = refl; in_log = omega arith; right = refl; there = omega arith; stands = refl },
+                                      record {
+                                        client = refl;
+                                        in_log = omega arith;
+                                        right = refl;
+                                        there = omega arith;
+                                        stands = refl;
+                                      },
                                       (
-                                        record { runs = refl; told = (_, inl refl, refl); all = λ p w d bs ag. shown_first 42 (after_late_repair.cell 0) d refl p w (ag _ (inl refl) refl p refl refl) },
+                                        record {
+                                          runs = refl;
+                                          told = (_, inl refl, refl);
+                                          all = λ p w d bs ag. shown_first 42
+                                              (after_late_repair.cell 0) d refl p w (ag _ (inl refl) refl p refl refl);
+                                        },
                                         tt,
-                                      ),
-                                    ),
-                                  ),
-                                ),
-                              ),
-                            ),
-                          ),
-                        ),
-                      ),
-                    ),
-                  ),
-                ),
-              ),
-            ),
-          ),
-        ),
-      ),
-    ),
-  ),
-)
-
-pub lawful_late : Lawful (after_all (new_file_state doubled) written_41) late
-unfolding updated
-lawful_late = (
-  record { has = refl; idle = refl; within = λ x r. refl; reaches = λ p w. refl },
-  (
-    record {
-      some = (0, 42, refl, refl);
-      ends = λ p v e. (byte_place 42 p v e).1;
-      room = inl refl;
-      has = refl;
-      may = refl;
-      gathers = refl;
-      gathered = λ x t. refl;
-      touches = λ p v e. (byte_place 42 p v e).0;
-      hits = λ k z e. hits_first 2 k z e;
-      lands = λ p v e. (0, 0, refl, lands_first 42 p v e);
-      misses = λ k z a lf n e. misses_double 42 k z a n e;
-      bytes = λ p v e. byte_low 42 p v (omega arith) e;
-      sees = λ k z h e bs g. sees_double 42 k z h e;
-    },
-    (
-      record { new = omega arith; runs = refl; has = refl; listed = refl; first = refl },
-      (
-        record { new = omega arith; runs = refl; has = refl; listed = refl; first = refl },
-        (
-          record { comes = inr (inl refl); there = omega arith; stands = refl; here = refl; right = refl; new = omega arith },
-          (
-            record { comes = inl refl; there = omega arith; stands = refl; here = refl; right = refl; new = omega arith },
-            (
-              record { over = refl },
-              (
-                inl refl,
-                (
-                  inl refl,
-                  (
-                    record { runs = refl; first = refl; all = two_cases _ (inr (inr (inl refl))) (inr (inl refl)) },
-                    (
-                      record {
-                        runs = refl;
-                        left = λ x d. absurd (true≢false d);
-                        right = λ x d k z is here l. four_cells both_written.cell 42 refl (λ y. refl) refl (λ y. refl) k z is;
-                        copies = λ q d. (0, q, rw (eq-eqb q q refl) refl, refl);
-                      },
-                      (
-                        record { free = refl; home = refl; none = refl; idle = refl },
-                        (
-                          record { new = omega arith; asks = inl refl; over = refl; repaired = refl; none = refl; apart = λ d g e. absurd (cc e); apart_ext = λ d g e. absurd (cc e) },
-                          (
-                            record { waits = refl; comes = inl refl },
-                            (
-                              record { has = refl; idle = refl; within = λ x r. refl; reaches = λ p w. refl },
-                              (
-                                record {
-                                  some = (0, 43, refl, refl);
-                                  ends = λ p v e. (byte_place 43 p v e).1;
-                                  room = inl refl;
-                                  has = refl;
-                                  may = refl;
-                                  gathers = refl;
-                                  gathered = λ x t. refl;
-                                  touches = λ p v e. (byte_place 43 p v e).0;
-                                  hits = λ k z e. hits_first 2 k z e;
-                                  lands = λ p v e. (0, 0, refl, lands_first 43 p v e);
-                                  misses = λ k z a lf n e. misses_double 43 k z a n e;
-                                  bytes = λ p v e. byte_low 43 p v (omega arith) e;
-                                  sees = λ k z h e bs g. sees_double 43 k z h e;
-                                },
-                                (
-                                  record { new = omega arith; runs = refl; has = refl; listed = refl; first = refl },
-                                  (
-                                    record { new = omega arith; runs = refl; has = refl; listed = refl; first = refl },
-                                    (
-                                      record { comes = inr (inl refl); there = omega arith; stands = refl; here = refl; right = refl; new = omega arith },
-                                      (
-                                        record { comes = inl refl; there = omega arith; stands = refl; here = refl; right = refl; new = omega arith },
-                                        (
-                                          record { runs = refl; sent = refl; comes = inr (inl refl) },
-                                          (
-                                            record { runs = refl; sent = refl; comes = inl refl },
-                                            (
-                                              record { runs = refl; plain = refl; fits = inl (omega arith); told = λ k i v e. absurd (outs_told 1 2 k i v e); all = λ k z v e. inl (outs_all 1 2 _ k z v e) },
-                                              (
-                                                record { low = omega arith; on = refl },
-                                                (
-                                                  record { runs = refl; sent = refl; comes = inr (inr (inr (inl refl))) },
-                                                  (
-                                                    record { runs = refl; sent = refl; comes = inr (inr (inl refl)) },
-                                                    (
-                                                      record { runs = refl; plain = refl; fits = inl (omega arith); told = λ k i v e. absurd (outs_told 3 4 k i v e); all = λ k z v e. inl (outs_all 3 4 _ k z v e) },
-                                                      (
-                                                        record { low = omega arith; on = refl },
-                                                        (
-                                                          record { has = refl; idle = refl; within = λ x r. refl; reaches = λ p w. refl },
-                                                          (
-                                                            record { client = refl; in_log = omega arith; right = refl; there = omega arith; stands = refl },
-                                                            (record { runs = refl; told = (_, inl refl, refl); all = λ p w d bs ag. shown_first 43 written_43 d refl p w (ag _ (inl refl) refl p refl refl) }, tt),
-                                                          ),
-                                                        ),
-                                                      ),
-                                                    ),
-                                                  ),
-                                                ),
-                                              ),
-                                            ),
-                                          ),
-                                        ),
                                       ),
                                     ),
                                   ),
@@ -386,10 +328,7 @@ pub keep_stopped : AllKeep stopped
 unfolding Keeps
 keep_stopped = (tt, (tt, (tt, (tt, (tt, (tt, (tt, (tt, (tt, (tt, (tt, (tt, (tt, (tt, (tt, (tt, tt))))))))))))))))
 
-pub keep_late : AllKeep late
-unfolding Keeps
-keep_late = (tt, (tt, (tt, (tt, (tt, (tt, (tt, (tt, (tt, (tt, (tt, (tt, (tt, (tt, (tt, (tt, (tt, (tt, (tt, (tt, (tt, (tt, (tt, (tt, (tt, (tt, (tt, (tt, (tt, (tt, (tt, tt)))))))))))))))))))))))))))))))
-
 pub keep_cut_off : AllKeep cut_off
 unfolding Keeps
-keep_cut_off = (tt, (tt, (tt, (tt, (tt, (tt, (tt, (tt, (tt, (tt, (tt, (tt, (tt, (tt, (tt, (tt, (tt, (tt, (tt, (tt, tt))))))))))))))))))))
+keep_cut_off =
+    (tt, (tt, (tt, (tt, (tt, (tt, (tt, (tt, (tt, (tt, (tt, (tt, (tt, (tt, (tt, (tt, (tt, (tt, (tt, (tt, tt))))))))))))))))))))

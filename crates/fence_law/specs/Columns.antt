@@ -1,5 +1,5 @@
 -- What is said of the columns of a file: which data agree with what is there, and whether a column is torn or short.
-use Rattle.std.specs.Prelude.{◌≡◌, ℕ, nat_le, nat_lt, ◌+◌, ◌<◌, ◌≤◌, Bool, true, false, ◌&&◌, not, Option, Some, None, ◌⊎◌}
+use Rattle.std.specs.Prelude.{◌≡◌, ℕ, nat_le, nat_lt, ◌+◌, ◌<◌, ◌≤◌, Bool, true, false, ◌&&◌, Option, Some, None, ◌⊎◌}
 use Rattle.fence_law.specs.Words.{In, over}
 use Rattle.fence_law.specs.State.{State, Layout, RequestKind, ReadReply}
 use Rattle.fence_law.specs.State.RequestKind.{Get, Return}

@@ -5,7 +5,8 @@ ghost use Rattle.fence_law.specs.Runs.{IsMeantThen};
 ghost use Rattle.fence_law.specs.Examples.{IsShown};
 ghost use Rattle.fence_law.specs.Law.{IsAudited, IsConflictFree, IsFenced, IsGranted, IsJudged, IsKept, IsLogged, IsRestored, IsSized, IsSpared, IsWhole};
 
-/// In every run, beside an extending grant no other client has one, and grants of different clients that share a column are both for reading.
+/// In every run, beside an extending grant no other client has one, and grants of different clients that share a column are both
+/// for reading.
 pub fn conflict_free()
     ensures { IsConflictFree }
 {}

@@ -21,7 +21,7 @@ use Rattle.history_law.specs.BookMoments.{with_event, lines_in}
 use Rattle.history_law.proofs.Coming.{clean_before}
 use Rattle.history_law.proofs.Staying.{written_front}
 use Rattle.exchange_law.proofs.CountGrowing.{fewer, text_front}
-use Rattle.component_law.specs.Following.{left_pending, PendingIsRead}
+use Rattle.component_law.specs.LeftPending.{left_pending, PendingIsRead}
 use Rattle.component_law.proofs.Shapes.{Shape, Nothing, Left, Heads, delivers_shape, times_shape, pends_shape}
 use Rattle.file_simulation.specs.Claim.{IsOfScenario, IsCalmHistory}
 

@@ -13,7 +13,7 @@ use Rattle.world_history.specs.History.{OneEventMore}
 use Rattle.world_history.specs.Laws.{MomentGoesOn, AllLinesGoOn}
 use Rattle.history_law.specs.BookMoments.{IsMoment, lines_in}
 use Rattle.exchange_law.proofs.SlotMoments.{always}
-use Rattle.component_law.specs.Following.{PendingIsRead}
+use Rattle.component_law.specs.LeftPending.{PendingIsRead}
 use Rattle.fence_law.specs.State.{State}
 use Rattle.file_simulation.specs.Claim.{IsCalmHistory}
 use Rattle.file_simulation.specs.Cuts.{at_cut}

@@ -1,7 +1,6 @@
 -- What a machine shows of a file: the judge accepts the file's log, and each cell that isn't lost in a stripe that isn't
 -- disturbed holds the word of the bytes that the log leaves.
-use Rattle.std.proofs.Common.{◌≡◌, ℕ, ◌&&◌, ◌∷◌, [], List, Bool, true, false, not, Some, slice_get, refl, sym, ap, subst, ◌∙◌, inl, inr, eq-eqb}
-use Rattle.std.specs.List.{list_any}
+use Rattle.std.proofs.Common.{◌≡◌, ℕ, ◌&&◌, List, Bool, true, false, not, Some, slice_get, refl, sym, ap, subst, ◌∙◌, inl, inr, eq-eqb}
 use Rattle.std.proofs.lemmas.Bool.{cases_Bool}
 use Rattle.server_rules.specs.Files.{file_at}
 use Rattle.server_rules.specs.Laws.{In}
@@ -16,14 +15,10 @@ use Rattle.fence_law.specs.State.{State}
 use Rattle.fence_law.specs.Columns.{Disturbed, Gone}
 use Rattle.fence_law.specs.Log.{IsLog}
 use Rattle.fence_law.specs.Law.{IsCode, IsJudged, IsWholeAt, byte_before}
+use Rattle.component_law.proofs.Members.{here}
 use Rattle.plan_law.specs.FileLayout.{stripe_of_column}
 use Rattle.file_simulation.specs.Claim.{byte_stored}
 use Rattle.file_simulation.specs.Showing.{Pairs, ShowsLines, ShowsFile, GoesAsRun, HasMark}
-
-here : {A : Type 0} (p : A → Bool) (xs : List A) (x : A) → In x xs → p x ≡ true → list_any p xs ≡ true
-here p [] x i e = absurd i
-here p (y ∷ ys) x (inl s) e = rw (ap p (sym s) ∙ e) refl
-here p (y ∷ ys) x (inr i) e = elim (cases_Bool (p y)) [ inl t ↦ rw t refl | inr f ↦ rw f (here p ys x i e) ]
 
 -- ---- the judge
 

@@ -261,7 +261,8 @@ HeldIs file m s c x o (Some h) = IsHolding m s c h
 HeldIs file m s c x o None = HoldsNone s c x.outstanding (reports_on file x.call && not (is_taken o))
 
 -- What the machine has of a client: the grant that it holds, the call that it is at, and nonces that are below those of a
--- grant that it is to take and of each that is still to be given. `o` is the server's answer to its outstanding request, where there is one.
+-- grant that it is to take and of each that is still to be given. `o` is the server's answer to its outstanding request, where
+-- there is one.
 pub record IsClient (file : ℕ) (m : RawMap) (s : machine.State) (c : ℕ) (x : Client) (o : Option Answer) : Type 0 where
   pub held : HeldIs file m s c x o (held_of x.held file)
   pub call : CallAt file m s c o x.call

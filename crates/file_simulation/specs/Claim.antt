@@ -1,10 +1,11 @@
 -- The headline, in the words of the lines: what a calm and unguessed history says of each file.
-use Rattle.std.specs.Prelude.{◌≡◌, ℕ, ◌/◌, ◌<◌, true, false, List, [], ◌∷◌, ◌++◌, slice_get, get_or, Option, Some, None, Contains, find, ◌==◌}
+use Rattle.std.specs.Prelude.{◌≡◌, ℕ, ◌/◌, ◌<◌, true, false, List, [], ◌∷◌, ◌++◌, length, slice_get, get_or, Option, Some, None, Contains, find, ◌==◌}
 use Rattle.std.specs.List.{fold}
 use Rattle.data_map.specs.Striping.{replicas, group_width, position_of, offset_of}
 use Rattle.stripe_plan.specs.Laws.{word_of}
 use Rattle.osd_objects.specs.Store.{bytes_at}
 use Rattle.server_rules.specs.Files.{file_at}
+use Rattle.server_rules.specs.Grants.{count_stripes}
 use Rattle.server_rules.specs.Laws.{In}
 use Rattle.file_log.specs.Judge.{Accepts, candidates}
 use Rattle.scenario_text.specs.declared.line.Line.{Line}
@@ -66,10 +67,14 @@ pub record IsRight (h : List Line) : Type 0 where
   pub accepted : (file : ℕ) → Accepts (log_of h file)
   pub whole : (file s : ℕ) → is_disturbed (moment_of h) file s ≡ false → IsWhole h file s
 
--- Each lawful history of a scenario's text with few messages that is calm and unguessed is right: the headline. It is a
--- statement, of which `Conclusion` says what is missing.
+-- it is so if the history is calm and nothing was guessed
+abbrev pub IsRightIfCalm : List Line → Type 0
+IsRightIfCalm h = IsCalmHistory h → IsRight h
+
+-- Each lawful history of a scenario's text with few messages that is calm and unguessed is right, also one that is cut inside a
+-- move: the headline.
 abbrev pub HeadlineHolds : Type 0
-HeadlineHolds = (h : List Line) → Lawful h → IsCalmHistory h → IsRight h
+HeadlineHolds = (h : List Line) → Lawful h → IsRightIfCalm h
 
 -- ---- repairs
 
@@ -81,8 +86,7 @@ pub record EndsRepair (h : List Line) (file : ℕ) (r : Mended) : Type 0 where
   pub found : find (λ (x : Mended). x.file == file) (mended_in (server_step (fold sees_server server_at_first earlier) last))
       ≡ Some r
 
--- Right behind a note that a repair is over and left no stripe short, no stripe that the repair counted is disturbed. This is
--- a statement.
+-- Right behind a note that a repair is over and left no stripe short, no stripe that the repair counted is disturbed.
 abbrev pub RepairsLeaveNoneDisturbed : Type 0
 RepairsLeaveNoneDisturbed =
     (before : List Line) (file stripes : ℕ) (r : Mended) → Lawful (before ++ line.Note file (note.Repaired stripes 0) ∷ []) →
@@ -91,10 +95,34 @@ RepairsLeaveNoneDisturbed =
     (s : ℕ) → is_worked s r.worked ≡ true →
     is_disturbed (moment_of (before ++ line.Note file (note.Repaired stripes 0) ∷ [])) file s ≡ false
 
+-- The last step of some lines ends a repair of the file. It counted so many stripes, and left so many of them short. If it left
+-- none, no stripe that it counted is disturbed.
+pub record IsRepaired (h : List Line) (file stripes short : ℕ) : Type 0 where
+  pub repair : Mended
+  pub ends : EndsRepair h file repair
+  pub counted : count_stripes repair.worked ≡ stripes
+  pub left : length repair.short ≡ short
+  pub undisturbed : short ≡ 0 → (s : ℕ) → is_worked s repair.worked ≡ true → is_disturbed (moment_of h) file s ≡ false
+
+-- So it is right behind a note that a repair is over, if the events up to there are such as a text has them.
+abbrev pub RepairedAt : List Line → Line → Type 0
+RepairedAt before (line.Note file (note.Repaired stripes short)) =
+    AreWritten (before ++ line.Note file (note.Repaired stripes short) ∷ []) →
+    IsRepaired (before ++ line.Note file (note.Repaired stripes short) ∷ []) file stripes short
+RepairedAt before l = Unit {0}
+
+-- so it is of each line of a lawful history
+abbrev pub EachRepairLeavesNone : Type 0
+EachRepairLeavesNone = (before : List Line) (l : Line) → Lawful (before ++ l ∷ []) → RepairedAt before l
+
 -- ---- audits
 
--- Each audit of a calm and unguessed history finds no bad stripe. This is a statement.
+-- no audit of it found a bad stripe, if it is calm and nothing was guessed
+abbrev pub HasNoBadAudit : List Line → Type 0
+HasNoBadAudit h =
+    IsCalmHistory h → (file stripes short bad bytes : ℕ) →
+    In (line.Note file (note.Audited stripes short bad bytes)) h → bad ≡ 0
+
+-- Each audit of a calm and unguessed history finds no bad stripe.
 abbrev pub AuditsFindNone : Type 0
-AuditsFindNone =
-    (h : List Line) → Lawful h → IsCalmHistory h →
-    (file stripes short bad bytes : ℕ) → In (line.Note file (note.Audited stripes short bad bytes)) h → bad ≡ 0
+AuditsFindNone = (h : List Line) → Lawful h → HasNoBadAudit h

@@ -17,13 +17,13 @@ SimulationGivesRuns = EachMoveGoesOn → EachFileIsCreated → EachCutIsShown �
 
 -- ---- what is asked beside
 
--- Each file has a map that can be used, and a component for each that the map has. This is a statement.
+-- Each file has a map that can be used, and a component for each that the map has.
 abbrev pub FilesAreShaped : Type 0
 FilesAreShaped =
     (h : List Line) → Lawful h → IsOfScenario h → (file : ℕ) (f : File) →
     file_at (moment_of h).server.files file ≡ Some f → IsChecked f.kept.map × (length f.kept.components ≡ f.kept.map.comps)
 
--- A file that there isn't has no entry in the log. This is a statement.
+-- A file that there isn't has no entry in the log.
 abbrev pub NoneIsLogged : Type 0
 NoneIsLogged =
     (h : List Line) → Lawful h → IsOfScenario h → (file : ℕ) →

@@ -5,9 +5,9 @@ use Rattle.server_rules.specs.Files.{file_at}
 use Rattle.server_rules.specs.Slots.{slot_of}
 use Rattle.client_rules.specs.Calls.{file_of}
 use Rattle.world_history.specs.ServerNames.{File}
-use Rattle.world_history.specs.ClientNames.{Client, Call}
-use Rattle.world_history.specs.State.{World, at_number}
-use Rattle.exchange_law.specs.InStep.{state_of}
+use Rattle.world_history.specs.ClientNames.{Call}
+use Rattle.world_history.specs.State.{World}
+pub use Rattle.exchange_law.specs.InStep.{client_of}
 use Rattle.fence_law.specs.State as machine
 use Rattle.fence_law.specs.State.Call.{Reads as AtRead}
 use Rattle.plan_law.specs.FileLayout.{layout_of}
@@ -17,10 +17,6 @@ use Rattle.file_simulation.specs.Requests.{kept_for, RequestsAgree}
 use Rattle.file_simulation.specs.Calls.{IsClient}
 use Rattle.file_simulation.specs.Messages.{AreSent, ShownIn, ToldIn}
 use Rattle.file_simulation.specs.Jobs.{AreJobs}
-
--- client c of a world; one that there isn't yet is as it will begin
-abbrev pub client_of : World → (c : ℕ) → Client
-client_of w c = state_of c (at_number w.clients c)
 
 -- what the machine has of a client: its slot, its call, what its reads were shown, and the replies to its WRITEs
 pub record IsClientOf (s : machine.State) (w : World) (f : File) (c : ℕ) : Type 0 where

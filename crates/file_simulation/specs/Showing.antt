@@ -5,8 +5,7 @@ use Rattle.data_map.specs.Striping.{parities}
 use Rattle.server_rules.specs.Files.{file_at}
 use Rattle.server_rules.specs.Laws.{In}
 use Rattle.scenario_text.specs.declared.line.Line.{Line}
-use Rattle.world_history.specs.ServerNames.{File, Component, Grant}
-use Rattle.world_history.specs.State.{World}
+use Rattle.world_history.specs.ServerNames.{File, Component}
 use Rattle.world_history.specs.History.{Lawful}
 use Rattle.world_history.specs.ReadDrives.{drive_after}
 use Rattle.world_history.specs.ReadLog.{Logged, log_of}
@@ -14,7 +13,6 @@ use Rattle.world_history.specs.Stripes.{Moment, is_lost, is_unfinished, is_calm}
 use Rattle.world_history.specs.Reading.{Step, steps_of}
 use Rattle.world_history.specs.Book.{server_step}
 use Rattle.world_history.specs.Calm.{moment_of, sees, first_seen, through}
-use Rattle.history_law.specs.BookMoments.{IsMoment}
 use Rattle.fence_law.specs.State.{State, Event}
 use Rattle.fence_law.specs.Columns.{Disturbed, Gone, IsCalm}
 use Rattle.fence_law.specs.Machine.{Lawful as IsLawfulRun, new_file_state}
@@ -66,11 +64,9 @@ HasMark s m f pairs j x =
 -- ---- components
 
 -- What is lost in the machine is lost by the lines, and what isn't lost by them has the bytes of its object. Inside a step of
--- the server the lines may have more lost than the machine, since they show the server behind the whole step; between two
--- moves the same are lost.
+-- the server the lines may have more lost than the machine, since they show the server behind the whole step.
 pub record ShowsComponent (h : List Line) (s : State) (k : ℕ) (at : Component) : Type 0 where
   pub lost : s.lost k ≡ true → is_lost (moment_of h) at ≡ true
-  pub same : (w : World) → IsMoment w h → s.lost k ≡ is_lost (moment_of h) at
   pub cells : is_lost (moment_of h) at ≡ false → (z : ℕ) →
       s.cell k z ≡ byte_stored (drive_after h at.drive) at.object z
 
@@ -81,8 +77,6 @@ pub record ShowsFile (h : List Line) (s : State) (pairs : Pairs) (f : File) : Ty
   pub layout : s.layout ≡ layout_of f.kept.map f.kept.first_tag
   pub components : (k : ℕ) (at : Component) → slice_get f.kept.components k ≡ Some at → ShowsComponent h s k at
   pub marks : (x : ℕ) (d : Disturbed s x) → HasMark s (moment_of h) f pairs d.0 x
-  -- the grant of an entry of an earlier tag is over
-  pub ended : (j : ℕ) (g : Grant) → j < s.count → (s.start j).tag < s.tag → In g f.kept.grants → g.number ≡ (s.start j).grant → ⊥
 
 -- the last of the moments at which it is looked whether these lines are calm: where a step begins, and behind each note
 pub record IsLastMoment (h : List Line) (m : Moment) : Type 0 where
@@ -115,8 +109,8 @@ pub record GoesAsRun (h : List Line) (file : ℕ) : Type 0 where
   pub run : IsRun state
   pub shown : ShowsLines h state file pairs
 
--- Each file of a calm and unguessed history goes as a lawful and calm run that shows its lines. This is a statement: it is
--- what the simulation has to give.
+-- Each file of a calm and unguessed history goes as a lawful and calm run that shows its lines: this is what the simulation
+-- gives.
 abbrev pub FilesGoAsRuns : Type 0
 FilesGoAsRuns =
     (h : List Line) → Lawful h → IsCalmHistory h → (file : ℕ) (f : File) →

@@ -1,9 +1,10 @@
 -- What the simulation has to show: each move takes the machine of each file further, a file that is made begins as its
--- machine does, and each cut of a move shows the lines. These are statements: no law gives them yet.
-use Rattle.std.specs.Prelude.{◌≡◌, ℕ, ◌++◌, ◌≤◌, List, length, take, Some, None}
+-- machine does, and each cut of a move shows the lines. `headline_law` proves it.
+use Rattle.std.specs.Prelude.{◌≡◌, ℕ, ◌++◌, ◌≤◌, ◌<◌, List, length, take, Some, None}
+use Rattle.server_rules.specs.Laws.{In}
 use Rattle.server_rules.specs.Files.{file_at}
 use Rattle.scenario_text.specs.declared.line.Line.{Line}
-use Rattle.world_history.specs.ServerNames.{File}
+use Rattle.world_history.specs.ServerNames.{File, Grant}
 use Rattle.world_history.specs.State.{World}
 use Rattle.world_history.specs.Sending.{Move, move}
 use Rattle.world_history.specs.Plans.{due}
@@ -19,13 +20,19 @@ use Rattle.file_simulation.specs.Cuts.{at_cut}
 use Rattle.file_simulation.specs.Showing.{Pairs, ShowsLines, IsRun, GoesAsRun}
 use Rattle.file_simulation.specs.Tied.{AreTied, WritesAreTied}
 
+-- The grants of entries of earlier tags are over: the file has them no more.
+abbrev pub EarlierAreOver : State → File → Type 0
+EarlierAreOver s f =
+    (j : ℕ) (g : Grant) → j < s.count → (s.start j).tag < s.tag → In g f.kept.grants → g.number ≡ (s.start j).grant → ⊥
+
 -- A machine stands for a file at a moment: it is reached by a lawful and calm run, it is related to the world, it shows the
--- lines, and pending calls and WRITEs are tied to its entries.
+-- lines, grants of earlier tags are over, and pending calls and WRITEs are tied to its entries.
 pub record StandsAt (w : World) (h : List Line) (f : File) (s : State) (pairs : Pairs) : Type 0 where
   pub there : file_at w.server.files f.kept.number ≡ Some f
   pub run : IsRun s
   pub related : Relates s w f.kept.number
   pub shown : ShowsLines h s f.kept.number pairs
+  pub over : EarlierAreOver s f
   pub tied : AreTied w h s f.kept.number pairs
   pub writes : WritesAreTied w h s f pairs
 

@@ -51,7 +51,7 @@ below_to top xs b = record { differ = b.differ; below = each_to top xs b.below }
 pub below_from : (top : ℕ) (xs : List Awaited) → WereBelow top xs → AreBelow top xs
 below_from top xs b = record { differ = b.differ; below = each_from top xs b.below }
 
-in_to : (a : Awaited) (xs : List Awaited) → In a xs → IsIn a xs
+pub in_to : (a : Awaited) (xs : List Awaited) → In a xs → IsIn a xs
 in_to a [] i = absurd i
 in_to a (x ∷ xs) (inl e) = inl e
 in_to a (x ∷ xs) (inr i) = inr (in_to a xs i)

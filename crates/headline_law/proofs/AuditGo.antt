@@ -1,5 +1,5 @@
 -- Each audit of a calm and unguessed history finds no bad stripe.
-use Rattle.std.proofs.Common.{◌≡◌, ◌++◌, ℕ, List, [], ◌∷◌, take, Option, Some, zero, suc, refl, sym, ap, subst, ◌∙◌, inl, inr}
+use Rattle.std.proofs.Common.{◌≡◌, ◌++◌, ℕ, List, [], ◌∷◌, take, Option, Some, refl, sym, ap, subst, ◌∙◌, inl, inr}
 use Rattle.std.proofs.lemmas.Option.{same_Some}
 use Rattle.scenario_text.specs.declared.line.Line.{Line}
 use Rattle.server_rules.specs.History.{Input, step}
@@ -13,8 +13,9 @@ use Rattle.world_history.specs.Sending.{Move, move}
 use Rattle.world_history.specs.State.{World}
 use Rattle.history_law.specs.Moments.{IsMoment, lines_in}
 use Rattle.history_law.specs.Said.{IsHeardByServer}
-use Rattle.component_law.specs.Following.{PendingIsRead}
-use Rattle.component_law.specs.Performing.{AreDistinct}
+use Rattle.history_law.proofs.Goes.{for_server}
+use Rattle.component_law.specs.LeftPending.{PendingIsRead}
+use Rattle.component_law.specs.Distinct.{AreDistinct}
 use Rattle.component_law.specs.Sent.{IsSentByRun}
 use Rattle.exchange_law.proofs.CountMoments.{reached}
 use Rattle.exchange_law.proofs.SlotMoments.{always}
@@ -28,21 +29,17 @@ use Rattle.relation_law.proofs.FramesFiles.{files_distinct}
 use Rattle.relation_law.proofs.KeptServer.{at_place}
 use Rattle.relation_law.proofs.OwnedBefore.{run, held}
 use Rattle.headline_law.proofs.AuditJobs.{FindsNone, FindsNoneOf, Clears}
-use Rattle.headline_law.proofs.AuditLines.{Audit, audit_line, Tells, Others, Serves, move_tells}
+use Rattle.headline_law.proofs.AuditLines.{Audit, audit_line, audit_noted}
 use Rattle.headline_law.proofs.AuditReads.{AuditLaws, piece_clears}
 use Rattle.headline_law.proofs.AuditSteps.{AllFindNone, FoundBy, EachPieceClears, found_step}
+use Rattle.headline_law.proofs.NotesTold.{Tells, Others, Serves, none_in, move_tells}
 use Rattle.headline_law.proofs.OweAsked.{AreAlone}
 use Rattle.headline_law.proofs.RowsPresent.{safe_server, safe_file}
+use Rattle.headline_law.proofs.SmallLemmas.{in_take}
 
 -- each audit of which these lines tell found no bad stripe
 abbrev NoneTold : List Line → Type 0
 NoneTold ls = (a : Audit) → In (audit_line a) ls → a.bad ≡ 0
-
-in_take : (l : Line) (n : ℕ) (ls : List Line) → In l (take n ls) → In l ls
-in_take l zero ls i = absurd i
-in_take l (suc n) [] i = absurd i
-in_take l (suc n) (x ∷ ls) (inl e) = inl e
-in_take l (suc n) (x ∷ ls) (inr i) = inr (in_take l n ls i)
 
 -- ---- a move
 
@@ -96,14 +93,18 @@ module _ (laws : AuditLaws) (w : World) (h : List Line) (k : IsMoment w h) (scen
   move_finds : (m : Move) → AllFindNone (move w m).world.server.files × NoneTold (lines_in w m)
   move_finds m = by_tells (move_tells w m)
     where
-      by_tells : Tells w (move w m).world (lines_in w m) →
+      by_tells : Tells w (move w m).world m.chosen m.action (lines_in w m) →
           AllFindNone (move w m).world.server.files × NoneTold (lines_in w m)
-      by_tells (Others server none) =
-          (subst (λ (s : Server). AllFindNone s.files) (sym server) all, λ a i. absurd (none a i))
-      by_tells (Serves chosen i heard server told) =
-          let found : FoundBy (step w.server chosen i) = found_step w.server chosen i all safe alone (clears i heard) in (
+      by_tells (Others files none) = (
+        subst AllFindNone (sym files) all,
+        λ a i. absurd (none_in (lines_in w m) none (audit_line a) refl i),
+      )
+      by_tells (Serves i is server told) =
+          let found : FoundBy (step w.server m.chosen i) =
+          found_step w.server m.chosen i all safe alone (clears i (for_server w m.action i is)) in (
             subst (λ (s : Server). AllFindNone s.files) (sym server) found.0,
-            λ a j. found.1 a.file a.high a.short a.bad a.bytes (told a j),
+            λ a j. found.1 a.file a.high a.short a.bad a.bytes
+                (audit_noted (step w.server m.chosen i).notes (lines_in w m) told a j),
           )
 
 -- ---- each moment, and each history

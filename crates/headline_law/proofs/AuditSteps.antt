@@ -21,9 +21,10 @@ use Rattle.server_rules.specs.Standing.{lose_from}
 use Rattle.server_rules.proofs.Members.{in_mapped}
 use Rattle.history_law.specs.Names.{Server, File, Drive, Effects, Component, Grant, Job, Revoking, Note, NoteKind, Spent, Reported, ClientRequest, RequestArgs, Get, Commit, Return}
 use Rattle.history_law.specs.Steps.{Answering, IsAnswering, answered_file, new_file, Refuses, WhileBusy, OnGreatest, StepCases, RequestCases}
-use Rattle.history_law.proofs.Files.{in_at, in_put, in_add}
+use Rattle.history_law.proofs.Files.{in_at}
 use Rattle.history_law.proofs.Hearing.{found_in}
 use Rattle.history_law.proofs.Steps.{each_step, each_request}
+use Rattle.history_law.proofs.JobFiles.{in_add, in_put}
 use Rattle.headline_law.proofs.AuditJobs.{NoneFound, FindsNone, FindsNoneOf, IsClean, Clears, none_more, none_if, same_found, clean_making, clean_fence, clean_hears, clean_declares, clean_opens}
 use Rattle.headline_law.proofs.OweAsked.{AreAlone}
 use Rattle.headline_law.proofs.RowsTurn.{reports_leave, none_taken}

@@ -22,7 +22,7 @@ use Rattle.history_law.specs.Doing.{input_in}
 use Rattle.history_law.specs.Steps.{StepCases, RequestCases}
 use Rattle.history_law.proofs.Reached.{always}
 use Rattle.history_law.proofs.Steps.{each_step, each_request}
-use Rattle.component_law.specs.Performing.{AreDistinct}
+use Rattle.component_law.specs.Distinct.{AreDistinct}
 use Rattle.relation_law.proofs.FramesFiles.{move_stays}
 use Rattle.relation_law.proofs.FramesRan.{same_serves}
 use Rattle.relation_law.proofs.FramesParties.{server_rests, server_steps}
@@ -31,7 +31,8 @@ use Rattle.relation_law.proofs.FramesParties.{server_rests, server_steps}
 abbrev pub GivesNothing : Answer → Type 0
 GivesNothing a = (layouts_in a.results ≡ None) × (a.size ≡ 0)
 
-abbrev IsFile : Server → ℕ → Type 0
+-- the server has the file
+abbrev pub IsFile : Server → ℕ → Type 0
 IsFile s n = (g : File) × (file_at s.files n ≡ Some g)
 
 without_gives : (q : ClientRequest) (args : RequestArgs) → q.args ≡ args → GivesNothing (answer_without q)

@@ -51,21 +51,21 @@ use Rattle.headline_law.proofs.LoggedFiles.{held_file, was_there}
 -- ---- a step of a client
 
 -- a LAYOUTGET is answered, and gives the client this grant
-record TakesGrant (x : Client) (a : Answer) (h : Held) : Type 0 where
-  op : CallOp
-  tries : ℕ
-  call_is : x.call ≡ Some (record { op = op; phase = Waits (Get tries) })
-  takes_it : taken a op ≡ Ok h
+pub record TakesGrant (x : Client) (a : Answer) (h : Held) : Type 0 where
+  pub op : CallOp
+  pub tries : ℕ
+  pub call_is : x.call ≡ Some (record { op = op; phase = Waits (Get tries) })
+  pub takes_it : taken a op ≡ Ok h
 
 -- What is known of a client to which something comes: E holds of each file of which it returns or holds a grant, or is given one.
-record KnownOf (E : ℕ → Type 0) (x : Client) (i : Input) : Type 0 where
-  returning : (r : Request) → x.outstanding ≡ Some r → IsReturning r.args → E r.file
-  holding : (n : ℕ) (h : Held) → held_of x.held n ≡ Some h → E n
-  given : (a : Answer) → IsAnswered x i a → (h : Held) → TakesGrant x a h → E h.file
+pub record KnownOf (E : ℕ → Type 0) (x : Client) (i : Input) : Type 0 where
+  pub returning : (r : Request) → x.outstanding ≡ Some r → IsReturning r.args → E r.file
+  pub holding : (n : ℕ) (h : Held) → held_of x.held n ≡ Some h → E n
+  pub given : (a : Answer) → IsAnswered x i a → (h : Held) → TakesGrant x a h → E h.file
 
 module _ (E : ℕ → Type 0) (x : Client) (i : Input) (k : KnownOf E x i) where
   -- E holds of each file of which a grant is held in the middle of a turn
-  abbrev Holds : Done → Type 0
+  abbrev pub Holds : Done → Type 0
   Holds d = (n : ℕ) (h : Held) → held_of d.client.held n ≡ Some h → E n
 
   abbrev Returns : Client → Type 0
@@ -134,7 +134,7 @@ module _ (E : ℕ → Type 0) (x : Client) (i : Input) (k : KnownOf E x i) where
     by_phase op (Gathers io) is = k.holding
     by_phase op (Scatters io queue) is = k.holding
 
-    answered_held : (o : Option Call) → x.call ≡ o → Holds (on_call freed o a)
+    pub answered_held : (o : Option Call) → x.call ≡ o → Holds (on_call freed o a)
     answered_held None is = k.holding
     answered_held (Some call) is = by_phase call.op call.phase is
 
@@ -190,7 +190,7 @@ module _ (more : OneEventMore) (own : AnswersAreOwn) (agree : ClientsAgree) wher
     abbrev v : World
     v = (move w m).world
 
-    later : (n : ℕ) → IsThere w n → IsThere v n
+    pub later : (n : ℕ) → IsThere w n → IsThere v n
     later n there = (move_stays w m (files_distinct w (reached w h k))).2 n there.0 there.1
 
     module _ (g : Going) (by : ByClient w m.action g (acts w m.chosen m.action)) where
@@ -227,7 +227,7 @@ module _ (more : OneEventMore) (own : AnswersAreOwn) (agree : ClientsAgree) wher
           let there = was_there s.run at.before at.after its.slot.kept.file held.file at.run at.found in
           later x.file (subst (IsThere w) file (there.0, ap (λ (y : Server). file_at y.files its.slot.kept.file) s.is ∙ there.1))
 
-      known : KnownOf (IsThere v) g.state g.input
+      pub known : KnownOf (IsThere v) g.state g.input
       known = record {
         returning = λ r out back. later r.file (before g.client r (ap (λ (z : Client). z.outstanding) then_ ∙ out) back);
         holding = λ n x e.

@@ -1,6 +1,6 @@
 -- For a file that a move makes stands the machine of a file that was just made: `EachFileIsCreated` holds.
-use Rattle.std.proofs.Common.{◌≡◌, ◌++◌, ◌<◌, ◌+◌, ℕ, zero, suc, Bool, true, List, [], ◌∷◌, Option, Some, None, slice_get, refl, sym, ap, subst, ◌∙◌, arith, inl, inr}
-use Rattle.std.proofs.lemmas.Bool.{cases_eq, eq-eqb, eqb-true, ne_eqb}
+use Rattle.std.proofs.Common.{◌≡◌, ◌++◌, ◌<◌, ◌+◌, ℕ, Bool, true, List, [], Option, Some, None, slice_get, refl, sym, ap, subst, ◌∙◌, arith, inl, inr}
+use Rattle.std.proofs.lemmas.Bool.{cases_eq, eq-eqb, ne_eqb}
 use Rattle.std.proofs.lemmas.Option.{same_Some}
 use Rattle.osd_commands.specs.declared.actions.Action.TheVariants as action
 use Rattle.osd_commands.specs.declared.commands.Command.{Command}
@@ -13,16 +13,14 @@ use Rattle.server_rules.specs.Files.{file_at}
 use Rattle.server_rules.specs.Grants.{grant_of}
 use Rattle.server_rules.specs.Laws.{last_of}
 use Rattle.server_rules.specs.Slots.{slot_of}
-use Rattle.client_rules.specs.Calls.{file_of}
 use Rattle.client_rules.specs.Grants.{held_of}
 use Rattle.world_history.specs.Calm.{moment_of}
-use Rattle.world_history.specs.ClientNames.{Client, Call, CallOp, Held, Request, First, Get, Commit, Report, Close, Phase as CallPhase, Starts, Needs, Waits, Reads, Probes, Gathers, Scatters}
+use Rattle.world_history.specs.ClientNames.{Client, Call, Held, Request}
 use Rattle.world_history.specs.Plans.{due}
-use Rattle.world_history.specs.Moves.{op_of}
-use Rattle.world_history.specs.ReadLog.{Log, Logged, Pending, entry_in, log_in, log_of}
+use Rattle.world_history.specs.ReadLog.{Log, log_of}
 use Rattle.world_history.specs.Sending.{Move, move}
 use Rattle.world_history.specs.ServerNames.{Server, File, Component, Grant, Job, Slot}
-use Rattle.world_history.specs.State.{World, at_number}
+use Rattle.world_history.specs.State.{World}
 use Rattle.history_law.specs.BookMoments.{IsMoment, plan_at, lines_in}
 use Rattle.history_law.specs.Unforged.{AreUnforged}
 use Rattle.history_law.proofs.Ending.{next_moment}
@@ -30,8 +28,8 @@ use Rattle.component_law.specs.Going.{EachStepTells}
 use Rattle.component_law.specs.Naming.{AreNamed}
 use Rattle.component_law.specs.Sent.{IsSentByRun}
 use Rattle.component_law.specs.Sound.{IsSound}
-use Rattle.component_law.proofs.MoveFacts.{are_named}
-use Rattle.exchange_law.specs.Calls.{CallFine, PhaseFine}
+use Rattle.component_law.proofs.NamedLines.{are_named}
+use Rattle.exchange_law.specs.Calls.{CallFine}
 use Rattle.exchange_law.specs.InStep.{IsAwaiting, IsInStep, IsServed, StandsAt as InStep}
 use Rattle.exchange_law.specs.Messages.{last_before}
 use Rattle.exchange_law.specs.Meeting.{IsReadableThrough, KeptGood}
@@ -55,15 +53,14 @@ use Rattle.file_simulation.specs.Phases.{AreBelowHigh, IsInUse, Outstanding, Hel
 use Rattle.file_simulation.specs.Relation.{IsClientOf, IsRelated, client_of}
 use Rattle.file_simulation.specs.Requests.{kept_by, kept_for}
 use Rattle.file_simulation.specs.Showing.{ArePaired, ShowsFile, ShowsLines}
-use Rattle.file_simulation.specs.Tied.{AreTied, CallTied, PhaseTied}
+use Rattle.file_simulation.specs.Tied.{AreTied}
 use Rattle.file_simulation.specs.Simulation.{EachFileIsCreated, StandsAt}
 use Rattle.file_simulation.proofs.Fronts.{before_all}
 use Rattle.world_history.specs.Laws.{MomentGoesOn, AllLinesGoOn}
-use Rattle.component_law.specs.Following.{PendingIsRead}
+use Rattle.component_law.specs.LeftPending.{PendingIsRead}
 use Rattle.relation_law.specs.ComponentsBehind.{AreUnready}
 use Rattle.relation_law.specs.Requests.{IsReturning}
-use Rattle.relation_law.specs.Pending.{logged_op}
-use Rattle.relation_law.specs.RequestsClients.{AsksFor, IsAtPhase}
+use Rattle.relation_law.specs.RequestsClients.{AsksFor}
 use Rattle.relation_law.specs.Steps.{AreCalls}
 use Rattle.relation_law.specs.DriveHearing.{AwaitedAreSent}
 use Rattle.relation_law.proofs.BirthsClients.{IsOfNew}
@@ -73,42 +70,22 @@ use Rattle.relation_law.proofs.ComponentsMoved.{MovedLaws, sound_there}
 use Rattle.relation_law.proofs.ComponentsWorld.{awaited_are_sent, ran}
 use Rattle.relation_law.proofs.RequestsClients.{clients_ask_for}
 use Rattle.name_law.specs.ClientTells.{CallsOfTextArePending}
-use Rattle.headline_law.specs.Headline.{NoneIsLoggedBehind}
+use Rattle.headline_law.specs.NotLogged.{NoneIsLoggedBehind}
 use Rattle.headline_law.specs.Returned.{ReturnsAreLow}
 use Rattle.headline_law.specs.Used.{ObjectsAreUsed}
 use Rattle.headline_law.proofs.BirthAnswers.{GivesNothing, absent_give_nothing}
 use Rattle.headline_law.proofs.BirthClients.{client, is_new, requests}
 use Rattle.headline_law.proofs.BirthMachine.{class_for, client_stands, is_lost, is_run, is_young}
+use Rattle.headline_law.proofs.BirthPending.{none_said, calls_tied}
 use Rattle.headline_law.proofs.BirthReturns.{returns_are_there}
 use Rattle.headline_law.proofs.BirthSent as sent
 use Rattle.headline_law.proofs.BornFiles.{IsBorn}
 use Rattle.headline_law.proofs.ClientIdle.{told_idle}
 use Rattle.headline_law.proofs.EntriesLog.{said_of}
-use Rattle.headline_law.proofs.EntriesNamed.{log_well}
 use Rattle.headline_law.proofs.EntriesRead.{moment_plain, said_plain}
 use Rattle.headline_law.proofs.LoggedFiles.{held_file}
 use Rattle.headline_law.proofs.ShownWhole.{ShownLaws, moment_server, shows}
 use Rattle.headline_law.proofs.UsedObjects.{each_object_is_used}
-
--- where no entry is said of a file, there is none of it
-none_said : (file : ℕ) (es : List Logged) → said_of file es ≡ [] → (i : ℕ) (e : Logged) → slice_get es i ≡ Some e →
-    e.file ≡ file → ⊥
-none_said file [] none i e there here = cc there
-none_said file (x ∷ es) none i e there here = elim (cases_eq x.file file) [
-  | inl same ↦ cc (rw (eq-eqb x.file file same) at none)
-  | inr other ↦ by_place i (rw (ne_eqb x.file file other) at none) there
-      (λ j rest later. none_said file es rest j e later here) other
-]
-  where
-    by_place : (j : ℕ) → said_of file es ≡ [] → slice_get (x ∷ es) j ≡ Some e →
-        ((g : ℕ) → said_of file es ≡ [] → slice_get es g ≡ Some e → ⊥) → (x.file ≡ file → ⊥) → ⊥
-    by_place zero rest at later other = other (ap (λ (z : Logged). z.file) (same_Some x e at) ∙ here)
-    by_place (suc j) rest at later other = later j rest at
-
--- the operation of a call that is pending
-abbrev op_of_call : Option Call → Option CallOp
-op_of_call None = None
-op_of_call (Some call) = Some call.op
 
 -- what is known of the world
 pub record BirthLaws : Type 0 where
@@ -450,9 +427,8 @@ module _ (laws : BirthLaws) (w : World) (h : List Line) (m : Move) (k : IsMoment
   shows_file = record {
     layout = young.layout;
     components = λ i at e.
-        shows laws.shown.book laws.shown.more laws.shown.grow v all behind calm.scenario s f i at components e;
+        shows laws.shown.more laws.shown.grow v all behind s f i at components e;
     marks = λ x d. absurd (none_below d.0 d.5);
-    ended = λ j g low. absurd (none_below j low);
   }
 
   shows_lines : ShowsLines all s n []
@@ -463,58 +439,7 @@ module _ (laws : BirthLaws) (w : World) (h : List Line) (m : Move) (k : IsMoment
     calm = λ last is calm_. young_calm (layout_of f.kept.map f.kept.first_tag) s young;
   }
 
-  -- ---- pending calls
-
-  -- no pending call on the file has an entry
-  no_entry : (c : ℕ) → c < CLIENTS → (call : Call) → (client_of v c).call ≡ Some call → file_of call.op ≡ n →
-      entry_in (at_number (log_in all).pending c) ≡ None
-  no_entry c low call is here = by_pending (at_number (log_in all).pending c) refl
-    where
-      agrees : logged_op (at_number (log_in all).pending c) ≡ Some call.op
-      agrees = laws.calls v all behind calm.scenario.text c ∙ ap op_of_call is
-
-      by_entry : (p : Pending) → at_number (log_in all).pending c ≡ Some p → (o : Option ℕ) → p.entry ≡ o → p.entry ≡ None
-      by_entry p at None e = e
-      by_entry p at (Some i) e =
-          let its = (log_well all).1 c i p at e in
-          let op : op_of p.call ≡ call.op = cc (ap logged_op (sym at) ∙ agrees) in
-          absurd (none_said n (log_in all).entries none_logged i its.logged its.there
-          (its.file ∙ ap file_of op ∙ here))
-
-      by_pending : (o : Option Pending) → at_number (log_in all).pending c ≡ o →
-          entry_in (at_number (log_in all).pending c) ≡ None
-      by_pending None at = ap entry_in at
-      by_pending (Some p) at = ap entry_in at ∙ by_entry p at p.entry refl
-
-  call_tied : (c : ℕ) (o : Option ℕ) (op : CallOp) (p : CallPhase) → o ≡ None → IsAtPhase (client_of v c) op p → file_of op ≡ n →
-      PhaseFine (KeptGood w.server c) None (client_of v c).outstanding op p → PhaseTied s c [] o p
-  call_tied c o op Starts none is here k = none
-  call_tied c o op (Needs First) none is here k = none
-  call_tied c o op (Needs (Get tries)) none is here k = none
-  call_tied c o op (Needs (Commit timed)) none is here k = absurd k.0.0
-  call_tied c o op (Needs (Report timed)) none is here k = absurd k.0
-  call_tied c o op (Needs (Close u report)) none is here k = tt
-  call_tied c o op (Waits First) none is here k = none
-  call_tied c o op (Waits (Get tries)) none is here k = none
-  call_tied c o op (Waits (Commit timed)) none is here k = absurd k.writes
-  call_tied c o op (Waits (Report timed)) none is here k =
-      let asked = (asks c).waits op (Report timed) is in
-      absurd (gone c asked.request asked.outstanding (subst IsReturning (sym asked.asks.1.1) tt) (asked.file_is ∙ here))
-  call_tied c o op (Waits (Close u report)) none is here k = tt
-  call_tied c o op (Reads io) none is here k = absurd k.0
-  call_tied c o op (Probes io) none is here k = absurd k.0
-  call_tied c o op (Gathers io) none is here k = none
-  call_tied c o op (Scatters io queue) none is here k = absurd k.0
-
-  calls_tied : (c : ℕ) → c < CLIENTS → (call : Option Call) → (client_of v c).call ≡ call →
-      CallFine (KeptGood w.server c) (client_of v c).held (client_of v c).outstanding call →
-      CallTied s n c [] (entry_in (at_number (log_in all).pending c)) call
-  calls_tied c low None is k = tt
-  calls_tied c low (Some call) is k = λ here.
-      let same : file_of call.op ≡ n = eqb-true (file_of call.op) n here in
-      call_tied c (entry_in (at_number (log_in all).pending c)) call.op call.phase (no_entry c low call is same) is same
-      (subst (λ (o : Option Held). PhaseFine (KeptGood w.server c) o (client_of v c).outstanding call.op call.phase)
-      (ap (held_of (client_of v c).held) same ∙ none_held c) k.1)
+  -- ---- the lines and the machine
 
   none_given : (a : machine.Answer) (x : machine.Grant) → InRun a s.answers → a.grant ≡ Some x → ⊥
   none_given a x i e = cc (sym (young.answers a i) ∙ e)
@@ -522,7 +447,9 @@ module _ (laws : BirthLaws) (w : World) (h : List Line) (m : Move) (k : IsMoment
   tied : AreTied v all s n []
   tied = record {
     single = λ i j k a. absurd a;
-    calls = λ c low. calls_tied c low (client_of v c).call refl (fine c);
+    calls = λ c low.
+        calls_tied all n none_logged w.server s (client_of v) (laws.calls v all behind calm.scenario.text) asks none_held gone c
+        low (client_of v c).call refl (fine c);
     apart = λ a x i e. absurd (none_given a x i e);
     over = λ c number t q there taken asked last back. record {
       low = laws.low v all behind calm.scenario c number q asked back;
@@ -538,6 +465,7 @@ module _ (laws : BirthLaws) (w : World) (h : List Line) (m : Move) (k : IsMoment
     run = is_run v f new;
     related = record { kept_file = f; there = there; related = related };
     shown = shows_lines;
+    over = λ j g low. absurd (none_below j low);
     tied = tied;
     writes = λ j c d i x at posted write e object lost y sent holder nonce here.
         absurd (subst (InRun y) young.writes sent);

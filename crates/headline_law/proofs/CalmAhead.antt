@@ -23,8 +23,8 @@ use Rattle.relation_law.specs.Frames.{AreAll}
 use Rattle.relation_law.specs.Steps.{Follows, owed, behind}
 use Rattle.relation_law.proofs.CalmRuns.{calms_more, calm_now}
 use Rattle.relation_law.proofs.ComponentsMachine.{right_run}
-use Rattle.relation_law.proofs.FramesGrow.{after_more}
 use Rattle.relation_law.proofs.RequestsLawful.{lawful_more}
+use Rattle.relation_law.proofs.KeptNotes.{after_both}
 use Rattle.headline_law.specs.Parts.{CutsAreRuns, CutsShowCalm}
 use Rattle.headline_law.proofs.CalmCodes.{code_of}
 use Rattle.headline_law.proofs.CalmEvents.{IsPeaceful, calm_peaceful, calm_refailed}
@@ -39,7 +39,7 @@ run_on s e run allowed calm =
     let calms_there : Calms (reached s.layout run.events) (e ∷ []) =
     subst (λ (z : State). Calms z (e ∷ [])) run.state (calm_now s run, calm) in
     let there : after_all (new_file_state s.layout) (run.events ++ e ∷ []) ≡ after s e =
-    after_more (new_file_state s.layout) run.events (e ∷ []) ∙ ap (λ (z : State). after z e) (sym run.state) in
+    after_both (new_file_state s.layout) run.events (e ∷ []) ∙ ap (λ (z : State). after z e) (sym run.state) in
     record {
       events = run.events ++ e ∷ [];
       lawful = subst (λ (l : Layout). Lawful (new_file_state l) (run.events ++ e ∷ [])) (sym layout)

@@ -14,14 +14,13 @@ use Rattle.world_history.specs.Book.{ServerSeen}
 use Rattle.world_history.specs.Calm.{Seen, seen, sees, first_seen, moment_of}
 use Rattle.history_law.specs.BookMoments.{lines_in}
 use Rattle.history_law.specs.Read.{server_of, BookIsRead}
-use Rattle.history_law.proofs.Staying.{written_front}
-use Rattle.exchange_law.proofs.CountGrowing.{fewer, text_front}
 use Rattle.exchange_law.proofs.Knowing.{lawful_at}
-use Rattle.component_law.proofs.MoveFacts.{seen_server}
+use Rattle.component_law.proofs.SeenServer.{seen_server}
 use Rattle.fence_law.specs.Law.{IsCode}
 use Rattle.fence_law.specs.State.{State}
 use Rattle.plan_law.proofs.Codes.{layouts_are_codes}
 use Rattle.file_simulation.specs.Claim.{IsOfScenario}
+use Rattle.file_simulation.proofs.Fronts.{scenario_before}
 use Rattle.relation_law.specs.Steps.{Follows}
 use Rattle.relation_law.proofs.BirthsShaped.{files_are_shaped}
 
@@ -42,11 +41,7 @@ server_shown s (t ∷ ts) same = server_shown (sees s t) ts refl
 module _ (book : BookIsRead) (w : World) (h : List Line) (m : Move) (count : ℕ) (f g : File) (s : State)
     (k : Follows w h m count f g s) where
   scenario : IsOfScenario h
-  scenario = record {
-    written = written_front h (take count (lines_in w m)) k.calm.scenario.written;
-    text = text_front h (take count (lines_in w m)) k.calm.scenario.text;
-    few = fewer h (take count (lines_in w m)) k.calm.scenario.few;
-  }
+  scenario = scenario_before h (take count (lines_in w m)) k.calm.scenario
 
   -- what is seen of the server, and of its files at the moment
   pub server_seen_is : (seen h).server ≡ server_of w

@@ -24,13 +24,13 @@ use Rattle.history_law.specs.Read.{BookIsRead, AreWritten, server_of, leads}
 use Rattle.history_law.proofs.Staying.{written_front, written_behind}
 use Rattle.component_law.specs.Naming.{IsNamed, IsNamedInput}
 use Rattle.component_law.proofs.FileFacts.{named_input}
-use Rattle.component_law.proofs.MoveFacts.{are_named, named_line}
+use Rattle.component_law.proofs.NamedLines.{are_named, named_line}
 use Rattle.history_law.proofs.Leading.{Leads, Silent, Heads, delivers_lead}
 use Rattle.component_law.proofs.MoveOpening.{begins_bare}
 use Rattle.history_law.proofs.BookLines.{two_steps}
 use Rattle.component_law.proofs.Shapes as shapes
 use Rattle.component_law.proofs.Shapes.{Bare, Shape, Nothing, Left, sent_bare, delivers_shape}
-use Rattle.component_law.specs.Following.{is_opening}
+use Rattle.component_law.specs.Opening.{is_opening}
 use Rattle.fence_law.specs.State.{State}
 use Rattle.file_simulation.specs.Cuts.{lines_before}
 use Rattle.relation_law.specs.Steps.{Follows}

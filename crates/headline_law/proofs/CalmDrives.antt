@@ -159,7 +159,7 @@ module _ (book : BookIsRead) (goes : MomentGoesOn) (w : World) (h : List Line) (
           (λ (y : Mark) (i : In y (moment_of h).marks).
           subst (In y) (sym (append-nil (moment_of h).marks)) i) t.0 x (shown_file.marks x t);
     },
-    left_before h s f pairs k.shown shown_file (failing h d) refl,
+    left_before h s f pairs k.shown k.over (failing h d) refl,
   )
 
   good_on : (t : State) (j : ℕ) (at : Component) → slice_get f.kept.components j ≡ Some at → (at.drive == d) ≡ true →

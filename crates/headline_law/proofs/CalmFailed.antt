@@ -17,7 +17,7 @@ use Rattle.history_law.proofs.DriveLines.{drive_read}
 use Rattle.history_law.proofs.Moments.{no_event}
 use Rattle.exchange_law.proofs.SlotMoments.{always}
 use Rattle.component_law.proofs.Failed.{declared_have_failed}
-use Rattle.component_law.proofs.MoveFollowing.{first_begun}
+use Rattle.component_law.proofs.NextMoves.{first_begun}
 use Rattle.file_simulation.specs.Components.{has_failed}
 use Rattle.headline_law.specs.Ending.{FailedAreRead}
 

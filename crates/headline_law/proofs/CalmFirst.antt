@@ -1,5 +1,5 @@
 -- The first line of a step of the server: its events end no calm, and begin a fence only where the file is seen to begin one.
-use Rattle.std.proofs.Common.{◌≡◌, ◌⊎◌, ◌+◌, ◌==◌, ◌++◌, ℕ, Bool, true, false, List, [], ◌∷◌, Option, Some, None, refl, inl, inr, if◌then◌else◌}
+use Rattle.std.proofs.Common.{◌≡◌, ◌⊎◌, ◌+◌, ◌==◌, ℕ, Bool, true, false, List, [], ◌∷◌, Option, Some, None, refl, inl, inr, if◌then◌else◌}
 use Rattle.std.proofs.lemmas.Bool.{cases_Bool, eqb-true}
 use Rattle.osd_lists.specs.declared.node.Node.{Node}
 use Rattle.osd_lists.specs.declared.node.Node.TheVariants as node
@@ -14,6 +14,8 @@ use Rattle.fence_law.specs.State.RequestKind.{Get, Return}
 use Rattle.file_simulation.specs.EventLists.{where_so, of_grant, entry_of}
 use Rattle.file_simulation.specs.ServerEvents as table
 use Rattle.relation_law.specs.Frames.{AreAll}
+use Rattle.relation_law.proofs.FramesStay.{all_more}
+use Rattle.relation_law.proofs.FramesClient.{where_all}
 use Rattle.headline_law.specs.Ending.{MayBegin, ByRequest, ByOrder, ByOpening, IsJobOrder}
 use Rattle.headline_law.proofs.CalmEvents.{IsPeaceful, PerformsNone, LosesNone}
 use Rattle.headline_law.proofs.CalmNotes.{FencesNone}
@@ -22,14 +24,6 @@ use Rattle.headline_law.proofs.CalmNotes.{FencesNone}
 abbrev pub IsFirst : (begins : Bool) → Event → Type 0
 IsFirst true e = IsPeaceful e × PerformsNone e × LosesNone e
 IsFirst false e = IsPeaceful e × PerformsNone e × LosesNone e × FencesNone e
-
-more_all : (P : Event → Type 0) (es fs : List Event) → AreAll P es → AreAll P fs → AreAll P (es ++ fs)
-more_all P [] fs a b = b
-more_all P (e ∷ es) fs a b = (a.0, more_all P es fs a.1 b)
-
-where_first : (P : Event → Type 0) (b : Bool) (es : List Event) → AreAll P es → AreAll P (where_so b es)
-where_first P true es a = a
-where_first P false es a = tt
 
 either_first : (P : Event → Type 0) (b : Bool) (es fs : List Event) → AreAll P es → AreAll P fs →
     AreAll P (if b then es else fs)
@@ -73,7 +67,7 @@ first_events s server did f g i b is = by i
     return_first : (c : ℕ) (kind : machine.RequestKind) → AreAll P (table.return_served s c kind f g)
     return_first c (Return true) = (plain (machine.Event.Frees c) (tt, tt, tt) (tt, tt, tt, tt), tt)
     return_first c (Return false) =
-        more_all P (table.fences f g) _ fence
+        all_more P (table.fences f g) _ fence
         (plain (machine.Event.Refuses c (Return false)) (tt, tt, tt) (tt, tt, tt, tt), tt)
     return_first c (Get wide) = tt
 
@@ -95,7 +89,7 @@ first_events s server did f g i b is = by i
 
     heard_first : (from : Node) (m : Message) → AreAll P (table.heard s server did f g from m)
     heard_first (node.Client c) (Asks q) =
-        where_first P (table.is_served server c q) _
+        where_all P (table.is_served server c q) _
         (either_first P (q.file == f.kept.number) _ _
         (served_first q.client q.args (table.is_ok (table.answer_of did.sends))) (served_one q.client, tt))
     heard_first (node.Client c) (Replies r) = tt
@@ -110,13 +104,13 @@ first_events s server did f g i b is = by i
         declared : (cs : List Component) (k : ℕ) → AreAll P (table.declared_from d cs k)
         declared [] k = tt
         declared (at ∷ cs) k =
-            more_all P (where_so (at.drive == d) (Declares k ∷ [])) (table.declared_from d cs (k + 1))
-            (where_first P (at.drive == d) (Declares k ∷ []) (plain (Declares k) (tt, tt, tt) (tt, tt, tt, tt), tt))
+            all_more P (where_so (at.drive == d) (Declares k ∷ [])) (table.declared_from d cs (k + 1))
+            (where_all P (at.drive == d) (Declares k ∷ []) (plain (Declares k) (tt, tt, tt) (tt, tt, tt, tt), tt))
             (declared cs (k + 1))
     by (Obeys ToRecall n) = tt
-    by (Obeys ToRevoke n) = where_first P (n == f.kept.number) _ fence
-    by (Obeys ToRebuild n) = where_first P (n == f.kept.number) _ fence
-    by (Obeys ToAudit n) = where_first P (n == f.kept.number) _ fence
+    by (Obeys ToRevoke n) = where_all P (n == f.kept.number) _ fence
+    by (Obeys ToRebuild n) = where_all P (n == f.kept.number) _ fence
+    by (Obeys ToAudit n) = where_all P (n == f.kept.number) _ fence
     by Opens = fence
     by (Makes n m tag zoned) = tt
     by (Adds d) = tt
@@ -153,8 +147,8 @@ first_form s server did f g i = by i refl
     declared : (d : ℕ) (cs : List Component) (k : ℕ) → AreAll FencesNone (table.declared_from d cs k)
     declared d [] k = tt
     declared d (at ∷ cs) k =
-        more_all FencesNone (where_so (at.drive == d) (Declares k ∷ [])) (table.declared_from d cs (k + 1))
-        (where_first FencesNone (at.drive == d) (Declares k ∷ []) (tt, tt)) (declared d cs (k + 1))
+        all_more FencesNone (where_so (at.drive == d) (Declares k ∷ [])) (table.declared_from d cs (k + 1))
+        (where_all FencesNone (at.drive == d) (Declares k ∷ []) (tt, tt)) (declared d cs (k + 1))
 
     heard : (now : ℕ) (from : Node) (m : Message) → i ≡ Hears now from m →
         AreAll FencesNone (table.heard s server did f g from m) ⊎ MayBegin server f i

@@ -11,11 +11,11 @@ use Rattle.history_law.specs.BookMoments.{lines_in}
 use Rattle.history_law.specs.Read.{BookIsRead}
 use Rattle.history_law.proofs.Staying.{written_front}
 use Rattle.component_law.specs.Going.{Goes, taken_out}
-use Rattle.component_law.specs.Performing.{AreDistinct}
+use Rattle.component_law.specs.Distinct.{AreDistinct}
 use Rattle.component_law.specs.Sound.{IsSound}
 use Rattle.component_law.specs.Seeing.{SeenIsSound}
 use Rattle.component_law.proofs.Making.{each_step_tells}
-use Rattle.component_law.proofs.MoveFacts.{are_named}
+use Rattle.component_law.proofs.NamedLines.{are_named}
 use Rattle.relation_law.proofs.FramesFiles.{files_distinct}
 use Rattle.relation_law.proofs.FramesParties.{server_steps}
 use Rattle.headline_law.specs.Ending.{StepsEndGrants}
@@ -26,7 +26,7 @@ use Rattle.headline_law.proofs.CalmRows.{fresh_none}
 use Rattle.headline_law.proofs.CalmWays.{fresh_behind}
 
 -- the file behind the step
-there_behind : (i : Input) (out : Option ℕ) (lines : List Line) (n : ℕ) (f : File) (p : Option File) →
+pub there_behind : (i : Input) (out : Option ℕ) (lines : List Line) (n : ℕ) (f : File) (p : Option File) →
     Goes i out lines n (Some f) p → (y : File) × (p ≡ Some y) × (y.kept.map ≡ f.kept.map)
 there_behind i out lines n f None k = absurd k
 there_behind i out lines n f (Some y) k = (y, refl, k.map)

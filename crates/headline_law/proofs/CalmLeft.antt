@@ -9,7 +9,8 @@ use Rattle.world_history.specs.ReadLog.{Logged, Log}
 use Rattle.world_history.specs.Stripes.{Moment, Mark, is_left}
 use Rattle.world_history.specs.Calm.{moment_of}
 use Rattle.fence_law.specs.State.{State}
-use Rattle.file_simulation.specs.Showing.{Pairs, HasMark, ShowsFile, ShowsLines, IsSame}
+use Rattle.file_simulation.specs.Simulation.{EarlierAreOver}
+use Rattle.file_simulation.specs.Showing.{Pairs, HasMark, ShowsLines, IsSame}
 use Rattle.headline_law.specs.Marks.{AreLeft}
 
 -- no live grant of the file has this number
@@ -35,8 +36,8 @@ marked_before s m n f pairs more j x (inr none) = inr none
 
 -- what tore a column is unfinished, and its grant is over
 pub left_before : (h : List Line) (s : State) (f : File) (pairs : Pairs) → ShowsLines h s f.kept.number pairs →
-    ShowsFile h s pairs f → (n : Moment) → n.log ≡ (moment_of h).log → AreLeft s n f pairs
-left_before h s f pairs lines shown n same x i t coded pair =
+    EarlierAreOver s f → (n : Moment) → n.log ≡ (moment_of h).log → AreLeft s n f pairs
+left_before h s f pairs lines over n same x i t coded pair =
     let p = lines.paired.same i t.0 pair in
     let e : Logged = p.0 in
     let is : IsSame s f.kept.number t.0 e = p.2 in
@@ -44,5 +45,5 @@ left_before h s f pairs lines shown n same x i t coded pair =
       entry = e;
       found = ap (λ (l : Log). slice_get l.entries i) same ∙ p.1;
       unfinished = is.unfinished t.6 ∙ ap not t.7;
-      left = left_then n f e (λ g there number. shown.ended t.0 g t.5 t.12 there (number ∙ sym is.grant));
+      left = left_then n f e (λ g there number. over t.0 g t.5 t.12 there (number ∙ sym is.grant));
     }

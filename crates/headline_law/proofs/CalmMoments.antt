@@ -69,7 +69,7 @@ stay_beside ks what n o rs k other i = i
 abbrev pub with_parts : File → List Component → File
 with_parts f cs = record f { kept = record f.kept { components = cs } }
 
-noted_file : (fs : List File) (m n : ℕ) (what : ToldNote) (x : File) → file_at fs n ≡ Some x →
+pub noted_file : (fs : List File) (m n : ℕ) (what : ToldNote) (x : File) → file_at fs n ≡ Some x →
     file_at (noted_in fs m what (file_at fs m)) n
     ≡ Some (with_parts x (if m == n then noted x.kept.components what else x.kept.components))
 noted_file fs m n what x e = elim (cases_eq m n) [

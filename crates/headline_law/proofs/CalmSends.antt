@@ -5,8 +5,7 @@ use Rattle.std.specs.Int.{w16, w32, w64, to_be_bytes}
 use Rattle.std.specs.List.{list_any}
 use Rattle.std.proofs.lemmas.Bool.{cases_Bool}
 use Rattle.xdr_codec.specs.Items.{u32_item}
-use Rattle.xdr_codec.specs.Reading.{Rest, ◌>>=◌}
-use Rattle.xdr_codec.proofs.ItemLaws.{bind_ok, ok_is}
+use Rattle.xdr_codec.specs.Reading.{Rest}
 use Rattle.layout_ops.specs.declared.err.OpErr.{OpErr}
 use Rattle.layout_ops.specs.declared.messages.Answer.{Answer}
 use Rattle.layout_ops.specs.declared.envelope.Envelope.{Envelope}
@@ -14,7 +13,6 @@ use Rattle.layout_ops.specs.declared.envelope.Envelope.TheVariants as envelope
 use Rattle.layout_ops.specs.Spelling.{AnswerFits, envelope_item}
 use Rattle.layout_ops.specs.Reading.{recall_in, order_answer_in, envelope_behind, envelope_in, envelope_of}
 use Rattle.layout_ops.proofs.Fields.{u32_law}
-use Rattle.layout_ops.proofs.Steps.{named}
 use Rattle.layout_ops.proofs.Whole.{all_again}
 use Rattle.osd_commands.specs.declared.commands.Command.{Command}
 use Rattle.osd_commands.specs.Actions.{number_of}
@@ -27,6 +25,7 @@ use Rattle.world_history.specs.Sending.{sent_line, sent_lines}
 use Rattle.world_history.specs.Calm.{is_told_taken, is_taken_out, says_taken, sent_taken}
 use Rattle.history_law.proofs.Fronts.{codec_gets, next}
 use Rattle.history_law.proofs.Parts.{message_ends}
+use Rattle.history_law.proofs.Given.{other_kind}
 
 -- ---- bytes that begin with the number of another kind
 
@@ -53,17 +52,11 @@ not_taken k low never more bytes is e =
     (λ n i1 same a1 r1.
     never i1 ends.rest 0 r.0 (subst (λ (x : ℕ). envelope_behind 0 (x, i1) ≡ Ok (envelope.Answer r.0, ends.rest)) same r1))
 
-other_name : {V : Type 0} (read : Rest → Result (V × Rest) OpErr) (name : V → Envelope) (i : Rest) (a : Answer) (j : Rest) →
-    ((v : V) → name v ≡ envelope.Answer a → ⊥) → (read i >>= named name) ≡ Ok (envelope.Answer a, j) → ⊥
-other_name read name i a j not e =
-    let b = bind_ok (read i) (named name) (envelope.Answer a, j) e in
-    not b.0.0 (ap (λ (p : Envelope × Rest). p.0) (ok_is _ (envelope.Answer a, j) b.2))
-
 recall_kind : IsOtherKind 3
-recall_kind i j at a e = other_name recall_in envelope.Recall i a j (λ v f. absurd (cc f)) e
+recall_kind i j at a e = other_kind recall_in envelope.Recall i a j (λ v f. absurd (cc f)) e
 
 order_kind : IsOtherKind 6
-order_kind i j at a e = other_name order_answer_in envelope.OrderAnswer i a j (λ v f. absurd (cc f)) e
+order_kind i j at a e = other_kind order_answer_in envelope.OrderAnswer i a j (λ v f. absurd (cc f)) e
 
 command_kind : IsOtherKind magic
 command_kind i j at a e = absurd (cc e)

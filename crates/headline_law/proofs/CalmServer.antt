@@ -83,7 +83,7 @@ begun_number untold before x = by untold (file_at before x.kept.number) refl
     by false (Some y) e = (is_begun false before x y e).number
 
 -- each is found there
-begun_each : (untold : Bool) (before fs : List File) (n : ℕ) (x : File) → file_at fs n ≡ Some x →
+pub begun_each : (untold : Bool) (before fs : List File) (n : ℕ) (x : File) → file_at fs n ≡ Some x →
     file_at (map (begun_file untold before) fs) n ≡ Some (begun_file untold before x)
 unfolding file_at
 begun_each untold before [] n x e = absurd (cc e)

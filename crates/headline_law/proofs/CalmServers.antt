@@ -21,9 +21,8 @@ use Rattle.file_simulation.specs.ServerEvents.{server_events, server_goes}
 use Rattle.file_simulation.specs.Showing.{Pairs, IsRun}
 use Rattle.relation_law.specs.Frames.{AreAll, LinesAre}
 use Rattle.relation_law.specs.Steps.{owed}
-use Rattle.relation_law.proofs.FramesGrow.{after_more}
 use Rattle.relation_law.proofs.FramesParties.{server_alone, server_steps, drive_quiet, Never}
-use Rattle.relation_law.proofs.KeptNotes.{lawful_front, lawful_back}
+use Rattle.relation_law.proofs.KeptNotes.{lawful_front, lawful_back, after_both}
 use Rattle.headline_law.specs.Parts.{FollowsShown, AreLawful, ServersKeepRuns}
 use Rattle.headline_law.proofs.CalmServer.{MarkLaws, first, t, later, Behind, step_runs}
 
@@ -60,7 +59,7 @@ splits true (suc zero) one ls rest a = inl (omega arith, refl)
 splits true (suc (suc j)) one ls rest a =
     inr (j, omega arith, ap (λ (es : List Event). one ++ es) (tail_quiet j ls rest a))
 
-splits_at : (a : Action) (n : ℕ) (one : List Event) (ls rest : Lines) → LinesAre Never rest →
+pub splits_at : (a : Action) (n : ℕ) (one : List Event) (ls rest : Lines) → LinesAre Never rest →
     Splits (lines_before a) n one ls (led_by a ((one ∷ ls) ++ rest))
 splits_at (Opens e) n one ls rest q = splits (leads e) n one ls rest q
 splits_at (Delivers number) n one ls rest q = splits false n one ls rest q
@@ -129,7 +128,7 @@ module _ (laws : MarkLaws) (w : World) (h : List Line) (m : Move) (count : ℕ) 
               behind =
                   step_runs laws w h m count f g s pairs k i is (count - lines_before m.action) whole p.0
                   (omega (arith, low, at)) (lawful_front s one rest law) (lawful_back s one rest law);
-              state = ap (after_all s) p.2 ∙ after_more s one rest;
+              state = ap (after_all s) p.2 ∙ after_both s one rest;
             })
       ]
 

@@ -30,8 +30,7 @@ use Rattle.file_simulation.specs.ServerEvents.{notes_all, sends_all}
 use Rattle.file_simulation.specs.Showing.{Pairs, IsRun}
 use Rattle.relation_law.specs.Frames.{AreAll, LinesAre}
 use Rattle.relation_law.proofs.CalmRuns.{calm_now}
-use Rattle.relation_law.proofs.KeptNotes.{lawful_front, lawful_back}
-use Rattle.relation_law.proofs.FramesGrow.{after_more}
+use Rattle.relation_law.proofs.KeptNotes.{lawful_front, lawful_back, after_both}
 use Rattle.relation_law.proofs.FramesStay.{all_joined, lines_taken}
 use Rattle.headline_law.specs.Ending.{is_dangerous}
 use Rattle.headline_law.specs.Watching.{IsSeen, Leaves, AllLeave}
@@ -211,6 +210,6 @@ module _ (s : State) (m : Moment) (f g : File) (grants : List Grant) (pairs : Pa
         let on = note_run handles x (in_all x (inl refl)) t wd.moment code h.0 h.1
         (lawful_front t es (joined (take j rest)) l) now in
         subst (λ (z : State). Behind z (fold (watches rs) wd_behind (take j (map note_line ns ++ more))).moment)
-        (sym (after_more t es (joined (take j rest))))
+        (sym (after_both t es (joined (take j rest))))
         (notes_run ns j q u wd_behind (omega (arith, low)) (λ y k. in_all y (inr k)) (code_all t es code)
         (lawful_back t es (joined (take j rest)) l) calm on)

@@ -27,7 +27,7 @@ use Rattle.headline_law.proofs.CalmSends.{sends_back}
 
 -- ---- lines
 
-or_true : (b : Bool) → (b || true) ≡ true
+pub or_true : (b : Bool) → (b || true) ≡ true
 or_true true = refl
 or_true false = refl
 

@@ -17,7 +17,7 @@ use Rattle.world_history.specs.ServerNames.{Server, File, Grant, Drive, JobKind,
 use Rattle.history_law.specs.Files.{FilesGo, Quiet, Asked, FileCases}
 use Rattle.history_law.proofs.Files.{files_go, put_gives}
 use Rattle.history_law.proofs.Steps.{each_request}
-use Rattle.component_law.specs.Performing.{AreDistinct}
+use Rattle.component_law.specs.Distinct.{AreDistinct}
 use Rattle.component_law.proofs.PartyJobs.{stays_heard, stays_declared}
 use Rattle.relation_law.proofs.KeptRequests.{ends_served}
 use Rattle.relation_law.proofs.KeptServer.{at_place, HasNumber, number_walked}

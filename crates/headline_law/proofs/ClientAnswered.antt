@@ -14,13 +14,14 @@ use Rattle.fence_law.specs.State.{State}
 use Rattle.fence_law.specs.State.{Event as event}
 use Rattle.fence_law.specs.Machine.{Lawful, after}
 use Rattle.fence_law.proofs.Commands.{Calls}
-use Rattle.file_simulation.specs.Calls.{CallAt, CallOn, IsClient, ReportIs, WaitIs, WaitsCommit}
+use Rattle.file_simulation.specs.Calls.{IsClient, ReportIs, WaitIs, WaitsCommit}
 use Rattle.file_simulation.specs.Requests.{RequestClass, Own, Other, phase_of, return_class}
 use Rattle.file_simulation.specs.EventLists.{entry_of}
 use Rattle.file_simulation.specs.ClientEvents as table
 use Rattle.relation_law.specs.CallsFits.{AnswerFits, AskedFor, IsCommit, IsGet, IsReturn}
 use Rattle.relation_law.specs.Requests.{FirstMay}
 use Rattle.relation_law.proofs.CallsGuards.{not_waiting, writes_busy, breaks_allowed, forgets_allowed, takes_commit_allowed, takes_refusal_allowed}
+use Rattle.relation_law.proofs.CallsReceived.{wait_on}
 
 -- a commit is no return and no LAYOUTGET
 no_return : (z : Args) → IsReturn z → IsCommit z → ⊥
@@ -81,12 +82,7 @@ module _ (file : ℕ) (m : RawMap) (c : ℕ) (s : State) (calls : Calls s) (x : 
     on_file = ap (λ (f : ℕ). f == file) (sym (fits.waits op n is).0) ∙ here
 
     wait_is : WaitIs s c op (Some a) n
-    wait_is = at_here (file_of op == file) on_file (subst (λ z. CallAt file m s c (Some a) z) is k.call)
-      where
-        at_here : (b : Bool) → b ≡ true → CallOn b m s c (record { op = op; phase = Waits n }) (Some a) →
-            WaitIs s c op (Some a) n
-        at_here true e w = w
-        at_here false e w = absurd (true≢false (sym e))
+    wait_is = wait_on file m s c x a op n on_file is k.call
 
   -- ---- any answer
 

@@ -3,8 +3,8 @@ use Rattle.std.proofs.Common.{◌≡◌, ◌==◌, ℕ, Bool, true, false, List,
 use Rattle.std.proofs.lemmas.Bool.{eq-eqb, eqb-true}
 use Rattle.data_map.specs.declared.check.RawMap.{RawMap}
 use Rattle.client_rules.specs.Calls.{file_of}
-use Rattle.client_rules.specs.Going.{asks_server, asks_under, due_behind, after_number, progressed, request_of, requests, returns}
-use Rattle.client_rules.specs.Grants.{held_of, without_held}
+use Rattle.client_rules.specs.Going.{asks_server, asks_under, progressed, request_of, requests, returns}
+use Rattle.client_rules.specs.Grants.{held_of}
 use Rattle.client_rules.specs.Messages.{to_drive, sends_of}
 use Rattle.client_rules.specs.Requests.{args_of, return_args}
 use Rattle.history_law.proofs.Turns.{each_progress}
@@ -20,6 +20,7 @@ use Rattle.relation_law.specs.Requests.{CallAllows}
 use Rattle.relation_law.proofs.CallsAsks.{asked_client, asked_args}
 use Rattle.relation_law.proofs.CallsGuards.{asks_commit_allowed}
 use Rattle.relation_law.proofs.CallsMid.{held_plain}
+use Rattle.relation_law.proofs.CallsTurned.{returned}
 use Rattle.relation_law.proofs.CallsTells.{recalls_told}
 use Rattle.relation_law.proofs.RequestsAskLawful.{asks_lawful}
 use Rattle.headline_law.proofs.ClientMessages.{MaySendThese, messages_more, recalls_may, commands_may}
@@ -184,21 +185,12 @@ module _ (file : ℕ) (m : RawMap) (c : ℕ) (s : State) (op : Option CallOp) (s
       quiet_now : (t : State) (x : Client) (cs : List Awaited) → x.call ≡ None → MaySendThese t file c x (map to_drive cs)
       quiet_now t x cs e = commands_may t file c x cs (λ u z. rw e refl)
 
-      -- the client behind the return of this grant
-      abbrev returned : Due → Client
-      returned u = record y {
-        due = due_behind y.held y.due;
-        next = after_number y.next;
-        outstanding = Some (request_of y u.file (return_args u.number []));
-        held = without_held y.held u.file;
-      }
-
       due_of : (u : Option Due) → IsSentSo (returns d u)
       unfolding requests
       due_of None = none_may s file c (record y { due = [] }) d.recalls d.requests d.commands k.unasked
           (quiet_now s (record y { due = [] }) d.commands none)
       due_of (Some u) =
-          let x : Client = returned u in
+          let x : Client = returned y u in
           let r : Request = request_of y u.file (return_args u.number []) in
           one_may s file c x d.recalls d.requests r d.commands k.unasked
           (asks_lawful s c (may.rests out) file x r

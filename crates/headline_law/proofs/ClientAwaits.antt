@@ -8,17 +8,19 @@ use Rattle.osd_commands.specs.declared.commands.Command.{Command}
 use Rattle.osd_drive.specs.Table.{is_write as is_write_action}
 use Rattle.scenario_text.specs.declared.line.Line.{Line}
 use Rattle.server_rules.specs.Laws.{In}
+use Rattle.client_rules.specs.Calls.{is_write}
 use Rattle.client_rules.specs.History.{Input, Calls, Hears, TimesOut, Leaves, Resends, step, unless_refused}
 use Rattle.client_rules.specs.Io.{awaited_in}
 use Rattle.client_rules.specs.Messages.{Step, awaited_of}
 use Rattle.client_rules.specs.Steps.{calls}
-use Rattle.world_history.specs.ClientNames.{Awaited, Busy, Call, CallErr, CallOp, Client, Outcome, Phase, Starts, Needs, Waits, Reads, Probes, Gathers, Scatters}
+use Rattle.world_history.specs.ClientNames.{Awaited, Busy, Call, CallErr, CallOp, Client, Held, Outcome, Phase, Request, Starts, Needs, Waits, Reads, Probes, Gathers, Scatters}
 use Rattle.world_history.specs.declared.messages.Body.TheVariants.{Command as OfCommand}
 use Rattle.world_history.specs.declared.messages.Message.{Message}
 use Rattle.world_history.specs.Moves.{acts}
 use Rattle.world_history.specs.Sending.{Move, move}
 use Rattle.world_history.specs.State.{World, ClientAt, at_number}
 use Rattle.history_law.specs.Moments.{IsMoment, lines_in}
+use Rattle.exchange_law.specs.Calls.{Knows, PhaseFine}
 use Rattle.exchange_law.specs.InStep.{state_of}
 use Rattle.exchange_law.proofs.ClientMoves.{clients_always}
 use Rattle.exchange_law.proofs.HeldWorlds.{reached}
@@ -30,7 +32,7 @@ use Rattle.relation_law.specs.CallsTurns.{IsWorking}
 use Rattle.relation_law.specs.Working.{IsOne, CallWorks, ClientWorks}
 use Rattle.file_simulation.specs.Messages.{is_scatter}
 use Rattle.relation_law.proofs.OwnFacts.{works_kept}
-use Rattle.relation_law.proofs.PendingTurns.{EndsAs, turn_ends}
+use Rattle.exchange_law.proofs.PendingTurns.{EndsAs, turn_ends}
 
 -- ---- what is awaited
 
@@ -56,6 +58,18 @@ one_of w h k c call is a i = by_client (at_number w.clients c) refl is
         subst (CallWorks b.state.held) is (clients_always (λ n y. ClientWorks y) works_kept w (reached w h k) c b there) in
         let held = works.0 (working call.phase a i) in
         (works.1 held.0 held.1).ones a i
+
+-- a call that scatters writes
+pub scatter_writes : (K : Knows) (o : Option Held) (out : Option Request) (op : CallOp) (p : Phase) → PhaseFine K o out op p →
+    is_scatter p ≡ true → is_write op ≡ true
+scatter_writes K None out op (Scatters io queue) f t = absurd f.0
+scatter_writes K (Some held) out op (Scatters io queue) f t = f.0.0
+scatter_writes K o out op Starts f t = absurd (cc t)
+scatter_writes K o out op (Needs n) f t = absurd (cc t)
+scatter_writes K o out op (Waits n) f t = absurd (cc t)
+scatter_writes K o out op (Reads io) f t = absurd (cc t)
+scatter_writes K o out op (Probes io) f t = absurd (cc t)
+scatter_writes K o out op (Gathers io) f t = absurd (cc t)
 
 pub write_of : (b : Action) → is_write_action b ≡ true → b ≡ Write
 write_of Write e = refl

@@ -29,7 +29,7 @@ use Rattle.world_history.specs.State.{World, DriveAt, at_number}
 use Rattle.world_history.specs.Stripes.{component_at}
 use Rattle.history_law.proofs.HistoryTelling.{again_row}
 use Rattle.component_law.specs.Sent.{IsSentByRun}
-use Rattle.component_law.proofs.MoveFacts.{are_named}
+use Rattle.component_law.proofs.NamedLines.{are_named}
 use Rattle.exchange_law.proofs.TakenLaw.{not_none}
 use Rattle.fence_law.specs.Law.{IsCode}
 use Rattle.fence_law.specs.Machine.{after, after_all}

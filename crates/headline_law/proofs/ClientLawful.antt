@@ -85,7 +85,7 @@ pub record ClientLaws : Type 0 where
   pub one : OneRequest
 
 -- the text of a move's first line
-first_text : (a : Action) (ls : List Line) (n : ℕ) → AreOfText (take (suc n) (with_event a ls)) → AreOfText (with_event a [])
+pub first_text : (a : Action) (ls : List Line) (n : ℕ) → AreOfText (take (suc n) (with_event a ls)) → AreOfText (with_event a [])
 first_text (Opens e) ls n text = (text.0, tt)
 first_text a ls n text = tt
 

@@ -26,10 +26,10 @@ use Rattle.relation_law.proofs.CallsOut.{write_sent}
 use Rattle.relation_law.proofs.CallsSends.{gather_starts}
 use Rattle.relation_law.proofs.CallsStarts.{IsPlannedAt, gathered_none, sending, first_events, idle_events}
 use Rattle.relation_law.proofs.CallsTells.{told, CommandsFit, read_command, one_sent}
-use Rattle.relation_law.proofs.FramesGrow.{after_more}
 use Rattle.relation_law.proofs.MessagesScatter.{write_starts}
 use Rattle.relation_law.proofs.ReadsStarts.{read_may_start, gather_may_start}
 use Rattle.relation_law.proofs.RequestsLawful.{lawful_more}
+use Rattle.relation_law.proofs.KeptNotes.{after_both}
 
 -- The events of each of these messages can happen, behind those of the messages before it.
 abbrev pub MaySendThese : State → (file c : ℕ) → Client → List Outgoing → Type 0
@@ -64,7 +64,7 @@ behind_events : (s : State) (file c : ℕ) (x : Client) (o : Outgoing) (os : Lis
 behind_events s file c x o os es e lawful rest =
     let fs : List Event = table.sends (after_all s es) file c x o in
     by_events s file c x o os (es ++ fs) e (lawful_more s es fs lawful rest.0)
-    (subst (λ (t : State). MaySendThese t file c x os) (sym (after_more s es fs)) rest.1)
+    (subst (λ (t : State). MaySendThese t file c x os) (sym (after_both s es fs)) rest.1)
 
 -- answers to recalls have no event
 pub recalls_may : (s : State) (file c : ℕ) (x : Client) (rs : List RecallAnswer) → MaySendThese s file c x (map AnswersRecall rs)

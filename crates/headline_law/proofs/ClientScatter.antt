@@ -7,7 +7,6 @@ use Rattle.stripe_plan.specs.declared.plan.Column.{Column}
 use Rattle.server_rules.specs.Laws.{In}
 use Rattle.client_rules.specs.Calls.{file_of, span_of, bytes_of}
 use Rattle.client_rules.specs.Grants.{held_of}
-use Rattle.client_rules.specs.Io.{outs}
 use Rattle.client_rules.specs.Messages.{to_drive}
 use Rattle.world_history.specs.ClientNames.{Client, Call, CallOp, Held, Awaited, Store, Io}
 use Rattle.fence_law.specs.Law.{IsCode, IsWholeAt}
@@ -15,7 +14,6 @@ use Rattle.fence_law.specs.Machine.{Allowed}
 use Rattle.fence_law.specs.State.{State, Grant}
 use Rattle.fence_law.specs.State.{Event as event}
 use Rattle.plan_law.specs.FileLayout.{layout_of}
-use Rattle.plan_law.specs.Sending.{MayScatter}
 use Rattle.plan_law.specs.Writes.{touches_column}
 use Rattle.file_simulation.specs.Calls.{IsGathering, IsHolding, IsIdle}
 use Rattle.file_simulation.specs.EventLists.{entry_in, entry_of}
@@ -26,8 +24,8 @@ use Rattle.relation_law.proofs.CallsSends.{gather_starts}
 use Rattle.relation_law.proofs.CallsStarts.{gathered_none}
 use Rattle.relation_law.proofs.CallsTells.{CommandsFit}
 use Rattle.relation_law.proofs.CalmRuns.{client_run, whole_now}
-use Rattle.relation_law.proofs.MessagesScatter.{Begins, start_allowed, write_starts}
-use Rattle.relation_law.proofs.Plans.{plans_at}
+use Rattle.relation_law.proofs.MessagesScatter.{start_allowed, write_starts}
+use Rattle.relation_law.proofs.Plans.{begins_at, plans_at}
 use Rattle.relation_law.proofs.ReadsShown.{AllShown}
 use Rattle.relation_law.proofs.ReadsStarts.{gather_may_start}
 use Rattle.relation_law.proofs.Scatters.{Scattered}
@@ -36,30 +34,13 @@ use Rattle.headline_law.proofs.ClientMessages.{MaySendThese, gathered_may, idle_
 module _ (m : RawMap) (tag c : ℕ) (h : Held) (op : CallOp) (got : List Column) (io : Io) (queue : List Store) (cs : List Awaited)
     (scat : Scattered h op got io queue cs) (long : length h.components ≡ m.comps)
     (small : All (λ v. v < 256) (bytes_of op)) where
-  -- a machine in which the call has gathered what its write needs
-  begins_at : (z : State) (j : ℕ) → z.layout ≡ layout_of m tag → IsHolding m z c h → IsGathering m z c op j →
-      AllShown z j got → IsWholeAt z → Begins m tag z c h op got io.timed j
-  begins_at z j lay k gathering shown whole = record {
-    layout = lay;
-    holding = k;
-    long = long;
-    covers = scat.covers;
-    bytes = record { is = scat.is; long = scat.some.long; some = scat.some.some; small = small };
-    gathered = record {
-      gathering = gathering;
-      may = subst (λ (n : RawMap). MayScatter n (span_of op) (bytes_of op) got (outs h io.timed)) k.same.agrees.map scat.may;
-      shown = shown;
-    };
-    whole = whole;
-  }
-
   -- its write may start
   starts_at : (z : State) (j : ℕ) → z.layout ≡ layout_of m tag → (k : IsHolding m z c h) → IsGathering m z c op j →
       AllShown z j got → IsWholeAt z → Allowed z (write_starts z c h op k.grant.left k.grant (entry_of z c))
-  unfolding begins_at
   starts_at z j lay k gathering shown whole =
       subst (λ (n : ℕ). Allowed z (write_starts z c h op k.grant.left k.grant n)) (sym (ap entry_in gathering.at_))
-      (start_allowed m tag z c h op got io.timed j (begins_at z j lay k gathering shown whole))
+      (start_allowed m tag z c h op got io.timed j
+      (begins_at m tag c h op got io queue cs scat long small z j lay k gathering shown whole))
 
 module _ (m : RawMap) (tag file c : ℕ) (x : Client) (call : Call) (call_is : x.call ≡ Some call)
     (here : (file_of call.op == file) ≡ true) (h : Held) (holds : held_of x.held file ≡ Some h) (got : List Column) (io : Io)

@@ -33,7 +33,7 @@ use Rattle.file_simulation.specs.Showing.{Pairs}
 use Rattle.name_law.specs.ClientSends.{ClientsSendToNamed}
 use Rattle.name_law.specs.ClientTells.{OutcomesOfTextAreTold, CallsOfTextArePending}
 use Rattle.relation_law.specs.Frames.{ByClient}
-use Rattle.relation_law.specs.Pending.{logged_op}
+use Rattle.exchange_law.specs.Pending.{logged_op}
 use Rattle.relation_law.specs.Steps.{owed, behind}
 use Rattle.relation_law.proofs.FramesParties as parties
 use Rattle.relation_law.proofs.KeptCommits.{client_low}

@@ -1,7 +1,7 @@
 -- The commands of a turn go out under the grant that the machine's client holds, and are read as they are.
 -- Towards `CutsShowEntries` (`specs/Parts.antt`).
 use Rattle.std.proofs.Common.{◌≡◌, ◌⊎◌, ◌==◌, ◌<◌, ◌≤◌, ◌^◌, ◌++◌, ◌+◌, ◌*◌, ℕ, Bool, true, false, List, length, map, take, Option, Some, None, Ok, refl, sym, ap, subst, ◌∙◌, arith, inl, inr}
-use Rattle.std.proofs.lemmas.Bool.{true≢false, eqb-true, ltb-false}
+use Rattle.std.proofs.lemmas.Bool.{eqb-true, ltb-false}
 use Rattle.osd_lists.proofs.Tests.{first_false}
 use Rattle.osd_commands.specs.declared.actions.Action.TheVariants as action
 use Rattle.osd_commands.specs.declared.commands.Command.{Command}
@@ -22,30 +22,25 @@ use Rattle.client_rules.specs.History.{Input, Calls, Hears, TimesOut, Leaves, Re
 use Rattle.client_rules.specs.Io.{awaited_in}
 use Rattle.client_rules.specs.Messages.{awaited_of, on_call, to_drive}
 use Rattle.world_history.specs.Calm.{moment_of}
-use Rattle.world_history.specs.ClientNames.{AnswersRecall, Asks, Awaited, Call, Client, Held, Phase, Starts, Needs, Waits, Reads, Probes, Gathers, Scatters, RecallAnswer, Request, Store, ToDrive}
+use Rattle.world_history.specs.ClientNames.{AnswersRecall, Asks, Awaited, Call, Client, Held, RecallAnswer, Request, Store, ToDrive}
 use Rattle.world_history.specs.Handed.{op_in}
 use Rattle.world_history.specs.Moves.{acts}
 use Rattle.world_history.specs.ReadLog.{entry_in}
 use Rattle.world_history.specs.Reading.{sent_in}
-use Rattle.world_history.specs.Sending.{Move, move}
+use Rattle.world_history.specs.Sending.{Move}
 use Rattle.world_history.specs.ServerNames.{File, Slot}
 use Rattle.world_history.specs.State.{World, at_number}
-use Rattle.world_history.specs.declared.limits.TheConstants.{MAX_KEPT}
 use Rattle.history_law.specs.Moments.{IsMoment, lines_in}
 use Rattle.history_law.specs.Moves.{IsForClient}
 use Rattle.history_law.specs.Said.{IsHeardByClient}
 use Rattle.history_law.specs.Turns.{IsAnswered}
 use Rattle.history_law.proofs.DriveLines.{sent_read}
-use Rattle.exchange_law.specs.Calls.{CallFine, ClientFine, PhaseFine}
+use Rattle.exchange_law.specs.Calls.{CallFine, ClientFine}
 use Rattle.exchange_law.specs.InStep.{state_of}
 use Rattle.exchange_law.specs.PlaceAnswers.{AnswersFit}
 use Rattle.exchange_law.specs.Text.{AreFew}
 use Rattle.exchange_law.proofs.ClientMoves.{clients_always}
 use Rattle.exchange_law.proofs.Commands.{MaySend}
-use Rattle.exchange_law.proofs.ClientsCounted.{Fits, fits_kept}
-use Rattle.exchange_law.proofs.CountAsking.{FoundCounts, found_counts}
-use Rattle.exchange_law.proofs.CountClients.{Counted}
-use Rattle.history_law.proofs.Ending.{next_moment}
 use Rattle.exchange_law.proofs.CountGrowing.{fewer}
 use Rattle.exchange_law.proofs.CountMoments.{at_moment, reached}
 use Rattle.exchange_law.proofs.Knowing.{lawful_at}
@@ -56,16 +51,14 @@ use Rattle.exchange_law.proofs.PlaceMoves.{acts_fit}
 use Rattle.exchange_law.proofs.PlaceSending.{AwaitedPlaced}
 use Rattle.exchange_law.proofs.PlaceWorlds.{ActFits}
 use Rattle.cause_law.specs.Readable.{AnswersAreFit}
-use Rattle.cause_law.proofs.Files.{few_there}
-use Rattle.ready_law.proofs.MadeCommands.{IsMade}
-use Rattle.ready_law.proofs.MadeSteps.{CallMade, ClientMade, UnderMade, all_made, step_made}
-use Rattle.ready_law.proofs.ReadCommands.{made_read, nonce_of}
+use Rattle.cause_law.proofs.MadeCommands.{IsMade}
+use Rattle.cause_law.proofs.MadeSteps.{CallMade, ClientMade, UnderMade, all_made, step_made}
+use Rattle.cause_law.proofs.MadeRead.{made_read, nonce_of}
 use Rattle.fence_law.specs.Machine.{after_all}
 use Rattle.fence_law.specs.State.{State}
 use Rattle.file_simulation.specs.Calls.{HeldIs, IsClient}
 use Rattle.file_simulation.specs.ClientEvents as table
 use Rattle.file_simulation.specs.ClientEvents.{Going, going_in}
-use Rattle.file_simulation.specs.Messages.{is_scatter}
 use Rattle.file_simulation.specs.Requests.{RequestIs, IsOutstanding, kept_for}
 use Rattle.file_simulation.specs.Showing.{Pairs}
 use Rattle.file_simulation.specs.Tied.{AreTied}
@@ -75,6 +68,7 @@ use Rattle.relation_law.specs.Working.{CallWorks, ClientWorks}
 use Rattle.relation_law.proofs.CallsReceived.{answered_mid}
 use Rattle.relation_law.proofs.OwnFacts.{works_kept}
 use Rattle.headline_law.specs.Parts.{CutShown}
+use Rattle.headline_law.proofs.ClientAwaits.{scatter_writes}
 use Rattle.headline_law.proofs.EntriesClient.{head_log}
 use Rattle.headline_law.proofs.EntriesDone.{HoldsFor}
 use Rattle.headline_law.proofs.EntriesFacts.{CommandsAreHeld, FactLaws, TurnLaws, its, text, through, is_client, agree, safe, unheld_, kept_it, answered_, never}
@@ -194,17 +188,6 @@ module _ (laws : CommandLaws) (w : World) (h : List Line) (m : Move) (count : �
   few : AreFew h
   few = fewer h (take count (lines_in w m)) k.shown.follows.calm.scenario.few
 
-  abbrev v : World
-  v = (move w m).world
-
-  behind : IsMoment v (h ++ lines_in w m)
-  behind = next_moment w h k.shown.follows.moment m k.shown.follows.is_due
-
-  counts : Counted (length v.network.messages) next
-  counts =
-      subst (Counted (length v.network.messages)) mine.behind
-      (clients_always Fits fits_kept v (reached v (h ++ lines_in w m) behind) c mine.after mine.mine).counts
-
   next_placed : ClientFits c next
   next_placed =
       let p : IsPlacedWorld w h = at_moment IsPlacedWorld all_placed w h moment in
@@ -240,18 +223,6 @@ module _ (laws : CommandLaws) (w : World) (h : List Line) (m : Move) (count : �
     within : (span_of call.op).length ≤ MAX_CALL
     within = ltb-false MAX_CALL (span_of call.op).length (first_false _ _ fine.0.range)
 
-    scatters : (p : Phase) → call.phase ≡ p → is_scatter p ≡ true → is_write call.op ≡ true
-    scatters (Scatters io queue) e t =
-        let z : PhaseFine AnyKnown (Some held) next.outstanding call.op (Scatters io queue) =
-        subst (PhaseFine AnyKnown (Some held) next.outstanding call.op) e
-        (subst (λ (o : Option Held). PhaseFine AnyKnown o next.outstanding call.op call.phase) holds fine.1) in z.0.0
-    scatters Starts e t = absurd (true≢false (sym t))
-    scatters (Needs n) e t = absurd (true≢false (sym t))
-    scatters (Waits n) e t = absurd (true≢false (sym t))
-    scatters (Reads io) e t = absurd (true≢false (sym t))
-    scatters (Probes io) e t = absurd (true≢false (sym t))
-    scatters (Gathers io) e t = absurd (true≢false (sym t))
-
     -- what it awaits
     module _ (b : Awaited) (there : In b (awaited_in call.phase)) where
       made : IsMade held (span_of call.op).length b
@@ -286,7 +257,7 @@ module _ (laws : CommandLaws) (w : World) (h : List Line) (m : Move) (count : �
         | inl r ↦ inl r
         | inr v ↦ inr (
           v,
-          scatters call.phase refl
+          scatter_writes AnyKnown (held_of next.held (file_of call.op)) next.outstanding call.op call.phase fine.1
               (sym ((works.1 held holds).ones b there).action ∙ ap is_write_action v),
         )
       ]
@@ -295,12 +266,8 @@ module _ (laws : CommandLaws) (w : World) (h : List Line) (m : Move) (count : �
       low =
           let below : b.command.nonce ≤ held.number * NONCES + held.count = (works.1 held holds).nonces.below b there in
           let number : held.number < 2 ^ 32 = subst (λ (n : ℕ). n < 2 ^ 32) (its_grant ∙ one.2) may.capability.grant in
-          let counted : held.count ≤ length v.network.messages =
-          subst (FoundCounts (length v.network.messages)) holds
-          (found_counts (length v.network.messages) next.held (file_of call.op) counts.commands) in
-          let sent : length v.network.messages ≤ MAX_KEPT =
-          few_there v (h ++ lines_in w m) behind k.shown.follows.whole.few in
-          omega (arith, below, number, counted, sent)
+          let count : held.count < NONCES = k.shown.follows.room.commands j goes call is b there held holds in
+          omega (arith, below, number, count)
 
       read : reading (spelling b.command) ≡ Ok b.command
       read =

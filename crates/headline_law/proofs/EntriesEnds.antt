@@ -21,7 +21,7 @@ use Rattle.fence_law.specs.Log.{gives, IsPassed}
 use Rattle.fence_law.specs.State.{State}
 use Rattle.file_simulation.specs.EventLists.{entry_of, write_of}
 use Rattle.file_simulation.specs.Showing.{Pairs, IsPair, IsSame, ArePaired}
-use Rattle.relation_law.proofs.PendingEntries.{AreRising, removed_there, removed_beside}
+use Rattle.exchange_law.proofs.PendingEntries.{AreRising, removed_there, removed_beside}
 use Rattle.file_simulation.specs.Tied.{IsSingle, HasEntry}
 use Rattle.headline_law.proofs.EntriesPairs.{paired_becomes, same_entries, StaysAt, same_at}
 use Rattle.headline_law.proofs.EntriesCalls.{IsEntryOf, IsOfCall, AreNamed}

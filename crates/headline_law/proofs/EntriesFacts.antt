@@ -1,6 +1,6 @@
 -- What is known of a client whose turn a cut lies in: `WalkFacts` of it, but for the commands that it sends.
 -- Towards `CutsShowEntries` (`specs/Parts.antt`).
-use Rattle.std.proofs.Common.{◌≡◌, ◌==◌, ◌<◌, ◌++◌, ℕ, Bool, true, List, find, map, take, Option, Some, None, Ok, refl, sym, ap, subst, ◌∙◌, if◌then◌else◌}
+use Rattle.std.proofs.Common.{◌≡◌, ◌==◌, ◌<◌, ◌++◌, ℕ, Bool, true, List, map, take, Option, Some, None, Ok, refl, sym, ap, subst, ◌∙◌, if◌then◌else◌}
 use Rattle.std.proofs.lemmas.Bool.{eq-eqb}
 use Rattle.std.specs.Prelude.{option_map}
 use Rattle.scenario_text.specs.declared.line.Line.{Line}
@@ -13,7 +13,7 @@ use Rattle.server_rules.specs.Slots.{slot_of}
 use Rattle.client_rules.specs.Calls.{file_of, span_of, bytes_of}
 use Rattle.client_rules.specs.Grants.{held_of}
 use Rattle.client_rules.specs.History.{Input, Calls, Hears, TimesOut, Leaves, Resends, step}
-use Rattle.client_rules.specs.Io.{awaited_in, outs}
+use Rattle.client_rules.specs.Io.{outs}
 use Rattle.client_rules.specs.Messages.{Step, Message, TakesAnswer, takes, to_drive}
 use Rattle.client_rules.specs.Replies.{answers, timed_after}
 use Rattle.client_rules.specs.Steps.{calls}
@@ -29,8 +29,7 @@ use Rattle.world_history.specs.State.{World, at_number}
 use Rattle.history_law.specs.Moments.{lines_in}
 use Rattle.history_law.specs.Moves.{IsForClient}
 use Rattle.history_law.specs.Turns.{IsAnswered}
-use Rattle.exchange_law.specs.Calls.{CallFine, PhaseFine}
-use Rattle.exchange_law.specs.Meeting.{KeptGood, IsMet, IsReadable, IsReadableThrough}
+use Rattle.exchange_law.specs.Meeting.{IsMet, IsReadable, IsReadableThrough}
 use Rattle.exchange_law.specs.Taking.{TakesOwn}
 use Rattle.exchange_law.specs.Text.{AreOfText, AreFew}
 use Rattle.exchange_law.proofs.ClientMoves.{clients_always}
@@ -61,7 +60,7 @@ use Rattle.relation_law.proofs.KeptGoing.{safe_of}
 use Rattle.relation_law.proofs.MessagesClients.{GathersFor}
 use Rattle.relation_law.proofs.MessagesRun.{CallFits, IsFine}
 use Rattle.relation_law.proofs.RequestsClients.{clients_ask_for}
-use Rattle.relation_law.proofs.RequestsReturns.{HeldLaws}
+use Rattle.relation_law.proofs.RequestsReturns.{HeldLaws, no_unheld}
 use Rattle.relation_law.proofs.ReturnsStands.{Reports, always_fine, reports_stand}
 use Rattle.relation_law.proofs.SomeWrites.{some_stores}
 use Rattle.file_simulation.specs.Tied.{AreTied, CallTied}
@@ -177,20 +176,7 @@ module _ (laws : TurnLaws) (w : World) (h : List Line) (m : Move) (count : ℕ) 
 
   -- a call that works holds a grant
   pub unheld_ : IsUnheld x_ j.input → ⊥
-  unheld_ u =
-      works u.call.phase u.awaits
-      (subst (λ (o : Option Held). PhaseFine (KeptGood w.server c_) o x_.outstanding u.call.op u.call.phase) u.held
-      (subst (CallFine (KeptGood w.server c_) x_.held x_.outstanding) u.call_is met.call).1)
-    where
-      works : (p : Phase) → find (answers u.drive u.reply) (awaited_in p) ≡ Some u.awaited
-          → PhaseFine (KeptGood w.server c_) None x_.outstanding u.call.op p → ⊥
-      works Starts found fine = cc found
-      works (Needs n) found fine = cc found
-      works (Waits n) found fine = cc found
-      works (Reads io) found fine = fine.0
-      works (Probes io) found fine = fine.0
-      works (Gathers io) found fine = fine.0
-      works (Scatters io queue) found fine = fine.0
+  unheld_ = no_unheld w.server c_ x_ j.input met
 
   -- the answer that is taken is the one that the server keeps for the outstanding request
   pub kept_it : (from : Node) (b : Message) (a : Answer) → j.input ≡ Hears from b → takes x_ from b ≡ Some (TakesAnswer a)

@@ -1,6 +1,6 @@
 -- Behind the first line of a turn in which a call works, the machine's client holds the grant that the client holds.
 -- Towards `CutsShowEntries` (`specs/Parts.antt`).
-use Rattle.std.proofs.Common.{◌≡◌, ◌==◌, ◌++◌, ℕ, true, false, List, [], ◌∷◌, Some, None, refl, sym, ap, subst, ◌∙◌, inl, inr}
+use Rattle.std.proofs.Common.{◌≡◌, ◌==◌, ◌++◌, ℕ, false, List, [], ◌∷◌, Some, None, refl, sym, ap, subst, ◌∙◌, inl, inr}
 use Rattle.std.proofs.lemmas.Bool.{cases_Bool, eqb-true}
 use Rattle.layout_ops.specs.declared.messages.Answer.{Answer}
 use Rattle.client_rules.specs.declared.limits.TheConstants.{PERFORMED, OTHER_TAG}
@@ -9,7 +9,7 @@ use Rattle.client_rules.specs.Going.{quiet, moved, by_turn, with_held, begins, b
 use Rattle.client_rules.specs.Grants.{held_of, put_held}
 use Rattle.client_rules.specs.History.{Input, Resends, step}
 use Rattle.client_rules.specs.Messages.{Step, finished, on_call, obeys, no_match}
-use Rattle.client_rules.specs.Replies.{refused, refusal, replied, timed_out}
+use Rattle.client_rules.specs.Replies.{refused, replied, timed_out}
 use Rattle.client_rules.specs.Steps.{all_due}
 use Rattle.client_rules.specs.Turns.{turned}
 use Rattle.client_rules.proofs.Numbering.{nonces_rise}
@@ -17,7 +17,7 @@ use Rattle.client_rules.proofs.ReadSteps.{held_file}
 use Rattle.world_history.specs.ClientNames.{Client, Call, CallOp, Held, Awaited, Reply, Phase, Starts, Needs, Waits, Reads, Probes, Gathers, Scatters, Turn, Goes, Ends, Forgets, Close, Silent, Lost, Moved, Done}
 use Rattle.history_law.specs.Turns.{with_start, IsReplied, IsAnswered}
 use Rattle.history_law.proofs.Turns.{each_begin}
-use Rattle.exchange_law.proofs.ClientKeeping.{none_left, put_read, without_read}
+use Rattle.exchange_law.proofs.ClientKeeping.{put_read, without_read}
 use Rattle.fence_law.specs.State.{State, Event, Grant}
 use Rattle.fence_law.specs.Machine.{after_all}
 use Rattle.file_simulation.specs.ClientEvents as table
@@ -26,6 +26,7 @@ use Rattle.relation_law.specs.CallsCases.{IsUnheld, EventCases}
 use Rattle.relation_law.specs.CallsTurns.{IsWorking}
 use Rattle.relation_law.proofs.CallsWalk.{each_event_turn}
 use Rattle.relation_law.proofs.RequestsDealt.{file_of_moved, begins_file, replied_file, timed_out_file}
+use Rattle.relation_law.proofs.RequestsReturns.{forgotten}
 use Rattle.headline_law.proofs.SentTurn.{working_same}
 
 -- the machine's client holds the grant with this number
@@ -140,15 +141,6 @@ module _ (file : ℕ) (s : State) (c : ℕ) (x : Client) (i : Input) (facts : He
         let b = moved_had (quiet x) op h has m same number file k e in
         let old : HoldsNumber s c b.0.number = facts.holding b.0 b.1 in (old.0, old.1, old.2 ∙ sym b.2)
 
-  -- behind a reply of another tag no grant is held on the call's file
-  forgotten : (op : CallOp) (h : Held) (p : Phase) (a : Awaited) (q : Reply) → file_of op ≡ file →
-      (q.verdict == PERFORMED) ≡ false → (q.verdict == OTHER_TAG) ≡ true →
-      held_of (moved (quiet x) op (replied h op p a q)).client.held file ≡ None
-  unfolding replied refused
-  forgotten op h p a q here bad tag =
-      rw (bad, tag) (subst (λ (n : ℕ). held_of (moved (quiet x) op (turned h (Forgets (refusal a q)))).client.held n ≡ None)
-      here (none_left (put_held x.held h) (file_of op)))
-
   reply : (drive : ℕ) (q : Reply) (call : Call) (h : Held) (a : Awaited) → IsReplied x i drive q call h a →
       HoldsBehind (where_so (file_of call.op == file) (table.replied s c a q call.phase))
       (finished (moved (quiet x) call.op (replied h call.op call.phase a q)))
@@ -160,7 +152,8 @@ module _ (file : ℕ) (s : State) (c : ℕ) (x : Client) (i : Input) (facts : He
         | inl t ↦ rw t (finish (table.replied s c a q call.phase) (moved (quiet x) call.op m) (λ j e.
             replied_holds s c j.number (held_one call.op h k.held m same number j e) a q call.phase (λ bad.
             elim (cases_Bool (q.verdict == OTHER_TAG)) [
-              | inl tag ↦ absurd (cc (sym e ∙ forgotten call.op h call.phase a q (eqb-true (file_of call.op) file t) bad tag))
+              | inl tag ↦
+                  absurd (cc (sym e ∙ forgotten x file call.op h call.phase a q (eqb-true (file_of call.op) file t) bad tag))
               | inr f ↦ f
             ])))
         | inr f ↦ rw f (finish [] (moved (quiet x) call.op m) (held_one call.op h k.held m same number))

@@ -37,7 +37,7 @@ use Rattle.file_simulation.specs.Requests.{RequestClass, Own, Other, phase_of, r
 use Rattle.file_simulation.specs.Showing.{Pairs}
 use Rattle.relation_law.specs.Frames.{AreAll}
 use Rattle.relation_law.proofs.FramesClient.{either_all, grant_all}
-use Rattle.relation_law.proofs.FramesGrow.{after_more}
+use Rattle.relation_law.proofs.KeptNotes.{after_both}
 use Rattle.headline_law.proofs.EntriesPairs.{IsSilent, same_entries}
 use Rattle.headline_law.proofs.EntriesCalls.{Stands, CallAs, IsOfCall, begun_entry, starts_named}
 use Rattle.headline_law.proofs.EntriesSends.{stands_on, other_writes, CommandIs, CommandGoes, command_goes, under_grant}
@@ -91,7 +91,7 @@ pub machine_next : (t : State) (file c : ℕ) (x : Client) (o : Outgoing) (os : 
     machine_to t file c x (o ∷ os) (suc n) ≡ machine_to (after_all t (table.sends t file c x o)) file c x os n
 unfolding table.sends_all
 machine_next t file c x o os n =
-    after_more t (table.sends t file c x o) (joined (take n (table.sends_all (after_all t
+    after_both t (table.sends t file c x o) (joined (take n (table.sends_all (after_all t
     (table.sends t file c x o)) file c x os)))
 
 pub log_next : (l : Log) (c : ℕ) (wrote : Bool) (logged number : ℕ) (o : Outgoing) (os : List Outgoing) (n : ℕ) →

@@ -31,7 +31,7 @@ use Rattle.file_simulation.specs.ClientEvents.{Going, going_in}
 use Rattle.file_simulation.specs.EventLists.{Lines}
 use Rattle.file_simulation.specs.Events.{joined, led_by}
 use Rattle.file_simulation.specs.Showing.{Pairs}
-use Rattle.relation_law.proofs.FramesGrow.{after_more}
+use Rattle.relation_law.proofs.KeptNotes.{after_both}
 use Rattle.headline_law.proofs.EntriesCalls.{Stands}
 use Rattle.headline_law.proofs.EntriesTurns.{Reaches, stays_so, EndTied}
 
@@ -158,7 +158,7 @@ module _ (file : ℕ) (s : State) (pairs : Pairs) (x : Client) (c : ℕ) where
       subst
       (λ (v : State). (r : Reaches file v (fold log_after (log_after l y) (take n rest)) pairs)
       × (length (y ∷ rest) ≤ suc n → EndTied file c v (fold log_after (log_after l y) (take n rest)) r.pairs x))
-      (sym (after_more s es (joined (take n ends))))
+      (sym (after_both s es (joined (take n ends))))
       (subst
       (λ (q : Log). (r : Reaches file (after_all (after_all s es) (joined (take n ends))) (fold log_after q (take n rest)) pairs)
       × (length (y ∷ rest) ≤ suc n →

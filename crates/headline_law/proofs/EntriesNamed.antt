@@ -30,7 +30,7 @@ use Rattle.client_rules.specs.Calls.{file_of}
 use Rattle.world_history.specs.Moves.{op_of}
 use Rattle.world_history.specs.State.{at_number, and_number, without_number}
 use Rattle.world_history.specs.ReadLog.{Pending, Logged, Log, called_beside, log_after_event, refused, ended, ends, begins_beside, sends_write, sends_read, sends_command, sends_in, sends_as, sends, log_after, log_in, empty_log}
-use Rattle.relation_law.proofs.PendingEntries.{AreRising, rising_inserted, rising_removed, removed_there, removed_beside}
+use Rattle.exchange_law.proofs.PendingEntries.{AreRising, rising_inserted, rising_removed, removed_there, removed_beside}
 use Rattle.headline_law.proofs.EntriesCalls.{IsEntryOf, IsOfCall, AreNamed, starts_named}
 use Rattle.headline_law.proofs.EntriesEnds.{ends_named}
 use Rattle.headline_law.proofs.EntriesRead.{untaken, plain}

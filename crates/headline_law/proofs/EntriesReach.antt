@@ -28,8 +28,8 @@ use Rattle.file_simulation.specs.ClientEvents.{Going, going_in}
 use Rattle.file_simulation.specs.EventLists.{Lines}
 use Rattle.file_simulation.specs.Events.{events_of, led_by}
 use Rattle.file_simulation.specs.Showing.{Pairs}
-use Rattle.relation_law.specs.Pending.{logged_op}
-use Rattle.relation_law.proofs.PendingTurns.{EndsAs, turn_ends, calls_end}
+use Rattle.exchange_law.specs.Pending.{logged_op}
+use Rattle.exchange_law.proofs.PendingTurns.{EndsAs, turn_ends, calls_end}
 use Rattle.file_simulation.specs.Tied.{CallTied, PhaseTied}
 use Rattle.headline_law.proofs.EntriesActs.{ActsSo, Turns, Refuses, acts_so}
 use Rattle.headline_law.proofs.EntriesCalls.{Stands, AreNamed}

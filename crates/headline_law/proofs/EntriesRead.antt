@@ -38,7 +38,7 @@ use Rattle.world_history.specs.Sending.{Move}
 use Rattle.headline_law.proofs.SmallLemmas.{begins_loose}
 use Rattle.history_law.specs.BookMoments.{IsMoment, lines_in}
 use Rattle.history_law.proofs.Moments.{always}
-use Rattle.component_law.specs.Following.{PendingIsRead}
+use Rattle.component_law.specs.LeftPending.{PendingIsRead}
 use Rattle.component_law.proofs.Lists.{map_set, map_end, map_length, get_map}
 use Rattle.file_simulation.proofs.Fronts.{Begun, NoLine, Headed, move_begun}
 use Rattle.file_simulation.proofs.Fronts.Begun.{Pending as LeftPending}

@@ -32,7 +32,7 @@ use Rattle.file_simulation.specs.Messages.{is_scatter}
 use Rattle.file_simulation.specs.Showing.{Pairs, ArePaired}
 use Rattle.file_simulation.specs.Tied.{PhaseTied, CallTied}
 use Rattle.relation_law.specs.CallsTurns.{IsWorking}
-use Rattle.relation_law.specs.Pending.{logged_op}
+use Rattle.exchange_law.specs.Pending.{logged_op}
 use Rattle.relation_law.specs.ReadsDrive.{IsReadOf}
 use Rattle.relation_law.specs.Working.{CallWorks, ClientWorks}
 use Rattle.relation_law.proofs.MessagesClients.{GathersFor, IsFit}

@@ -36,7 +36,7 @@ use Rattle.file_simulation.proofs.Fronts.{move_begun}
 use Rattle.file_simulation.specs.Relation.{client_of}
 use Rattle.file_simulation.specs.Showing.{Pairs, ArePaired}
 use Rattle.file_simulation.specs.Tied.{AreTied, CallTied}
-use Rattle.relation_law.specs.Pending.{logged_op}
+use Rattle.exchange_law.specs.Pending.{logged_op}
 use Rattle.relation_law.specs.Working.{ClientWorks}
 use Rattle.relation_law.proofs.KeptCommits.{client_low}
 use Rattle.relation_law.proofs.MessagesRun.{IsFine}

@@ -15,7 +15,7 @@ use Rattle.file_simulation.specs.ClientEvents as table
 use Rattle.file_simulation.specs.EventLists.{write_of, entry_of}
 use Rattle.file_simulation.specs.Showing.{Pairs, IsPair}
 use Rattle.relation_law.specs.CallsTurns.{IsWorking}
-use Rattle.relation_law.specs.Pending.{logged_op}
+use Rattle.exchange_law.specs.Pending.{logged_op}
 use Rattle.relation_law.proofs.CallsTells.{told, told_more, recalls_told}
 use Rattle.file_simulation.specs.Tied.{NeedTied, PhaseTied}
 use Rattle.headline_law.proofs.EntriesCalls.{Stands, CallAs}

@@ -1,7 +1,8 @@
 -- Which events a step of the server has: before the line of an answer that takes a loss none begins, answers or acknowledges an
 -- entry.
 -- Towards `CutsShowEntries` (`specs/Parts.antt`).
-use Rattle.std.proofs.Common.{◌≡◌, ◌+◌, ◌==◌, ◌&&◌, ◌||◌, ◌++◌, ◌⊎◌, inl, inr, ◌<◌, ◌≤◌, ℕ, zero, suc, Bool, true, false, List, [], ◌∷◌, length, take, Option, Some, None, refl, sym, ap, subst, ◌∙◌, arith, append-nil, append_assoc, if◌then◌else◌}
+use Rattle.std.proofs.Common.{◌≡◌, ◌+◌, ◌==◌, ◌&&◌, ◌++◌, ◌⊎◌, inl, inr, ◌<◌, ◌≤◌, ℕ, zero, suc, Bool, true, false, List, [], ◌∷◌, length, take, Option, Some, None, sym, ap, subst, ◌∙◌, arith, append-nil, append_assoc, if◌then◌else◌}
+use Rattle.std.proofs.lemmas.Bool.{or_parts}
 use Rattle.std.specs.List.{list_any}
 use Rattle.osd_lists.specs.declared.node.Node.{Node}
 use Rattle.osd_lists.specs.declared.node.Node.TheVariants as node
@@ -27,8 +28,8 @@ use Rattle.file_simulation.specs.ServerEvents as table
 use Rattle.file_simulation.specs.ServerEvents.{sends_all, notes_all}
 use Rattle.relation_law.specs.Frames.{AreAll, LinesAre}
 use Rattle.relation_law.proofs.FramesClient.{where_all, grant_all, either_all}
-use Rattle.relation_law.proofs.FramesGrow.{after_more}
 use Rattle.relation_law.proofs.FramesStay.{all_more}
+use Rattle.relation_law.proofs.KeptNotes.{after_both}
 use Rattle.headline_law.proofs.EntriesPairs.{IsSilent}
 
 abbrev So : List Event → Type 0
@@ -165,16 +166,12 @@ module _ (s : State) (server : Server) (g : File) where
   sent_silent i (Recalls r) none = tt
   sent_silent i (AnswersOrder a) none = tt
 
-neither : (a b : Bool) → (a || b) ≡ false → (a ≡ false) × (b ≡ false)
-neither true b e = absurd (cc e)
-neither false b e = (refl, e)
-
 sends_silent : (server : Server) (g : File) (i : Input) (os : List Outgoing) (s : State) → list_any is_taken_out os ≡ false →
     LinesAre IsSilent (sends_all s server g i os)
 unfolding sends_all
 sends_silent server g i [] s none = tt
 sends_silent server g i (o ∷ os) s none =
-    let z = neither (is_taken_out o) (list_any is_taken_out os) none in
+    let z = or_parts (is_taken_out o) (list_any is_taken_out os) none in
     (sent_silent s server g i o z.0, sends_silent server g i os (after_all s (table.sent s server g i o)) z.1)
 
 -- ---- a step
@@ -238,7 +235,7 @@ module _ (w : World) (f g : File) (i : Input) where
                 are =
                     ap (λ (fs : List Event). es ++ fs) z.1.are
                     ∙ sym (append_assoc es z.1.before (last (after_all (after_all s es) z.1.before)))
-                    ∙ ap (λ (t : State). (es ++ z.1.before) ++ last t) (sym (after_more s es z.1.before));
+                    ∙ ap (λ (t : State). (es ++ z.1.before) ++ last t) (sym (after_both s es z.1.before));
               },
             )
       ]
@@ -270,7 +267,7 @@ module _ (w : World) (f g : File) (i : Input) where
             are =
                 ap (λ (fs : List Event). es ++ fs) z.1.are
                 ∙ sym (append_assoc es z.1.before (last (after_all (after_all s es) z.1.before)))
-                ∙ ap (λ (t : State). (es ++ z.1.before) ++ last t) (sym (after_more s es z.1.before));
+                ∙ ap (λ (t : State). (es ++ z.1.before) ++ last t) (sym (after_both s es z.1.before));
           },
         )
       ]

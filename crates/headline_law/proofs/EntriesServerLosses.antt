@@ -26,7 +26,7 @@ use Rattle.history_law.proofs.Doing.{server_moves}
 use Rattle.history_law.proofs.Leading.{Leads, Silent, Heads, delivers_lead}
 use Rattle.history_law.proofs.Staying.{written_front}
 use Rattle.component_law.proofs.FileFacts.{named_input}
-use Rattle.component_law.proofs.MoveFacts.{are_named}
+use Rattle.component_law.proofs.NamedLines.{are_named}
 use Rattle.component_law.specs.Naming.{IsNamedInput}
 use Rattle.component_law.specs.Told.{LossesAreTold}
 use Rattle.exchange_law.proofs.HeldWorlds.{reached}

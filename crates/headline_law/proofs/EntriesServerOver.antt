@@ -26,7 +26,7 @@ use Rattle.file_simulation.specs.Tied.{AreTied}
 use Rattle.relation_law.specs.Frames.{AreAll}
 use Rattle.relation_law.specs.Steps.{owed}
 use Rattle.relation_law.proofs.FramesClient.{grant_all}
-use Rattle.relation_law.proofs.FramesGrow.{after_more}
+use Rattle.relation_law.proofs.KeptNotes.{after_both}
 use Rattle.headline_law.specs.Parts.{CutShown}
 use Rattle.headline_law.proofs.EntriesPairs.{IsSilent, EntriesStay, silent_stay}
 use Rattle.headline_law.proofs.EntriesServerEvents.{EndsWith}
@@ -128,7 +128,7 @@ module _ (here : LossesAreReported) (elsewhere : LossesElsewhere) (w : World) (h
       let are : events ≡ e.before ++ (Acknowledges c r.entry ∷ rest) =
       e.are ∙ ap (λ (es : List Event). e.before ++ es) acts in
       let reach : after_all s events ≡ after_all (after u (Acknowledges c r.entry)) rest =
-      ap (after_all s) are ∙ after_more s e.before (Acknowledges c r.entry ∷ rest) in
+      ap (after_all s) are ∙ after_both s e.before (Acknowledges c r.entry ∷ rest) in
       let first : EntriesStay s u = silent_stay s e.before e.silent in
       let mine : (s.start r.entry).grant ≡ r.grant.number =
       ap (λ x. x.grant) (sym (first.start r.entry r.below))

@@ -12,11 +12,11 @@ use Rattle.world_history.specs.Calm.{moment_of}
 use Rattle.world_history.specs.Sending.{Move}
 use Rattle.world_history.specs.State.{World, at_number}
 use Rattle.history_law.specs.Doing.{did_in}
-use Rattle.component_law.specs.Following.{PendingIsRead}
+use Rattle.component_law.specs.LeftPending.{PendingIsRead}
 use Rattle.fence_law.specs.Log.{IsLog}
 use Rattle.fence_law.specs.Machine.{Lawful, after, after_all, new_file_state}
 use Rattle.fence_law.specs.State.{State, Event}
-use Rattle.fence_law.proofs.Sizes.{Said, keep_said}
+use Rattle.fence_law.proofs.SizesTold.{Said, keep_said}
 use Rattle.file_simulation.specs.Components.{has_failed}
 use Rattle.file_simulation.specs.Cuts.{rebuilt_ahead, rebuilt_by, notes_behind}
 use Rattle.file_simulation.specs.ServerEvents.{rebuilt}

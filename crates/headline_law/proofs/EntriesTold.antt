@@ -28,8 +28,8 @@ use Rattle.fence_law.proofs.Words.{updated_same, updated_other}
 use Rattle.file_simulation.specs.ClientEvents as table
 use Rattle.file_simulation.specs.EventLists.{entry_of, write_of, where_so}
 use Rattle.file_simulation.specs.Showing.{Pairs, IsPair, IsSame, ArePaired}
-use Rattle.relation_law.proofs.PendingEntries.{AreRising}
-use Rattle.relation_law.proofs.PendingLines.{end_takes}
+use Rattle.exchange_law.proofs.PendingEntries.{AreRising}
+use Rattle.exchange_law.proofs.PendingLines.{end_takes}
 use Rattle.headline_law.proofs.EntriesCalls.{IsEntryOf, IsOfCall, NoneToldAbove, Stands}
 use Rattle.headline_law.proofs.EntriesEnds.{OutcomeTied, closes, other_closes, failed_entry, ends_named}
 

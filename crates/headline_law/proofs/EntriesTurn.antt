@@ -21,11 +21,11 @@ use Rattle.file_simulation.specs.ClientEvents as table
 use Rattle.file_simulation.specs.EventLists.{Lines, and_behind}
 use Rattle.file_simulation.specs.Events.{joined}
 use Rattle.file_simulation.specs.Showing.{Pairs}
-use Rattle.relation_law.specs.Pending.{logged_op}
-use Rattle.relation_law.proofs.FramesGrow.{after_more}
-use Rattle.relation_law.proofs.PendingEntries.{AreRising, removed_there}
-use Rattle.relation_law.proofs.PendingLines.{end_takes}
-use Rattle.relation_law.proofs.PendingTurns.{EndsAs}
+use Rattle.exchange_law.specs.Pending.{logged_op}
+use Rattle.relation_law.proofs.KeptNotes.{after_both}
+use Rattle.exchange_law.proofs.PendingEntries.{AreRising, removed_there}
+use Rattle.exchange_law.proofs.PendingLines.{end_takes}
+use Rattle.exchange_law.proofs.PendingTurns.{EndsAs}
 use Rattle.headline_law.proofs.EntriesCalls.{Stands}
 use Rattle.headline_law.proofs.EntriesEnds.{OutcomeTied}
 use Rattle.headline_law.proofs.EntriesTold.{line_ends}
@@ -35,7 +35,7 @@ use Rattle.headline_law.proofs.EntriesRest.{logged_is, messages_reach}
 
 -- ---- lengths
 
-posts_long : (c : ℕ) (wrote : Bool) (logged : ℕ) (os : List Outgoing) → length (client_posts c wrote logged os) ≡ length os
+pub posts_long : (c : ℕ) (wrote : Bool) (logged : ℕ) (os : List Outgoing) → length (client_posts c wrote logged os) ≡ length os
 posts_long c wrote logged [] = refl
 posts_long c wrote logged (o ∷ os) = ap suc (posts_long c (wrote || is_write_out o) logged os)
 
@@ -182,7 +182,7 @@ module _ (file c : ℕ) (t : State) (l : Log) (pairs : Pairs) (k : Stands file t
             (λ (v : State). RestReach v
             (fold log_after (log_after l y) (take n (sent_lines number (client_posts c wrote logged all_sends))))
             (length (y ∷ sent_lines number (client_posts c wrote logged all_sends)) ≤ suc n))
-            (sym (after_more t (table.ended t file c op (Some u))
+            (sym (after_both t (table.ended t file c op (Some u))
             (joined (take n (table.sends_all (after_all t (table.ended t file c op (Some u))) file c d.client all_sends)))))
             (subst
             (λ (m : Log). RestReach (machine_to u2 file c d.client all_sends n)

@@ -11,7 +11,7 @@ use Rattle.std.proofs.lemmas.Option.{slice_get_within}
 use Rattle.server_rules.specs.Answers.{result_with}
 use Rattle.server_rules.specs.Grants.{grant_of}
 use Rattle.server_rules.specs.Layouts.{granted}
-use Rattle.component_law.specs.Listed.{ListsComponents}
+use Rattle.component_law.specs.Listed.{ListsComponents, IsOffline}
 use Rattle.component_law.proofs.DrivesKnown.{AllKnown, StandKnown, all_known, stands_known}
 use Rattle.component_law.proofs.Given.{taken_lists}
 use Rattle.exchange_law.proofs.PlaceTaken.{is_taken}
@@ -39,14 +39,14 @@ use Rattle.history_law.specs.Steps.{IsAsked}
 use Rattle.history_law.specs.Unforged.{AreUnforged}
 use Rattle.history_law.proofs.Files.{in_at, safe_in}
 use Rattle.history_law.proofs.Steps.{each_request}
-use Rattle.component_law.specs.Listed.{IsOffline}
-use Rattle.component_law.specs.Performing.{AreDistinct}
+use Rattle.component_law.specs.Distinct.{AreDistinct}
 use Rattle.exchange_law.specs.Doing.{IsHeardByServer, ServerGoes}
 use Rattle.exchange_law.specs.Made.{answer_at}
 use Rattle.exchange_law.specs.InStep.{state_of}
 use Rattle.exchange_law.proofs.HeldWorlds.{next_moment, reached}
-use Rattle.ready_law.proofs.ClearStill.{is_shut}
-use Rattle.component_law.proofs.MoveFacts.{are_named}
+use Rattle.component_law.proofs.Shut.{is_shut}
+use Rattle.component_law.proofs.NamedLines.{are_named}
+use Rattle.component_law.proofs.PartyStepping.{told_found}
 use Rattle.relation_law.proofs.KeptServer.{at_place}
 use Rattle.history_law.proofs.Unforged.{unforged_front}
 use Rattle.file_simulation.proofs.Fronts.{scenario_before}
@@ -57,7 +57,7 @@ use Rattle.relation_law.proofs.RequestsClients.{clients_ask_for}
 use Rattle.relation_law.proofs.RequestsHeard.{its_request}
 use Rattle.relation_law.proofs.ReturnsRight.{return_asked}
 use Rattle.exchange_law.proofs.HeldWorlds.{readable_there}
-use Rattle.headline_law.proofs.FoundTold.{told_lives, ungiven}
+use Rattle.headline_law.proofs.FoundTold.{ungiven}
 use Rattle.headline_law.proofs.SentHeld.{readable_then}
 use Rattle.file_simulation.specs.Claim.{IsOfScenario}
 use Rattle.file_simulation.specs.Relation.{client_of}
@@ -159,7 +159,7 @@ module _ (laws : GoesLaws) (w : World) (h : List Line) (k : IsMoment w h) (m : M
               ∙ put_same w.server.files q.file given.going.file f given_number found
 
           live : grant_of given.going.file.kept.grants q.client ≡ Some its
-          live = told_lives (at_file w.server m.chosen f) w.server.next_grant w.server.format now q.client q.args its told
+          live = told_found (at_file w.server m.chosen f) w.server.next_grant w.server.format now q.client q.args its told
 
           fitting : IsFitting (carried_out w.server q given).state given.going.file
           fitting =

@@ -25,7 +25,7 @@ use Rattle.history_law.proofs.Spending.{all_spend}
 use Rattle.component_law.specs.Listed.{IsOffline}
 use Rattle.exchange_law.proofs.HeldWorlds.{next_moment}
 use Rattle.exchange_law.proofs.Replied.{read_at}
-use Rattle.ready_law.specs.Offline.{OfflineHaveFailed}
+use Rattle.component_law.specs.Offline.{OfflineHaveFailed}
 use Rattle.file_simulation.specs.Claim.{IsOfScenario}
 use Rattle.file_simulation.proofs.Fronts.{scenario_before}
 use Rattle.relation_law.proofs.ComponentsMoved.{MovedLaws}

@@ -5,7 +5,7 @@ use Rattle.world_history.specs.State.{at_number}
 use Rattle.world_history.specs.Stripes.{component_at}
 use Rattle.history_law.specs.Moments.{lines_in}
 use Rattle.history_law.proofs.Coming.{clean_front}
-use Rattle.ready_law.specs.Offline.{OfflineHaveFailed}
+use Rattle.component_law.specs.Offline.{OfflineHaveFailed}
 use Rattle.relation_law.proofs.ComponentsMoved.{MovedLaws, scenario}
 use Rattle.headline_law.specs.ClientTold.{AwaitedWritesAreFound}
 use Rattle.headline_law.specs.Reads.{EachAwaitIsThere}

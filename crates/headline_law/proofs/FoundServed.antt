@@ -13,7 +13,7 @@ use Rattle.server_rules.specs.Requests.{serves}
 use Rattle.server_rules.specs.Return.{Returned, NoGrant as NotHeld, Clean, Taken, TooMany, Fencing as ToFence, bearable, by_grant, by_loss, by_return, ends_grant, loss, named, return_row, returns_on, takes_loss}
 use Rattle.server_rules.specs.Served.{Served}
 use Rattle.world_history.specs.ServerNames.{Grant, Job, Kept, RequestArgs, Get, Commit, Return, Revoking, Still, Fencing}
-use Rattle.ready_law.proofs.ServingGrants.{other_grant}
+use Rattle.component_law.proofs.Without.{other_grant}
 use Rattle.headline_law.proofs.FoundFences.{AreKept, ComesTo, fence_comes, kept_same, stays_comes}
 
 -- while a grant of the file is live no fence of it is open

@@ -19,6 +19,7 @@ use Rattle.history_law.specs.Unforged.{AreUnforged}
 use Rattle.history_law.proofs.Each.{EachBehind}
 use Rattle.history_law.proofs.Files.{in_at}
 use Rattle.history_law.proofs.Holding.{Holds, holds}
+use Rattle.history_law.proofs.Ending.{own_each}
 use Rattle.component_law.specs.KeptWalk.{JobFits, WorkFits}
 use Rattle.component_law.specs.Origin.{EachTagWasSent}
 use Rattle.component_law.specs.First.{CreatesAreFirst}
@@ -28,14 +29,13 @@ use Rattle.component_law.specs.Turns.{down_after}
 use Rattle.component_law.specs.Tagged.{NoCommandIsAhead}
 use Rattle.component_law.proofs.KeptFits.{FitsBy, fits_run}
 use Rattle.component_law.proofs.LeastLaw.{reached_there, stand_at}
-use Rattle.component_law.proofs.MoveFacts.{are_named}
+use Rattle.component_law.proofs.NamedLines.{are_named}
 use Rattle.component_law.proofs.StandRuns.{starts}
 use Rattle.exchange_law.specs.Counters.{CountersStayLow, ServerIsCounted}
 use Rattle.exchange_law.specs.Files.{AllFilesFit}
 use Rattle.exchange_law.proofs.CountMoments.{at_moment}
 use Rattle.exchange_law.proofs.Knowing.{lawful_at}
 use Rattle.file_simulation.specs.Claim.{IsOfScenario}
-use Rattle.relation_law.proofs.OwnedJoined.{own_each}
 use Rattle.headline_law.specs.FoundHeld.{EachFenceSetsTags, EachFileIsSettled}
 
 -- what is known of histories

@@ -26,7 +26,7 @@ use Rattle.history_law.specs.Steps.{Answering, IsAnswering, IsAsked, StepCases, 
 use Rattle.history_law.proofs.Files.{Each, crashed_each, declared_each, in_at, opened_each, put_each}
 use Rattle.history_law.proofs.Steps.{each_step}
 use Rattle.component_law.specs.Listed.{IsOffline}
-use Rattle.component_law.specs.Performing.{AreDistinct}
+use Rattle.component_law.specs.Distinct.{AreDistinct}
 use Rattle.component_law.proofs.Offline.{now_out}
 use Rattle.component_law.proofs.PhaseSteps.{found_in}
 use Rattle.relation_law.proofs.KeptServer.{at_place}

@@ -9,11 +9,14 @@ use Rattle.relation_law.proofs.OwnedJoined.{JoinLaws}
 use Rattle.relation_law.proofs.RequestsReturns.{HeldLaws}
 use Rattle.relation_law.proofs.ReturnsRight.{RightLaws}
 use Rattle.headline_law.specs.Histories.{HistoriesAreLawful}
+use Rattle.headline_law.specs.Parts.{CutsHaveRoom}
 use Rattle.headline_law.specs.Returned.{ReturnsAreLow}
 use Rattle.headline_law.proofs.BirthWorld.{BirthLaws}
 use Rattle.headline_law.proofs.ClientLawful as client
+use Rattle.headline_law.proofs.CreationShown.{CreationLaws}
 use Rattle.headline_law.proofs.LinesWhole.{LineLaws}
 use Rattle.headline_law.proofs.MarksPending.{PendingLaws}
+use Rattle.headline_law.proofs.MendedCuts.{RepairLaws}
 use Rattle.headline_law.proofs.NotLogged.{LoggedLaws, none_is_logged_behind}
 use Rattle.headline_law.proofs.PlacesWrites.{PlaceLaws}
 use Rattle.headline_law.proofs.RowsGo.{RowLaws}
@@ -53,6 +56,13 @@ module _ (l : HistoriesAreLawful) where
       listed = l.components_agree;
     };
     readable = l.files_and_answers_are_readable;
+  }
+
+  pub repairs : RepairLaws
+  repairs = record {
+    one_event_more = l.one_event_more;
+    steps_go_on = l.steps_go_on;
+    all_lines_go_on = l.all_lines_go_on;
   }
 
   pub held : HeldLaws
@@ -170,4 +180,20 @@ module _ (l : HistoriesAreLawful) where
     pending = l.pending_is_read;
     calls = l.calls_of_text_are_pending;
     low = low;
+  }
+
+  pub creations : CutsHaveRoom → CreationLaws
+  creations room = record {
+    moved = moved;
+    shown = shown;
+    lines = l.all_lines_go_on;
+    reading = record {
+      book = l.book_is_read;
+      moments = l.moment_goes_on;
+      pending = l.pending_is_read;
+      tells = l.each_step_tells;
+      sound = l.each_step_is_sound;
+    };
+    logged = logged;
+    room = room;
   }

@@ -14,14 +14,15 @@ use Rattle.world_history.specs.Calm.{moment_of, first_seen}
 use Rattle.world_history.specs.Reading.{steps_of}
 use Rattle.world_history.specs.History.{OneEventMore}
 use Rattle.world_history.specs.Laws.{MomentGoesOn, AllLinesGoOn}
-use Rattle.component_law.specs.Following.{PendingIsRead}
+use Rattle.component_law.specs.LeftPending.{PendingIsRead}
 use Rattle.history_law.specs.BookMoments.{IsMoment, lines_in}
 use Rattle.history_law.specs.Doing.{input_in, did_in}
 use Rattle.component_law.specs.Naming.{AreNamed}
 use Rattle.component_law.specs.Seeing.{SeenIsSound}
 use Rattle.component_law.specs.Sound.{IsSound}
 use Rattle.component_law.specs.Tags.{EachStepRaisesTags}
-use Rattle.component_law.proofs.MoveFacts.{are_named, seen_server}
+use Rattle.component_law.proofs.NamedLines.{are_named}
+use Rattle.component_law.proofs.SeenServer.{seen_server}
 use Rattle.fence_law.specs.State.{State}
 use Rattle.fence_law.specs.Machine.{after_all, Lawful as IsLawfulRun}
 use Rattle.plan_law.specs.FileLayout.{layout_of}
@@ -38,12 +39,14 @@ use Rattle.file_simulation.proofs.Fronts.{before_move}
 use Rattle.relation_law.specs.KeptFollows.{KeptParts}
 use Rattle.relation_law.specs.Runs.{ClientsKeepRuns}
 use Rattle.file_simulation.specs.Tied.{AreTied, WritesAreTied}
-use Rattle.relation_law.specs.Steps.{Follows, FollowsWhole, behind, owed, whole_behind, GoesOn, ComponentsGoOn, RequestsGoOn, CallsGoOn, SentGoesOn}
+use Rattle.exchange_law.specs.Text.{AreOfText}
+use Rattle.relation_law.specs.Steps.{HasRoom, Follows, FollowsWhole, behind, owed, whole_behind, GoesOn, ComponentsGoOn, RequestsGoOn, CallsGoOn, SentGoesOn}
 use Rattle.relation_law.proofs.Followed.{all_taken}
 use Rattle.relation_law.proofs.FramesFiles.{file_stays}
 use Rattle.relation_law.proofs.FramesParties.{server_rests, server_steps}
 use Rattle.relation_law.proofs.ReadsStay.{shown_grows}
-use Rattle.headline_law.proofs.ShownWhole.{ShownLaws, WholeShown, whole_shown}
+use Rattle.headline_law.proofs.ShownWhole.{ShownLaws, WholeShown, whole_shown, earlier_over}
+use Rattle.headline_law.proofs.Room.{room_whole}
 use Rattle.headline_law.specs.ClientTold.{ToldFollows}
 use Rattle.headline_law.specs.EntriesTied.{EntriesKept, CutsKeepEntries}
 use Rattle.headline_law.specs.MarksShown.{CutsShowTheirMarks}
@@ -119,7 +122,7 @@ module _ (world : WorldParts) (w : World) (h : List Line) (k : IsMoment w h) (sc
 
 module _ (runs : RunParts) (w : World) (h : List Line) (m : Move) (count : ℕ) (f g : File) (s : State) (pairs : Pairs)
     (k : FollowsShown w h m count f g s pairs) where
-  abbrev Goes : Type 0
+  abbrev pub Goes : Type 0
   Goes = AreLawful k.follows count × IsRun (behind k.follows.related m count)
 
   of_client : (j : Going) → going_in w m.action ≡ Some j → Goes
@@ -142,10 +145,10 @@ module _ (runs : RunParts) (w : World) (h : List Line) (m : Move) (count : ℕ) 
   by_party None none (Some i) comes = of_server i comes
   by_party None none None nothing = of_drive none nothing
 
-  goes_there : Goes
+  pub goes_there : Goes
   goes_there = by_party (going_in w m.action) refl (input_in w m.action) refl
 
-  cut : CutShown w h m count f g s pairs
+  unfoldable pub cut : CutShown w h m count f g s pairs
   cut = record {
     shown = k;
     lawful = goes_there.0;
@@ -154,21 +157,21 @@ module _ (runs : RunParts) (w : World) (h : List Line) (m : Move) (count : ℕ) 
   }
 
   -- the run there
-  cut_run : IsRun (cut_at k.follows)
+  pub cut_run : IsRun (cut_at k.follows)
   unfolding cut
   cut_run = runs.cuts_run w h m count f g s pairs cut
 
   module _ (shown : ShownParts) where
-    kept : EntriesKept w h m count (cut_at k.follows) f.kept.number pairs
+    pub kept : EntriesKept w h m count (cut_at k.follows) f.kept.number pairs
     unfolding cut
     kept = shown.entries w h m count f g s pairs cut k.tied
 
     -- the pairs of entries there
-    abbrev entries : EntriesShown (lines_to w h m count) (cut_at k.follows) f.kept.number pairs
+    abbrev pub entries : EntriesShown (lines_to w h m count) (cut_at k.follows) f.kept.number pairs
     entries = kept.shown
 
-    shows_file : (x : File) → file_at (moment_of (lines_to w h m count)).server.files f.kept.number ≡ Some x
-        → SameShown (lines_to w h m count) (cut_at k.follows) f x
+    pub shows_file : (x : File) → file_at (moment_of (lines_to w h m count)).server.files f.kept.number ≡ Some x
+        → SameShown f x
         → ((i : ℕ) (at : Component) → slice_get x.kept.components i ≡ Some at
         → ShowsComponent (lines_to w h m count) (cut_at k.follows) i at)
         → ShowsFile (lines_to w h m count) (cut_at k.follows) entries.pairs x
@@ -185,11 +188,10 @@ module _ (runs : RunParts) (w : World) (h : List Line) (m : Move) (count : ℕ) 
               ∙ ap (λ n. layout_of x.kept.map n) (sym same.first_tag);
           components = components;
           marks = λ q d. shown.marks w h m count f g s pairs cut k.writes entries x there q d;
-          ended = same.ended;
         }
 
     -- the machine shows the lines at the cut, where it shows the file
-    shows : ((x : File) → file_at (moment_of (lines_to w h m count)).server.files f.kept.number ≡ Some x
+    pub shows : ((x : File) → file_at (moment_of (lines_to w h m count)).server.files f.kept.number ≡ Some x
         → ShowsFile (lines_to w h m count) (cut_at k.follows) entries.pairs x)
         → ShowsLines (lines_to w h m count) (cut_at k.follows) f.kept.number entries.pairs
     unfolding cut
@@ -256,7 +258,8 @@ module _ (parts : RelationParts) (w : World) (h : List Line) (m : Move) (f g : F
 -- a machine that stands for a file before a move, and the history is calm up to a cut of it
 module _ (world : WorldParts) (further : OneEventMore) (moments : MomentGoesOn) (lines : AllLinesGoOn) (pending : PendingIsRead)
     (w : World) (h : List Line) (m : Move) (count : ℕ) (next : IsNext w h m (lines_in w m))
-    (whole : IsOfScenario (h ++ lines_in w m)) (calm : IsCalmHistory (h ++ take count (lines_in w m))) (f : File) (s : State)
+    (text : AreOfText (h ++ lines_in w m)) (room : HasRoom w m) (calm : IsCalmHistory (h ++ take count (lines_in w m)))
+    (f : File) (s : State)
     (pairs : Pairs) (stands : StandsAt w h f s pairs) where
   file_is : stands.related.kept_file ≡ f
   file_is = same_Some stands.related.kept_file f (sym stands.related.there ∙ stands.there)
@@ -264,14 +267,15 @@ module _ (world : WorldParts) (further : OneEventMore) (moments : MomentGoesOn) 
   before : IsCalmHistory h
   before = before_move moments lines pending w h m count calm
 
-  behind_it : (g : File) × (file_at (move w m).world.server.files f.kept.number ≡ Some g)
+  pub behind_it : (g : File) × (file_at (move w m).world.server.files f.kept.number ≡ Some g)
   behind_it = goes world w h next.moment before.scenario m f stands.there
 
   follows : Follows w h m count f behind_it.0 s
   follows = record {
     moment = next.moment;
     is_due = next.is_due;
-    whole = whole;
+    text = text;
+    room = room;
     calm = calm;
     there = stands.there;
     goes = behind_it.1;
@@ -279,8 +283,15 @@ module _ (world : WorldParts) (further : OneEventMore) (moments : MomentGoesOn) 
     related = subst (IsRelated s w) file_is stands.related.related;
   }
 
-  shown_there : count ≤ length (lines_in w m) → FollowsShown w h m count f behind_it.0 s pairs
-  shown_there low = record { follows = follows; low = low; shown = stands.shown; tied = stands.tied; writes = stands.writes }
+  pub shown_there : count ≤ length (lines_in w m) → FollowsShown w h m count f behind_it.0 s pairs
+  shown_there low = record {
+    follows = follows;
+    low = low;
+    shown = stands.shown;
+    over = stands.over;
+    tied = stands.tied;
+    writes = stands.writes;
+  }
 
 -- what the statements follow from
 pub record InductionParts : Type 0 where
@@ -299,17 +310,18 @@ module _ (parts : InductionParts) where
     all_calm : IsCalmHistory (h ++ take (length (lines_in w m)) (lines_in w m))
     all_calm = subst (λ ls. IsCalmHistory (h ++ ls)) (sym (all_taken (lines_in w m))) calm
 
+    has_room : HasRoom w m
+    has_room = room_whole w h m next.moment next.is_due calm.scenario
+
     abbrev behind_file : File
     behind_file =
-        (behind_it parts.world parts.more parts.moments parts.lines parts.pending w h m (length (lines_in w m)) next calm.scenario
-        all_calm f s pairs stands).0
+        (behind_it parts.world parts.more parts.moments parts.lines parts.pending w h m (length (lines_in w m)) next
+        calm.scenario.text has_room all_calm f s pairs stands).0
 
     abbrev followed : FollowsShown w h m (length (lines_in w m)) f behind_file s pairs
     followed =
         shown_there parts.world parts.more parts.moments parts.lines parts.pending w h m (length (lines_in w m))
-        next calm.scenario
-        all_calm f s
-        pairs stands (omega arith)
+        next calm.scenario.text has_room all_calm f s pairs stands (omega arith)
 
     abbrev all_events : Lines
     all_events = events_of s w (owed followed.follows.related) f m
@@ -364,7 +376,7 @@ module _ (parts : InductionParts) where
         ShowsFile (lines_to w h m (length (lines_in w m))) (cut_at followed.follows) pairs_there x
     shows_file_behind x there =
         shows_file parts.runs w h m (length (lines_in w m)) f behind_file s pairs followed parts.shown x there
-        (back (λ ls u. SameShown ls u f x) (file_behind x there).same)
+        (file_behind x there).same
         (λ i at is. back (λ ls u. ShowsComponent ls u i at) ((file_behind x there).components i at is))
 
     shows_behind : ShowsLines (h ++ lines_in w m) (whole_behind whole) f.kept.number pairs_there
@@ -407,6 +419,9 @@ module _ (parts : InductionParts) where
           related = related parts.relation w h m f behind_file s whole run_behind;
         };
         shown = subst (λ n. ShowsLines (h ++ lines_in w m) (whole_behind whole) n pairs_there) (sym number) shows_behind;
+        over =
+            earlier_over parts.world.shown w h m f behind_file s whole run_behind
+            (parts.relation.components w h m f behind_file s whole) (parts.relation.kept.kept w h m f behind_file s whole);
         tied = subst (λ n. AreTied (move w m).world (h ++ lines_in w m) (whole_behind whole) n pairs_there) (sym number)
             tied_behind;
         writes = writes_behind;

@@ -1,5 +1,5 @@
 -- Each list of events of a client's move has its line: how its call ended is told, and all that it sends is sent.
-use Rattle.std.proofs.Common.{◌≡◌, ◌≤◌, ◌⊎◌, inl, inr, ℕ, ◌+◌, suc, ◌||◌, ◌++◌, ◌∷◌, [], List, length, Bool, true, false, Option, Some, None, Result, Ok, Err, is_some, slice_get, refl, sym, ap, subst, ◌∙◌, arith, length-append, if◌then◌else◌}
+use Rattle.std.proofs.Common.{◌≡◌, ◌≤◌, ◌⊎◌, inl, inr, ℕ, ◌+◌, suc, ◌++◌, ◌∷◌, [], List, length, Bool, true, false, Option, Some, None, Result, Ok, Err, is_some, slice_get, refl, sym, ap, subst, ◌∙◌, arith, length-append, if◌then◌else◌}
 use Rattle.std.specs.Prelude.{take}
 use Rattle.scenario_text.specs.declared.event.Event.TheVariants as event
 use Rattle.scenario_text.specs.declared.line.Delivery.TheVariants as delivery
@@ -16,7 +16,7 @@ use Rattle.client_rules.specs.Steps.{calls}
 use Rattle.layout_ops.specs.declared.messages.Answer.{Answer}
 use Rattle.world_history.specs.ClientNames.{Client, CallOp, CallErr, Call, Outcome, Done, Due, Outgoing}
 use Rattle.world_history.specs.declared.messages.Posted.{Posted}
-use Rattle.world_history.specs.Handed.{Post, client_posts, ended_by, op_in, client_hears, client_takes, quiet as nothing_done, handed_to, for_client, client_goes as goes_on, pending_op, is_write_out}
+use Rattle.world_history.specs.Handed.{Post, ended_by, op_in, client_hears, client_takes, quiet as nothing_done, handed_to, for_client, client_goes as goes_on, pending_op}
 use Rattle.world_history.specs.Moves as world
 use Rattle.world_history.specs.Moves.{Act, Action, Opens, Delivers, TimesOut, Pends, acts, marked, told_delivered}
 use Rattle.world_history.specs.Names.{is_tellable}
@@ -39,6 +39,7 @@ use Rattle.relation_law.specs.Frames.{ByClient}
 use Rattle.relation_law.proofs.FramesParties.{client_goes}
 use Rattle.headline_law.proofs.Lines.{led, led_alone}
 use Rattle.headline_law.proofs.LinesServer.{own_line, own_count, lines_count}
+use Rattle.headline_law.proofs.EntriesTurn.{posts_long}
 
 -- ---- a step that tells an outcome has a call
 
@@ -266,10 +267,6 @@ ended_long c op None some told = omega arith
 ended_long c None (Some o) some told = absurd (cc (some refl))
 ended_long c (Some op) (Some o) some told = omega (arith, line_of c op o (told o refl))
 
-posts_count : (c : ℕ) (wrote : Bool) (logged : ℕ) (os : List Outgoing) → length (client_posts c wrote logged os) ≡ length os
-posts_count c wrote logged [] = refl
-posts_count c wrote logged (o ∷ os) = ap suc (posts_count c (wrote || is_write_out o) logged os)
-
 -- ---- a move
 
 pub record ClientLineLaws : Type 0 where
@@ -289,7 +286,7 @@ module _ (laws : ClientLineLaws) (w : World) (h : List Line) (k : IsMoment w h) 
       let sends = subst (λ (x : Client). AreForNamed g.client (step x g.input).sends) (sym by.state_is)
       (laws.named w h k g.client by.before by.found g.input) in
       ap (λ (ps : List Post). length ps) (by.posts ∙ sends.all by.wrote by.logged)
-      ∙ posts_count g.client by.wrote by.logged (step g.state g.input).sends
+      ∙ posts_long g.client by.wrote by.logged (step g.state g.input).sends
 
   ended_there : ends_of (step g.state g.input).outcome ≤
       length (ended_by g.client (op_in g.state g.input) (step g.state g.input).outcome)

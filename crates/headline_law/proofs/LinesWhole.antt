@@ -40,7 +40,7 @@ given_too w (Opens e) i comes = comes
 given_too w action i comes = comes
 
 -- the line of a step, and one before it that only leads
-before_led : (action : Action) → lines_before action ≡ led action + 1
+pub before_led : (action : Action) → lines_before action ≡ led action + 1
 unfolding led
 before_led (Opens e) = by (leads e)
   where

@@ -10,12 +10,13 @@ use Rattle.world_history.specs.ClientNames.{Held}
 use Rattle.world_history.specs.History.{OneEventMore}
 use Rattle.world_history.specs.State.{World}
 use Rattle.history_law.specs.BookMoments.{IsMoment}
-use Rattle.component_law.specs.Performing.{AreDistinct}
+use Rattle.component_law.specs.Distinct.{AreDistinct}
 use Rattle.exchange_law.specs.Meeting.{ClientsAgree, IsReadableThrough}
 use Rattle.exchange_law.specs.Taking.{AnswersAreOwn}
 use Rattle.cause_law.proofs.Moments.{WasHeld, stands}
 use Rattle.file_simulation.specs.Relation.{client_of}
 use Rattle.relation_law.proofs.FramesFiles.{step_stays}
+use Rattle.headline_law.proofs.SentPlaces.{distinct_over}
 
 -- a file stays over a run of the server
 stays_over : (s : Server) (acts : List Act) → AreDistinct s.files → (n : ℕ) (f : File) → file_at s.files n ≡ Some f →
@@ -25,11 +26,6 @@ stays_over s (a ∷ acts) d n f there =
     let r = step_stays s a.chosen a.input d in
     let g = r.2 n f there in
     stays_over (step s a.chosen a.input).state acts r.0 n g.0 g.1
-
-distinct_over : (s : Server) (acts : List Act) → AreDistinct s.files → AreDistinct (state_after s acts).files
-distinct_over s [] d = d
-distinct_over s (a ∷ acts) d =
-    distinct_over (step s a.chosen a.input).state acts (step_stays s a.chosen a.input d).0
 
 run_on : (s : Server) (before after : List Act) → state_after s (before ++ after) ≡ state_after (state_after s before) after
 run_on s [] after = refl

@@ -16,7 +16,7 @@ use Rattle.history_law.proofs.Files.{in_at, put_gives}
 use Rattle.history_law.proofs.Reached.{always}
 use Rattle.history_law.proofs.Steps.{each_request}
 use Rattle.component_law.specs.Order.{AreInOrder}
-use Rattle.component_law.specs.Performing.{AreDistinct}
+use Rattle.component_law.specs.Distinct.{AreDistinct}
 use Rattle.component_law.proofs.OrderSteps.{each_step_orders}
 use Rattle.relation_law.proofs.FramesFiles.{move_stays}
 use Rattle.relation_law.proofs.FramesParties.{server_rests, server_steps}

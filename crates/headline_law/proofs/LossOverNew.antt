@@ -21,8 +21,6 @@ use Rattle.world_history.specs.ServerNames.{Server, File, Grant as Layout, Note,
 use Rattle.world_history.specs.State.{World}
 use Rattle.history_law.specs.Doing.{input_in, did_in}
 use Rattle.history_law.specs.Moments.{with_event, lines_in}
-use Rattle.history_law.proofs.Staying.{written_front}
-use Rattle.exchange_law.proofs.CountGrowing.{fewer, text_front}
 use Rattle.cause_law.proofs.Giving.{grants_rise}
 use Rattle.fence_law.specs.Machine.{Lawful, after, after_all}
 use Rattle.fence_law.specs.State.{State, Event, Grant, Start}
@@ -36,10 +34,10 @@ use Rattle.file_simulation.specs.ServerEvents as table
 use Rattle.file_simulation.specs.ServerEvents.{is_new}
 use Rattle.file_simulation.specs.Showing.{Pairs}
 use Rattle.file_simulation.specs.Tied.{AreTied, HasAsked, IsOver}
+use Rattle.file_simulation.proofs.Fronts.{scenario_before}
 use Rattle.relation_law.specs.Steps.{behind, owed}
-use Rattle.relation_law.proofs.FramesGrow.{after_more}
 use Rattle.relation_law.proofs.FramesParties.{server_steps}
-use Rattle.relation_law.proofs.KeptNotes.{lawful_front}
+use Rattle.relation_law.proofs.KeptNotes.{lawful_front, after_both}
 use Rattle.headline_law.specs.Parts.{CutShown, cut_at}
 use Rattle.headline_law.specs.Returned.{ReturnsAreLow}
 use Rattle.headline_law.proofs.EntriesBehindOver.{IsOverIn}
@@ -150,11 +148,7 @@ module _ (laws : NewLossLaws) (w : World) (h : List Line) (m : Move) (count : �
   told = laws.told w h m count f g s pairs k i is loss d new q asked same number returned
 
   scenario : IsOfScenario h
-  scenario = record {
-    written = written_front h (take count (lines_in w m)) k.shown.follows.calm.scenario.written;
-    text = text_front h (take count (lines_in w m)) k.shown.follows.calm.scenario.text;
-    few = fewer h (take count (lines_in w m)) k.shown.follows.calm.scenario.few;
-  }
+  scenario = scenario_before h (take count (lines_in w m)) k.shown.follows.calm.scenario
 
   low : number < w.server.next_grant
   low = laws.low w h k.shown.follows.moment scenario loss.request.client number q asked returned
@@ -196,7 +190,7 @@ module _ (laws : NewLossLaws) (w : World) (h : List Line) (m : Move) (count : �
       ∙ ap (λ (fs : List Event). ends.before ++ fs) (acts_
       ∙ ap (λ (o : Option Grant). Acknowledges c (entry_in (t.call c)) ∷ of_grant o (λ x. Leaves c x ∷ [])) r.held) in
       let v : State = after (after t (Acknowledges c (entry_in (t.call c)))) (Leaves c r.grant) in
-      let reach : u ≡ v = ap (after_all s) are ∙ after_more s ends.before two in
+      let reach : u ≡ v = ap (after_all s) are ∙ after_both s ends.before two in
       let run : AreNumbered t =
       numbered_all s ends.before
       (lawful_front s ends.before two (subst (Lawful s) are k.lawful))

@@ -38,7 +38,7 @@ use Rattle.relation_law.proofs.FramesStay.{all_joined, lines_taken}
 use Rattle.relation_law.proofs.KeptGoing.{safe_of}
 use Rattle.relation_law.proofs.KeptReturns.{granted_still}
 use Rattle.headline_law.specs.Parts.{CutShown}
-use Rattle.headline_law.proofs.CalmCodes.{code_of, file_there}
+use Rattle.headline_law.proofs.CalmCodes.{code_of}
 use Rattle.headline_law.proofs.CalmEvents.{KeepsTag}
 use Rattle.headline_law.proofs.CalmLosses.{says_so, answer_alone, asked_step, losses_are_harmless}
 use Rattle.headline_law.proofs.EntriesServerLoss.{TakesLoss}
@@ -182,7 +182,6 @@ losses_are_sole book returned w h m count f g s pairs k tied i is loss d e yes_ 
     ] in
     let same : out.0 ≡ x = cc (sym out.1 ∙ live.1) in
     let kept_number : l.grant.number ≡ x.number = sym out.2 ∙ ap (λ (y : Grant). y.number) same in
-    let shown = k.shown.shown.shown f (file_there book w h m count f g s k.shown.follows) in
     record {
       outstanding = λ none. cc (sym none ∙ now);
       sole = λ n y at_. elim (cases_eq n c) [
@@ -195,7 +194,7 @@ losses_are_sole book returned w h m count f g s pairs k tied i is loss d e yes_ 
       ];
       tags = λ n low write grant open_. elim (cases_lt (s.start n).tag s.tag) [
         | inl older ↦
-            absurd (shown.ended n l.grant low older (grant_in f.kept.grants c l.grant l.has).0 (kept_number ∙ sym grant))
+            absurd (k.shown.over n l.grant low older (grant_in f.kept.grants c l.grant l.has).0 (kept_number ∙ sym grant))
         | inr high ↦
             let top : (s.start n).tag ≤ s.tag = (first.formed n low).low in
             let at_ : (s.start n).tag ≡ s.tag = omega (arith, high, top) in

@@ -1,9 +1,8 @@
 -- A WRITE that a client sends again is of the write that its client scatters.
 -- Towards `WritesStayTied` (`specs/MarksTied.antt`).
-use Rattle.std.proofs.Common.{◌≡◌, ◌<◌, ◌++◌, ℕ, Bool, true, List, length, nat_eq, bit_and, Option, Some, None, refl, sym, ap, subst, ◌∙◌, eq-eqb}
+use Rattle.std.proofs.Common.{◌≡◌, ◌<◌, ◌++◌, ℕ, Bool, true, List, length, Option, Some, None, refl, sym, ap, subst, ◌∙◌, eq-eqb}
 use Rattle.data_map.specs.declared.check.RawMap.{RawMap}
 use Rattle.layout_ops.specs.declared.messages.Answer.{Answer}
-use Rattle.osd_commands.specs.Actions.{right_of}
 use Rattle.osd_commands.specs.declared.actions.Action.{Action}
 use Rattle.osd_commands.specs.declared.actions.Action.TheVariants.{Write}
 use Rattle.osd_commands.specs.declared.commands.Command.{Command}
@@ -23,13 +22,8 @@ use Rattle.world_history.specs.ServerNames.{File}
 use Rattle.world_history.specs.State.{World, at_number}
 use Rattle.world_history.specs.Sending.{Move, move}
 use Rattle.history_law.specs.Moments.{IsMoment, lines_in}
-use Rattle.history_law.proofs.IssuedLaw.{nothing_allowed}
 use Rattle.exchange_law.specs.InStep.{state_of}
-use Rattle.exchange_law.specs.Sent.{HasSent, IsBacked, message_of}
-use Rattle.exchange_law.proofs.Commands.{MaySend}
-use Rattle.exchange_law.proofs.Knowing.{lawful_at}
-use Rattle.cause_law.specs.Readable.{AnswersAreFit}
-use Rattle.cause_law.proofs.Objects.{placed_there}
+use Rattle.exchange_law.specs.Sent.{IsBacked}
 use Rattle.fence_law.specs.State as machine
 use Rattle.fence_law.specs.State.{State}
 use Rattle.fence_law.specs.State.PartState.{Sent}
@@ -53,6 +47,7 @@ use Rattle.relation_law.proofs.ComponentsWorld.{awaited_are_sent}
 use Rattle.relation_law.proofs.FramesFiles.{file_stays}
 use Rattle.relation_law.proofs.FramesParties.{clients_rest}
 use Rattle.relation_law.proofs.KeptCommits.{client_low}
+use Rattle.relation_law.proofs.ComponentsAbove.{backed_there}
 use Rattle.headline_law.specs.Parts.{CutShown, cut_at}
 use Rattle.headline_law.proofs.MarksNew.{IsNewWrite, OneResends}
 use Rattle.headline_law.proofs.MarksNewLogged.{IsOfScatter, NewScattered}
@@ -74,18 +69,10 @@ awaiting : (o : Option Call) (a : Awaited) → In a (awaited_of o) →
 awaiting None a i = absurd i
 awaiting (Some call) a i = (call, refl, i)
 
--- what a client sent has a capability
-backed_there : AnswersAreFit → (w : World) (h : List Line) → IsMoment w h → IsOfScenario h → (d e : ℕ) (y : Command) →
-    HasSent w d e y → IsBacked y
-backed_there answers w h moment scenario d e y i none =
-    let fit = answers h (lawful_at w h moment) scenario.text scenario.few in
-    let may : MaySend e y = placed_there w h moment fit (message_of d e y) i in
-    cc (sym (ap (λ q. nat_eq (bit_and q.rights (right_of y.action)) 0) none ∙ nothing_allowed y.action) ∙ may.placed.right)
-
 -- a WRITE of the machine that a scattering call awaits is of the write that it scatters
 module _ (t : State) (safe_ : Safe t) (m : RawMap) (y : machine.Write) (sent : InRun y t.writes) (op : CallOp)
     (o : Option Answer) where
-  entry_is : (p : Phase) → is_scatter p ≡ true → CallIs m t y.holder op o p → (a : Awaited) → In a (awaited_in p) →
+  pub entry_is : (p : Phase) → is_scatter p ≡ true → CallIs m t y.holder op o p → (a : Awaited) → In a (awaited_in p) →
       a.ask.component ≡ y.at → a.command.nonce ≡ y.nonce →
       (io : Io) × (queue : List Store) × (p ≡ Scatters io queue) × (y.entry ≡ write_of t y.holder)
   entry_is Starts is k a i place nonce = absurd (cc is)

@@ -37,10 +37,10 @@ use Rattle.history_law.specs.Doing.{input_in, brought}
 use Rattle.history_law.specs.Read.{AreWritten, BookIsRead, server_of, leads}
 use Rattle.history_law.proofs.Leading.{Leads, Silent, Heads, delivers_lead}
 use Rattle.component_law.proofs.MoveOpening.{begins_bare}
-use Rattle.component_law.proofs.MoveFacts.{seen_server}
+use Rattle.component_law.proofs.SeenServer.{seen_server}
 use Rattle.component_law.proofs.Shapes.{IsHeaded, found_headed, sent_bare}
 use Rattle.exchange_law.proofs.HeldWorlds.{next_moment}
-use Rattle.component_law.specs.Following.{left_pending}
+use Rattle.component_law.specs.LeftPending.{left_pending}
 use Rattle.fence_law.specs.Machine.{Lawful, after_all}
 use Rattle.fence_law.specs.State.{State, Event}
 use Rattle.file_simulation.specs.ClientEvents.{going, going_in}

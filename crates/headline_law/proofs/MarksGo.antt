@@ -238,7 +238,8 @@ module _ (laws : MarkLaws) (clients : ClientsKeepMarks) (early : EarlyCutsKeepMa
           subst IsMarked (sym p.state) (
             map_behind,
             λ q d.
-                marked_as there (fold (watches (mended_in (Some read))) first (take p.place told)).moment cut p.behind.1.file f pairs
+                marked_as there (fold (watches (mended_in (Some read))) first (take p.place told)).moment cut
+                p.behind.1.file f pairs
                 more.pairs (sym p.behind.1.number) (sym p.behind.1.map) more.more cut_marks d.0 q (p.behind.1.marks q d),
           )
 

@@ -17,6 +17,7 @@ use Rattle.world_history.specs.Moves.{Act, Action, Opens, Delivers, TimesOut, Pe
 use Rattle.world_history.specs.Sending.{Move}
 use Rattle.history_law.specs.Moves.{IsForClient, asked_in}
 use Rattle.file_simulation.specs.ClientEvents.{Going, going, leaving, going_in}
+use Rattle.relation_law.proofs.DriveAlike.{not_going}
 use Rattle.headline_law.proofs.MarksNew.{NoneNew}
 use Rattle.headline_law.proofs.MarksNewSent.{AreOfClient, post_at, post_in, posts_of}
 use Rattle.headline_law.proofs.SentNone.{heard}
@@ -25,10 +26,6 @@ use Rattle.headline_law.proofs.SentNone.{heard}
 absent : (w : World) (does : ClientAt → Act) (o : Option ClientAt) → o ≡ None → (world.by_client w does o).posts ≡ []
 absent w does None none = refl
 absent w does (Some a) none = absurd (cc none)
-
-not_going : (c : ℕ) (i : client.Input) (o : Option ClientAt) → going c i o ≡ None → o ≡ None
-not_going c i None e = refl
-not_going c i (Some a) e = absurd (cc e)
 
 calls : (w : World) (c : ℕ) (op : CallOp) → going c (client.Calls op) (at_number w.clients c) ≡ None →
     (world.calls_at w c op).posts ≡ []

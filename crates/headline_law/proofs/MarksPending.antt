@@ -34,11 +34,11 @@ use Rattle.name_law.specs.ClientTells.{CallsOfTextArePending}
 use Rattle.file_simulation.specs.Claim.{IsOfScenario}
 use Rattle.file_simulation.specs.Messages.{is_scatter}
 use Rattle.file_simulation.specs.Tied.{WasPosted}
-use Rattle.relation_law.specs.Pending.{logged_op}
+use Rattle.exchange_law.specs.Pending.{logged_op}
 use Rattle.relation_law.specs.Working.{CallWorks, ClientWorks}
 use Rattle.relation_law.proofs.ComponentsSenders.{SenderLaws}
 use Rattle.relation_law.proofs.OwnFacts.{works_kept}
-use Rattle.relation_law.proofs.PendingLines.{sent_keeps}
+use Rattle.exchange_law.proofs.PendingLines.{sent_keeps}
 use Rattle.relation_law.proofs.WorksRun.{step_works}
 use Rattle.headline_law.proofs.MarksNewLines.{Writes}
 use Rattle.headline_law.proofs.MarksNewPending.{SentInWrites, log_is}

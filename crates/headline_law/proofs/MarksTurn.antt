@@ -1,6 +1,6 @@
 -- A new WRITE of a client's own turn: its client scatters behind the move, and the machine's WRITE is of what it scatters.
 -- Towards `NewScattered` (`proofs/MarksNewLogged.antt`).
-use Rattle.std.proofs.Common.{◌≡◌, ◌==◌, ◌<◌, ◌++◌, ℕ, Bool, true, List, length, Option, Some, slice_get, refl, sym, ap, subst, ◌∙◌, eq-eqb}
+use Rattle.std.proofs.Common.{◌≡◌, ◌==◌, ◌<◌, ◌++◌, ℕ, Bool, true, List, length, Option, Some, slice_get, sym, ap, subst, ◌∙◌, eq-eqb}
 use Rattle.osd_lists.specs.declared.node.Node.TheVariants as node
 use Rattle.osd_commands.specs.declared.commands.Command.{Command}
 use Rattle.osd_drive.specs.Table.{is_write as is_write_action}
@@ -12,7 +12,7 @@ use Rattle.server_rules.specs.Slots.{slot_of}
 use Rattle.server_rules.proofs.Members.{in_filtered}
 use Rattle.client_rules.specs.Calls.{file_of}
 use Rattle.client_rules.specs.History.{step}
-use Rattle.world_history.specs.ClientNames.{Io, Store, Phase, Starts, Needs, Waits, Reads, Probes, Gathers, Scatters, ToDrive}
+use Rattle.world_history.specs.ClientNames.{ToDrive}
 use Rattle.world_history.specs.ServerNames.{File}
 use Rattle.world_history.specs.declared.messages.Body.TheVariants.{Command as OfCommand}
 use Rattle.world_history.specs.declared.messages.Message.{Message}
@@ -24,31 +24,33 @@ use Rattle.history_law.specs.Moments.{IsMoment, lines_in}
 use Rattle.exchange_law.specs.Sent.{HasSent}
 use Rattle.fence_law.specs.State as machine
 use Rattle.fence_law.specs.State.{State}
-use Rattle.fence_law.specs.State.Call.{Writes as AtWrite}
+use Rattle.fence_law.proofs.Safe.{safe_all}
 use Rattle.fence_law.specs.Words.{In as InRun}
-use Rattle.file_simulation.specs.Calls.{CallIs, CallOn, CallAt, IsClient, IsScattering}
+use Rattle.file_simulation.specs.Calls.{CallIs, CallOn, CallAt, IsClient}
 use Rattle.file_simulation.specs.Claim.{IsOfScenario}
 use Rattle.file_simulation.specs.ClientEvents.{Going, going_in}
 use Rattle.file_simulation.specs.EventLists.{write_of}
+use Rattle.file_simulation.specs.Events.{joined, events_of}
 use Rattle.file_simulation.specs.Messages.{is_scatter}
 use Rattle.file_simulation.specs.Relation.{client_of}
 use Rattle.file_simulation.specs.Requests.{kept_for}
 use Rattle.file_simulation.specs.Showing.{Pairs}
 use Rattle.relation_law.specs.Frames.{ByClient}
-use Rattle.relation_law.specs.Steps.{CallsGoOn, FollowsWhole, whole_behind}
+use Rattle.relation_law.specs.Steps.{CallsGoOn, FollowsWhole, owed, whole_behind}
 use Rattle.relation_law.specs.Working.{CallWorks}
 use Rattle.relation_law.proofs.ComponentsGoOn.{client_file}
-use Rattle.relation_law.proofs.ComponentsMoved.{behind as moment_behind, later}
+use Rattle.relation_law.proofs.ComponentsMoved.{behind as moment_behind, later, safe}
 use Rattle.relation_law.proofs.FramesParties as parties
 use Rattle.relation_law.proofs.RequestsReturns.{low}
 use Rattle.headline_law.specs.Parts.{CutShown, cut_at}
 use Rattle.headline_law.proofs.EntriesActs.{never_resends}
+use Rattle.headline_law.proofs.MarksAgain.{entry_is}
 use Rattle.headline_law.proofs.MarksNew.{IsNewWrite, OneGoes}
 use Rattle.headline_law.proofs.MarksNewLogged.{IsOfScatter, NewScattered}
 use Rattle.headline_law.proofs.MarksNewResends.{posts_to}
 use Rattle.headline_law.proofs.MarksNewSent.{IsPostAt, post_at, post_in, posts_from}
 use Rattle.headline_law.proofs.MarksWritesJoined.{TiedLaws}
-use Rattle.headline_law.proofs.MarksWritesOld.{IsCommandOf, cuts_grow}
+use Rattle.headline_law.proofs.MarksWritesOld.{IsCommandOf}
 use Rattle.headline_law.proofs.MarksWritesSent.{command_read}
 use Rattle.headline_law.proofs.MarksWritesStood.{whole, cut_is}
 use Rattle.headline_law.proofs.SentHeld.{IsHeldFor, held_for, works}
@@ -58,16 +60,6 @@ use Rattle.headline_law.proofs.SentMove.{IsSentNew, turn_sent}
 pub record ScatterLaws : Type 0 where
   pub tied : TiedLaws
   pub calls : CallsGoOn
-
--- a phase that sends WRITEs scatters
-scatters : (p : Phase) → is_scatter p ≡ true → (io : Io) × (queue : List Store) × (p ≡ Scatters io queue)
-scatters (Scatters io queue) e = (io, queue, refl)
-scatters Starts e = absurd (cc e)
-scatters (Needs n) e = absurd (cc e)
-scatters (Waits n) e = absurd (cc e)
-scatters (Reads io) e = absurd (cc e)
-scatters (Probes io) e = absurd (cc e)
-scatters (Gathers io) e = absurd (cc e)
 
 module _ (laws : ScatterLaws) (w : World) (h : List Line) (m : Move) (f g : File) (s : State) (pairs : Pairs)
     (k : CutShown w h m (length (lines_in w m)) f g s pairs) (j : Going) (goes : going_in w m.action ≡ Some j)
@@ -134,7 +126,7 @@ module _ (laws : ScatterLaws) (w : World) (h : List Line) (m : Move) (f g : File
 
   -- ---- the call that awaits it
 
-  by_call : IsSentNew (move w m).world (whole_behind all) f.kept.number j.client i its.0.command
+  by_call : IsSentNew (move w m).world f.kept.number j.client i its.0.command
   by_call =
       turn_sent laws.tied.sent w h m f g s all j goes (never_resends w m.chosen m.action j goes)
       d i its.0.command is.at has sent_now write_
@@ -150,11 +142,10 @@ module _ (laws : ScatterLaws) (w : World) (h : List Line) (m : Move) (f g : File
       held_for laws.tied.sent.moved.held laws.tied.sent.moved.fresh v (h ++ lines_in w m) next scenario j.client by_call.call
       by_call.is by_call.awaited by_call.awaits
 
-  phase : (io : Io) × (queue : List Store) × (by_call.call.phase ≡ Scatters io queue)
-  phase =
-      scatters by_call.call.phase
-      (sym ((call_works.1 held.held held.holds).ones by_call.awaited by_call.awaits).action
-      ∙ ap (λ (q : Command). is_write_action q.action) by_call.command ∙ write_)
+  scatters : is_scatter by_call.call.phase ≡ true
+  scatters =
+      sym ((call_works.1 held.held held.holds).ones by_call.awaited by_call.awaits).action
+      ∙ ap (λ (q : Command). is_write_action q.action) by_call.command ∙ write_
 
   low_ : j.client < CLIENTS
   low_ = low laws.tied.sent.moved.held w h m f g s all j goes
@@ -168,44 +159,36 @@ module _ (laws : ScatterLaws) (w : World) (h : List Line) (m : Move) (f g : File
   here =
       eq-eqb (file_of by_call.call.op) g.kept.number (by_call.here ∙ ap (λ (q : File). q.kept.number) same_file)
 
-  scattering : (q : ℕ) × IsScattering (whole_behind all) j.client by_call.call.op phase.0 phase.1 q
-  scattering =
+  same_client_ : j.client ≡ y.holder
+  same_client_ = same_client ∙ sym is.holder
+
+  call_is : CallIs g.kept.map (whole_behind all) y.holder by_call.call.op o by_call.call.phase
+  call_is =
       let client : IsClient g.kept.number g.kept.map (whole_behind all) j.client (client_of v j.client) o =
       laws.calls w h m f g s all j.client low_ in
       let at_call : CallAt g.kept.number g.kept.map (whole_behind all) j.client o (Some by_call.call) =
       subst (CallAt g.kept.number g.kept.map (whole_behind all) j.client o) by_call.is client.call in
-      let on : CallOn true g.kept.map (whole_behind all) j.client by_call.call o =
-      subst (λ (b : Bool). CallOn b g.kept.map (whole_behind all) j.client by_call.call o) here at_call in
-      subst (CallIs g.kept.map (whole_behind all) j.client by_call.call.op o) phase.2 on
-
-  entry_is : by_call.sent.was.write.entry ≡ write_of (whole_behind all) j.client
-  entry_is =
-      let both : AtWrite by_call.sent.was.write.entry ≡ AtWrite scattering.0 =
-      sym by_call.sent.at_ ∙ scattering.1.writing.at_ in
-      let one : by_call.sent.was.write.entry ≡ scattering.0 = cc both in
-      one ∙ sym scattering.1.writing.last
-
-  same_write : y ≡ by_call.sent.was.write
-  same_write =
-      (cuts_grow laws.tied.runs laws.tied.book w h m f g s pairs k).single y by_call.sent.was.write is.sent
-      (subst (λ (t : State). InRun by_call.sent.was.write t.writes) (sym cut_all) by_call.sent.was.sent)
-      (is.holder ∙ sym same_client ∙ sym by_call.sent.was.holder)
-      (is.nonce ∙ sym its.0.nonce ∙ sym by_call.sent.was.nonce)
+      subst (λ (q : ℕ). CallIs g.kept.map (whole_behind all) q by_call.call.op o by_call.call.phase) same_client_
+      (subst (λ (b : Bool). CallOn b g.kept.map (whole_behind all) j.client by_call.call o) here at_call)
 
   scattered : IsOfScatter (move w m).world (cut_at k.shown.follows) f.kept.number y
-  scattered = record {
-    low = subst (λ (q : ℕ). q < CLIENTS) (same_client ∙ sym is.holder) low_;
-    call = by_call.call;
-    is = ap (λ (q : ℕ). (client_of v q).call) (is.holder ∙ sym same_client) ∙ by_call.is;
-    here = eq-eqb (file_of by_call.call.op) f.kept.number by_call.here;
-    io = phase.0;
-    queue = phase.1;
-    phase = phase.2;
-    entry =
-        ap (λ (q : machine.Write). q.entry) same_write ∙ entry_is
-        ∙ ap (λ (t : State). write_of t j.client) (sym cut_all)
-        ∙ ap (write_of (cut_at k.shown.follows)) (same_client ∙ sym is.holder);
-  }
+  scattered =
+      let z =
+      entry_is (whole_behind all)
+      (safe_all s (joined (events_of s w (owed all.follows.related) f m)) all.lawful (safe laws.tied.sent.moved w h m f g s all))
+      g.kept.map y (subst (λ (t : State). InRun y t.writes) cut_all is.sent) by_call.call.op o by_call.call.phase scatters call_is
+      by_call.awaited by_call.awaits (by_call.place ∙ sym is.there)
+      (ap (λ (q : Command). q.nonce) by_call.command ∙ its.0.nonce ∙ sym is.nonce) in
+      record {
+        low = subst (λ (q : ℕ). q < CLIENTS) same_client_ low_;
+        call = by_call.call;
+        is = ap (λ (q : ℕ). (client_of v q).call) (sym same_client_) ∙ by_call.is;
+        here = eq-eqb (file_of by_call.call.op) f.kept.number by_call.here;
+        io = z.0;
+        queue = z.1;
+        phase = z.2;
+        entry = z.3 ∙ ap (λ (t : State). write_of t y.holder) (sym cut_all);
+      }
 
 -- Each is of the write that its client scatters.
 pub turns_scatter : ScatterLaws → NewScattered OneGoes

@@ -1,6 +1,6 @@
 -- Each WRITE of a scatter lies in one unit; and so does what a call awaits and has queued when it goes on with the drives.
 -- Towards `WritesStayTied` (`specs/MarksTied.antt`).
-use Rattle.std.proofs.Common.{◌≡◌, ◌==◌, ◌≤◌, ◌<◌, ◌+◌, ◌-◌, ◌/◌, ◌++◌, ℕ, Bool, true, false, List, [], ◌∷◌, length, map, Option, Some, None, refl, sym, ap, subst, ◌∙◌, inl, inr, arith, if◌then◌else◌}
+use Rattle.std.proofs.Common.{◌≡◌, ◌==◌, ◌≤◌, ◌<◌, ◌+◌, ◌-◌, ◌/◌, ◌++◌, ℕ, Bool, true, false, List, [], ◌∷◌, length, map, Option, Some, None, sym, ap, subst, ◌∙◌, inl, inr, arith, if◌then◌else◌}
 use Rattle.std.proofs.lemmas.Bool.{cases_Bool, cases_lt}
 use Rattle.std.proofs.lemmas.Nat.{div-mul-add}
 use Rattle.std.proofs.lemmas.List.FromFn.{length-map-range_with_len}
@@ -17,7 +17,7 @@ use Rattle.stripe_plan.specs.Words.{byte_at as byte_got}
 use Rattle.stripe_plan.proofs.ReadLaws.{stripes_are}
 use Rattle.stripe_plan.proofs.WriteFollows.{within_changed, no_stripes}
 use Rattle.plan_law.proofs.Intervals.{Every}
-use Rattle.plan_law.proofs.Stores.{IsForAsk, all_asks}
+use Rattle.plan_law.proofs.Stores.{IsForAsk, all_asks, no_asks}
 use Rattle.osd_commands.specs.declared.commands.Command.{Command}
 use Rattle.osd_commands.specs.declared.replies.Reply.{Reply}
 use Rattle.server_rules.specs.Laws.{In}
@@ -72,20 +72,17 @@ module _ (m : RawMap) (r : Span) (out : List ℕ) (checked : IsChecked m) where
       (omega (arith, to, length-map-range_with_len (byte_got cols a.position) a.offset a.length)))
   each_lies cols (a ∷ xs) h w (inr i) = each_lies cols xs h.1 w i
 
-  nothing_asked : asks ToScatter m r out [] [] ≡ []
-  unfolding asks
-  nothing_asked = refl
-
   pub stores_lie : (bytes : List ℕ) (got : List Column) (w : Store) → In w (stores m r bytes got out) → StoreLies m.unit w
   unfolding stores
   stores_lie bytes got w i = elim (cases_lt 0 r.length) [
     | inl some ↦
         each_lies (columns_written m r bytes got out (stripes m r)) (writes m r out)
-        (rw (stripes_are m r some) (all_asks m r out (stripe_of m r.offset) (stripe_of m (end_of r - 1) + 1 - stripe_of m r.offset)
+        (rw (stripes_are m r some)
+        (all_asks m r out (stripe_of m r.offset) (stripe_of m (end_of r - 1) + 1 - stripe_of m r.offset)
         checked (λ s le lt. (le, omega (arith, lt, le))))) w i
     | inr none ↦
         let empty : writes m r out ≡ [] =
-        ap (asks ToScatter m r out []) (no_stripes m r (omega (arith, none))) ∙ nothing_asked in
+        ap (asks ToScatter m r out []) (no_stripes m r (omega (arith, none))) ∙ no_asks m r out in
         absurd (subst (λ (xs : List Ask). In w (map (filled (columns_written m r bytes got out (stripes m r))) xs)) empty i)
   ]
 

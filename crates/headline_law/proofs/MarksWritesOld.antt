@@ -19,10 +19,8 @@ use Rattle.world_history.specs.Sending.{Move, move, fresh, sent_lines}
 use Rattle.history_law.specs.BookMoments.{IsMoment, with_event, lines_in}
 use Rattle.history_law.specs.Doing.{did_in}
 use Rattle.history_law.specs.Read.{BookIsRead}
-use Rattle.history_law.proofs.Staying.{written_front}
 use Rattle.exchange_law.specs.Sent.{HasSent}
 use Rattle.exchange_law.proofs.ClientMoves.{clients_always}
-use Rattle.exchange_law.proofs.CountGrowing.{fewer, text_front}
 use Rattle.exchange_law.proofs.CountMoments.{reached}
 use Rattle.component_law.proofs.Standing.{Stands, stay_more}
 use Rattle.component_law.proofs.Heads.{acts_so}
@@ -46,6 +44,7 @@ use Rattle.relation_law.proofs.KeptGoing.{safe_of}
 use Rattle.relation_law.proofs.OwnFacts.{works_kept}
 use Rattle.headline_law.specs.EntriesTied.{EntriesKept}
 use Rattle.file_simulation.specs.Tied.{WasPosted, HasItsEntry, WritesAreTied}
+use Rattle.file_simulation.proofs.Fronts.{scenario_before}
 use Rattle.headline_law.specs.Parts.{CutShown, CutsAreRuns, cut_at, lines_to}
 use Rattle.headline_law.proofs.CalmAhead.{code_all}
 use Rattle.headline_law.proofs.CalmCodes.{code_of}
@@ -124,11 +123,7 @@ module _ (laws : OldLaws) (w : World) (h : List Line) (m : Move) (f g : File) (s
   number = length (acts w m.chosen m.action).world.network.messages
 
   scenario : IsOfScenario h
-  scenario = record {
-    written = written_front h (take (length (lines_in w m)) (lines_in w m)) follows.calm.scenario.written;
-    text = text_front h (take (length (lines_in w m)) (lines_in w m)) follows.calm.scenario.text;
-    few = fewer h (take (length (lines_in w m)) (lines_in w m)) follows.calm.scenario.few;
-  }
+  scenario = scenario_before h (take (length (lines_in w m)) (lines_in w m)) follows.calm.scenario
 
   first : (p : Posted) × (slice_get w.network.messages n ≡ Some p)
   first = posted_at w.network.messages n low

@@ -1,5 +1,5 @@
 -- Which lines bring entries into the log: those of commands of clients with pending calls, whose files they are on.
--- Towards `NoneIsLoggedBehind` (`specs/Headline.antt`).
+-- Towards `NoneIsLoggedBehind` (`specs/NotLogged.antt`).
 use Rattle.std.proofs.Common.{◌≡◌, ◌==◌, ◌+◌, ℕ, zero, suc, List, [], ◌∷◌, map, filter, slice_get, slice_set, Option, Some, None, Result, Ok, Err, refl, sym, ap, subst, ◌∙◌, inl, inr}
 use Rattle.std.specs.List.{fold}
 use Rattle.std.proofs.lemmas.Bool.{cases_Bool, eqb-true}
@@ -34,8 +34,8 @@ use Rattle.world_history.specs.Sending.{sent_line, sent_lines}
 use Rattle.world_history.specs.Spelled.{party_of}
 use Rattle.world_history.specs.State.{at_number}
 use Rattle.history_law.specs.Answered.{IsNoMessage}
-use Rattle.relation_law.specs.Pending.{logged_op}
-use Rattle.relation_law.proofs.PendingLines.{sent_keeps}
+use Rattle.exchange_law.specs.Pending.{logged_op}
+use Rattle.exchange_law.proofs.PendingLines.{sent_keeps}
 use Rattle.headline_law.proofs.EntriesCalls.{begun_entry}
 
 -- no message is among the lines

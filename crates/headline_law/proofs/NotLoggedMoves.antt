@@ -1,6 +1,6 @@
 -- A client's command goes out only for a call under a grant that the client holds behind the move; and no message is told of in
 -- front of those that are sent.
--- Towards `NoneIsLoggedBehind` (`specs/Headline.antt`).
+-- Towards `NoneIsLoggedBehind` (`specs/NotLogged.antt`).
 use Rattle.std.proofs.Common.{◌≡◌, ◌&&◌, ◌||◌, not, nat_lt, ℕ, Bool, true, false, List, [], ◌∷◌, ◌++◌, filter, map, Option, Some, None, refl, sym, ap, subst, ◌∙◌, inl, inr, if◌then◌else◌}
 use Rattle.std.specs.List.{filter_map, cons_option}
 use Rattle.std.specs.Prelude.{option_map}
@@ -83,7 +83,7 @@ event_told (Pends c) ls none = none
 -- ---- what a client sends
 
 -- a message of a client's turn
-posted_out : (c : ℕ) (wrote : Bool) (logged : ℕ) (os : List Outgoing) (p : Post) → In p (client_posts c wrote logged os) →
+pub posted_out : (c : ℕ) (wrote : Bool) (logged : ℕ) (os : List Outgoing) (p : Post) → In p (client_posts c wrote logged os) →
     (o : Outgoing) × In o os × (k : ℕ) × (p ≡ client_post c k o)
 posted_out c wrote logged [] p i = absurd i
 posted_out c wrote logged (o ∷ os) p (inl e) = (o, inl refl, if is_write_out o && not wrote then logged else 0, e)
@@ -92,7 +92,7 @@ posted_out c wrote logged (o ∷ os) p (inr i) =
     (r.0, inr r.1, r.2, r.3)
 
 -- to a drive goes a command
-to_drive_is : (o : Outgoing) (d : ℕ) → receiver o ≡ node.Drive d → (n : ℕ) × (y : Command) × (o ≡ client_rules.ToDrive n y)
+pub to_drive_is : (o : Outgoing) (d : ℕ) → receiver o ≡ node.Drive d → (n : ℕ) × (y : Command) × (o ≡ client_rules.ToDrive n y)
 to_drive_is (client_rules.AnswersRecall a) d e = absurd (cc e)
 to_drive_is (client_rules.Asks r) d e = absurd (cc e)
 to_drive_is (client_rules.ToDrive n y) d e = (n, y, refl)

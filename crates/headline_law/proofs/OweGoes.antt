@@ -29,7 +29,7 @@ use Rattle.history_law.specs.Names.{Server, File, Drive, Effects, Grant, Job, Jo
 use Rattle.history_law.specs.Steps.{Answering, IsAnswering, answered_file, new_file, with_added, with_zoned, StepCases, RequestCases}
 use Rattle.history_law.proofs.Files.{put_gives}
 use Rattle.history_law.proofs.Steps.{each_step, each_request}
-use Rattle.component_law.specs.Performing.{AreDistinct}
+use Rattle.component_law.specs.Distinct.{AreDistinct}
 use Rattle.relation_law.proofs.KeptCommitted.{sized_row}
 use Rattle.relation_law.proofs.KeptReturned.{loss_job}
 use Rattle.relation_law.proofs.KeptServer.{at_place}

@@ -14,7 +14,7 @@ use Rattle.server_rules.specs.Making.{with_file}
 use Rattle.server_rules.proofs.FileLaws.{number_at}
 use Rattle.server_rules.proofs.Runs.{ran_making}
 use Rattle.component_law.specs.KeptWalk.{WorkFits}
-use Rattle.component_law.specs.Performing.{AreDistinct}
+use Rattle.component_law.specs.Distinct.{AreDistinct}
 use Rattle.relation_law.proofs.Places.{KeepPlaces, keep_here, keep_then, keep_from, keep_on}
 use Rattle.relation_law.proofs.Walk.{Place, AtStart, AtFence, Behind, AtRepair, AtRows, AtRebuild, AtFill, AtSources, AtAudit, JobCases, place_behind, lost_place, walk_waits, walk_loses, walk_full, walk_fence, walk_making}
 use Rattle.relation_law.proofs.Ways.{FileWays}

@@ -22,7 +22,7 @@ use Rattle.history_law.proofs.FencingMoves.{Acts, Others, Serves, each_acts}
 use Rattle.history_law.proofs.Numbers.{to_drive, sent_anew, none_anew}
 use Rattle.component_law.specs.FenceTags.{Rise, TagRises}
 use Rattle.component_law.proofs.Doing.{Does, Rests as DoesRest, Serves as DoesServe, does}
-use Rattle.component_law.proofs.MoveFacts.{are_named}
+use Rattle.component_law.proofs.NamedLines.{are_named}
 use Rattle.component_law.proofs.Moments.{each_second, allowed_at, named_action}
 use Rattle.fence_law.specs.State.{State}
 use Rattle.file_simulation.specs.Components.{has_failed}

@@ -13,10 +13,9 @@ use Rattle.history_law.specs.Reaching.{OwnAt}
 use Rattle.history_law.specs.Spent.{HasPassed}
 use Rattle.history_law.proofs.DriveLines.{drive_read}
 use Rattle.history_law.proofs.Each.{EachBehind}
-use Rattle.history_law.proofs.Heard.{IsCommand}
+use Rattle.history_law.proofs.Heard.{IsCommand, world_command}
 use Rattle.history_law.proofs.Holding.{Holds}
 use Rattle.history_law.proofs.LaneLines.{IsServers, AreServers, lanes_are_servers}
-use Rattle.component_law.proofs.Letters.{world_command}
 use Rattle.world_history.specs.State.{World, DriveAt, at_number}
 use Rattle.file_simulation.specs.Claim.{IsOfScenario}
 use Rattle.file_simulation.specs.Components.{object_on, object_of}

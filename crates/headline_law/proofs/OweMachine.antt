@@ -3,22 +3,18 @@
 use Rattle.std.proofs.Common.{◌≡◌, ◌⊎◌, ℕ, ◌<◌, ◌≤◌, Bool, true, false, cond, Option, List, [], ◌∷◌, refl, sym, ap, ◌∙◌, inl, inr, arith}
 use Rattle.std.proofs.lemmas.Bool.{cases_Bool, true≢false}
 use Rattle.fence_law.specs.State.{State, Event, Layout}
-use Rattle.fence_law.specs.State.Event.{Grants, Fenced, Refenced, Loses, Repaired, Rebuilds, Fails, Drops, SetsTag, Performs, Shows, Repairs, PerformsLost}
+use Rattle.fence_law.specs.State.Event.{Grants, Fenced, Loses, Repaired, Rebuilds, Fails, Drops, SetsTag, Performs, Shows, Repairs, PerformsLost}
 use Rattle.fence_law.specs.Machine.{Allowed, Lawful, after, after_all}
 use Rattle.fence_law.proofs.Safe.{Safe, keep_safe}
 use Rattle.fence_law.proofs.Words.{updated_read}
+use Rattle.fence_law.proofs.EveryRun.{tag_next}
 use Rattle.relation_law.specs.Frames.{AreAll, IsOfServer}
 
 -- ---- tags
 
-tag_on : (b : State) (e : Event) → b.tag ≤ (after b e).tag
-tag_on b Fenced = omega arith
-tag_on b Refenced = omega arith
-tag_on b e = omega arith
-
 tag_all : (b : State) (es : List Event) → b.tag ≤ (after_all b es).tag
 tag_all b [] = omega arith
-tag_all b (e ∷ es) = let one = tag_on b e in let rest = tag_all (after b e) es in omega (arith, one, rest)
+tag_all b (e ∷ es) = let one = tag_next b e in let rest = tag_all (after b e) es in omega (arith, one, rest)
 
 -- a repair begins only where a fence is over
 begins_on : (b : State) (e : Event) → b.repairing ≡ false → (after b e).repairing ≡ true → b.tag < (after b e).tag
@@ -31,7 +27,7 @@ begins_all : (b : State) (es : List Event) → b.repairing ≡ false → (after_
 begins_all b [] off on = absurd (true≢false (sym on ∙ off))
 begins_all b (e ∷ es) off on = elim (cases_Bool (after b e).repairing) [
   | inl now ↦ let one = begins_on b e off now in let rest = tag_all (after b e) es in omega (arith, one, rest)
-  | inr still ↦ let rest = begins_all (after b e) es still on in let one = tag_on b e in omega (arith, one, rest)
+  | inr still ↦ let rest = begins_all (after b e) es still on in let one = tag_next b e in omega (arith, one, rest)
 ]
 
 -- so it is where one has begun
@@ -91,12 +87,12 @@ pub repair_keeps : (b : State) (asker : Option ℕ) (es : List Event) → AreAll
 repair_keeps b asker [] all l on now same = keeps_here b
 repair_keeps b asker (e ∷ es) all l on now same = elim (cases_Bool (after b e).repairing) [
   | inl still ↦
-      let first = tag_on b e in
+      let first = tag_next b e in
       let rest = tag_all (after b e) es in
       keeps_then b (after b e) (after_all (after b e) es) (keeps_on b asker e all.0 l.0 on still)
       (repair_keeps (after b e) asker es all.1 l.1 still now (omega (arith, first, rest, same)))
   | inr over ↦
-      let first = tag_on b e in
+      let first = tag_next b e in
       let rest = begins_all (after b e) es over now in
       absurd (omega (arith, first, rest, same))
 ]

@@ -17,7 +17,7 @@ use Rattle.server_rules.specs.Laws.{In}
 use Rattle.exchange_law.specs.Sent.{HasSent}
 use Rattle.history_law.specs.Spent.{IsSpent, HasPassed}
 use Rattle.osd_lists.proofs.Slices.{some_at}
-use Rattle.component_law.proofs.MoveFacts.{are_named}
+use Rattle.component_law.proofs.NamedLines.{are_named}
 use Rattle.component_law.proofs.Moments.{allowed_at}
 use Rattle.fence_law.specs.Columns.{Stands}
 use Rattle.plan_law.specs.FileLayout.{column_of_cell}

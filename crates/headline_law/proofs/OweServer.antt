@@ -20,7 +20,7 @@ use Rattle.history_law.specs.Said.{IsHeardByServer}
 use Rattle.history_law.specs.Spent.{HasPassed}
 use Rattle.history_law.proofs.Hearing.{found_in}
 use Rattle.component_law.proofs.Moments.{allowed_at}
-use Rattle.component_law.proofs.MoveFacts.{are_named}
+use Rattle.component_law.proofs.NamedLines.{are_named}
 use Rattle.exchange_law.proofs.CountMoments.{reached}
 use Rattle.world_history.specs.State.{World, at_number}
 use Rattle.world_history.specs.Sending.{Move, move}

@@ -1,20 +1,22 @@
 -- What is known of the commands that clients' calls await (`AwaitWell`): calls that read await READs, and what a client
 -- awaits under a nonce is the command that drives read in its message.
 -- Towards `ReadsFollow` (`headline_law/specs/Parts.antt`).
-use Rattle.std.proofs.Common.{◌≡◌, ◌<◌, ◌≤◌, ◌^◌, ◌||◌, ℕ, Bool, false, nat_lt, List, [], Option, Some, None, Ok, refl, sym, ap, subst, ◌∙◌, arith, inl, inr}
+use Rattle.std.proofs.Common.{◌≡◌, ◌<◌, ◌≤◌, ◌^◌, ◌||◌, ℕ, Bool, true, false, nat_lt, List, [], Option, Some, None, Ok, refl, sym, ap, subst, ◌∙◌, arith, inl, inr}
 use Rattle.std.proofs.lemmas.Bool.{cases_Bool}
 use Rattle.std.proofs.lemmas.Bool.Decides.{nat_tests}
 use Rattle.std.proofs.lemmas.List.{append-nil}
 use Rattle.osd_lists.specs.declared.node.Node.{Node}
 use Rattle.osd_lists.specs.declared.node.Node.TheVariants as node
+use Rattle.osd_commands.specs.declared.actions.Action.TheVariants.{Read}
 use Rattle.osd_commands.specs.declared.commands.Command.{Command}
 use Rattle.osd_commands.specs.Commands.{reading, spelling}
 use Rattle.scenario_text.specs.declared.line.Line.{Line}
 use Rattle.client_rules.specs.declared.limits.TheConstants.{MAX_CALL}
-use Rattle.client_rules.specs.Calls.{file_of, span_of}
+use Rattle.client_rules.specs.Calls.{file_of, is_write, span_of}
 use Rattle.client_rules.specs.Commands.{command, credential_of}
 use Rattle.client_rules.specs.Grants.{held_of}
 use Rattle.client_rules.specs.Io.{awaited_in}
+use Rattle.client_rules.specs.Messages.{awaited_of}
 use Rattle.client_rules.specs.Steps.{is_bad_range}
 use Rattle.server_rules.specs.Laws.{In}
 use Rattle.world_history.specs.ClientNames.{Awaited, Call, Held}
@@ -34,18 +36,21 @@ use Rattle.exchange_law.proofs.Knowing.{lawful_at}
 use Rattle.exchange_law.proofs.Parts.{each_in}
 use Rattle.exchange_law.proofs.PlaceWorlds.{PostPlaced}
 use Rattle.cause_law.proofs.Objects.{placed_there}
-use Rattle.ready_law.proofs.MadeCommands.{IsMade}
-use Rattle.ready_law.proofs.MadeSteps.{CallMade, ClientMade, UnderMade, all_made}
-use Rattle.ready_law.proofs.ReadCommands.{made_read, nonce_of}
+use Rattle.cause_law.proofs.MadeCommands.{IsMade}
+use Rattle.cause_law.proofs.MadeSteps.{CallMade, ClientMade, UnderMade, all_made}
+use Rattle.cause_law.proofs.MadeRead.{made_read, nonce_of}
 use Rattle.file_simulation.specs.Claim.{IsOfScenario}
+use Rattle.file_simulation.specs.Messages.{is_scatter}
 use Rattle.file_simulation.specs.Relation.{client_of}
 use Rattle.relation_law.specs.DriveHearing.{AwaitsOwn}
+use Rattle.relation_law.specs.Working.{IsOne}
 use Rattle.relation_law.proofs.AwaitsReads.{reads_well}
 use Rattle.relation_law.proofs.ComponentsMoved.{MovedLaws, scenario}
 use Rattle.relation_law.proofs.ComponentsReading.{read_as}
 use Rattle.relation_law.proofs.ComponentsSenders.{IsPlacedBy, placed_by, same_message}
 use Rattle.relation_law.proofs.ComponentsWorld.{awaited_by, awaits_same}
-use Rattle.headline_law.specs.Reads.{EachAwaitIsWell, EachAwaitStands}
+use Rattle.headline_law.specs.Reads.{EachAwaitIsWell, EachAwaitStands, ReadsAwaitReads}
+use Rattle.headline_law.proofs.ClientAwaits.{one_of, scatter_writes}
 use Rattle.headline_law.proofs.SentHeld.{held_for, readable_then}
 
 -- a call has no more bytes than a call may have
@@ -84,12 +89,27 @@ module _ (laws : MovedLaws) (w : World) (h : List Line) (k : IsMoment w h) (t : 
         (subst (λ (g : Option Held). UnderMade g call.op call.phase) holds
         (subst (CallMade (client_of w c).held) is made.call)).0 i
 
-    -- a call that goes on isn't of a bad range
-    range : is_bad_range (span_of call.op) ≡ false
-    range =
+    fine : CallFine (KeptGood w.server c) (client_of w c).held (client_of w c).outstanding (Some call)
+    fine =
         let met : IsMet w.server c (client_of w c) =
         laws.held.right.world.agree w h k (readable_then laws.held laws.fresh w h k t) c in
-        (subst (CallFine (KeptGood w.server c) (client_of w c).held (client_of w c).outstanding) is met.call).0.range
+        subst (CallFine (KeptGood w.server c) (client_of w c).held (client_of w c).outstanding) is met.call
+
+    -- a call that goes on isn't of a bad range
+    range : is_bad_range (span_of call.op) ≡ false
+    range = fine.0.range
+
+    -- a call that reads awaits READs
+    awaits_read : is_write call.op ≡ false → y.command.action ≡ Read
+    awaits_read reads =
+        let one : IsOne (is_scatter call.phase) y = one_of w h k c call is y i in
+        elim (cases_Bool (is_scatter call.phase)) [
+          | inl t ↦
+              let writes : is_write call.op ≡ true =
+              scatter_writes (KeptGood w.server c) (held_of (client_of w c).held (file_of call.op))
+              (client_of w c).outstanding call.op call.phase fine.1 t in absurd (cc (sym reads ∙ writes))
+          | inr none ↦ (one.read none).action_is
+        ]
 
     has : HasSent w c y.drive y.command
     has = awaited_by laws.known w h k t.few c call (at_number w.clients c) refl is y i
@@ -154,6 +174,12 @@ module _ (laws : MovedLaws) (w : World) (h : List Line) (k : IsMoment w h) (t : 
           let one : z.held ≡ n = cc (sym z.holds ∙ holding) in
           z.of.capability ∙ ap (λ (g : Held). (credential_of g y.ask.component).capability) one;
     }
+
+-- What pending reads await are READs, which drives read as they are.
+pub reads_await_reads : MovedLaws → ReadsAwaitReads
+reads_await_reads laws w h k t c call is reads a i =
+    let there : In a (awaited_in call.phase) = subst (λ (o : Option Call). In a (awaited_of o)) is i in
+    (awaits_read laws w h k t c call is a there reads, awaited_is_read laws w h k t c call is a there)
 
 -- What clients await is well known, where what drives perform of it goes to its component.
 pub await_well : MovedLaws → EachAwaitStands → EachAwaitIsWell

@@ -30,6 +30,7 @@ use Rattle.headline_law.proofs.TargetLanes.{no_lanes}
 use Rattle.headline_law.proofs.TargetMade.{each_target_is_well_made}
 use Rattle.headline_law.proofs.TargetNotedSteps.{rebuilt_were_targets}
 use Rattle.headline_law.proofs.TargetRebuilt.{each_rebuilt_stands}
+use Rattle.headline_law.proofs.TargetStands.{RebuiltLaws}
 use Rattle.headline_law.proofs.TargetSteps.{targets_go}
 use Rattle.headline_law.proofs.TargetStore.{target_objects_stay}
 use Rattle.headline_law.proofs.TargetZeros.{zeros_are_spent}
@@ -55,9 +56,11 @@ module _ (l : HistoriesAreLawful) where
   pub zeros : ZerosAreSpent
   zeros = zeros_are_spent target
 
+  pub rebuilt_laws : RebuiltLaws
+  rebuilt_laws = record { target = target; well = well; moved = known.moved l; were = rebuilt_were_targets }
+
   pub rebuilt : EachRebuiltStands
-  rebuilt =
-      each_rebuilt_stands (record { target = target; well = well; moved = known.moved l; were = rebuilt_were_targets })
+  rebuilt = each_rebuilt_stands rebuilt_laws
 
   pub targets : TargetsFollow
   targets = targets_follow (record {

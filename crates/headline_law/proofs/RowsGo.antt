@@ -21,6 +21,7 @@ use Rattle.history_law.specs.Numbered.{Awaits}
 use Rattle.history_law.specs.Said.{IsHeardByServer}
 use Rattle.history_law.proofs.Hearing.{done_is_done}
 use Rattle.history_law.proofs.Holding.{Holds}
+use Rattle.history_law.proofs.Ending.{at_moment}
 use Rattle.component_law.specs.KeptWalk.{WorkFits}
 use Rattle.component_law.specs.Sent.{IsSentByRun}
 use Rattle.fence_law.specs.Law.{IsCode}
@@ -48,7 +49,6 @@ use Rattle.relation_law.proofs.FramesClient.{led_all}
 use Rattle.relation_law.proofs.FramesFiles.{file_stays}
 use Rattle.relation_law.proofs.FramesParties.{by_client_lines, client_goes, server_rests, server_steps}
 use Rattle.relation_law.proofs.FramesStay.{all_joined, lines_more, server_stays_all}
-use Rattle.relation_law.proofs.Hearing.{at_moment}
 use Rattle.relation_law.proofs.KeptGoing.{safe_of}
 use Rattle.relation_law.proofs.KeptMoves.{server_joined}
 use Rattle.relation_law.proofs.OwnedBefore.{OwnedLaws, run, work_fits, fits_in}

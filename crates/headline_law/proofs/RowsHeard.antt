@@ -26,11 +26,12 @@ use Rattle.history_law.specs.Numbered.{Awaits}
 use Rattle.history_law.specs.Said.{said, IsHeardByServer}
 use Rattle.history_law.proofs.Holding.{Holds}
 use Rattle.history_law.proofs.Spelled.{reply_reads}
+use Rattle.history_law.proofs.Ending.{at_moment}
 use Rattle.file_simulation.specs.Claim.{IsOfScenario}
 use Rattle.file_simulation.specs.Jobs.{HasToldServer}
 use Rattle.relation_law.proofs.DriveMoves.{got_in}
 use Rattle.relation_law.proofs.Heard.{payload_read}
-use Rattle.relation_law.proofs.Hearing.{at_moment, read_reply}
+use Rattle.relation_law.proofs.Hearing.{read_reply}
 use Rattle.relation_law.proofs.OwnedBefore.{OwnedLaws, run, room}
 use Rattle.headline_law.proofs.RowsTold.{IsTold, are_told}
 

@@ -22,7 +22,7 @@ use Rattle.history_law.specs.Steps.{Answering, IsAnswering, answered_file, new_f
 use Rattle.history_law.proofs.Files.{put_gives}
 use Rattle.history_law.proofs.Hearing.{found_in}
 use Rattle.history_law.proofs.Steps.{each_step, each_request}
-use Rattle.component_law.specs.Performing.{AreDistinct}
+use Rattle.component_law.specs.Distinct.{AreDistinct}
 use Rattle.component_law.specs.Words.{Each}
 use Rattle.world_history.specs.State.{World}
 use Rattle.fence_law.specs.State.{State, Event}

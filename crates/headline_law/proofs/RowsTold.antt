@@ -4,7 +4,7 @@ use Rattle.std.proofs.Common.{◌≡◌, ◌⊎◌, ℕ, ◌<◌, ◌≤◌, ◌
 use Rattle.std.specs.Prelude.{slice_range}
 use Rattle.std.specs.Int.{w64, to_be_bytes, from_be_bytes}
 use Rattle.osd_capability.specs.declared.layout.Capability.{Capability}
-use Rattle.osd_commands.specs.Commands.{fields, head, spelling, reading, command_at}
+use Rattle.osd_commands.specs.Commands.{spelling, reading, command_at}
 use Rattle.osd_commands.specs.declared.actions.Action.{Action as CommandAction}
 use Rattle.osd_commands.specs.declared.commands.Command.{Command}
 use Rattle.osd_commands.specs.declared.commands.CommandErr.{CommandErr}
@@ -38,6 +38,7 @@ use Rattle.history_law.proofs.Goes.{moves_are_steps}
 use Rattle.history_law.proofs.JobSteps.{step_numbers}
 use Rattle.history_law.proofs.Moves.{each_act}
 use Rattle.history_law.proofs.Numbers.{Numbers, to_drive, numbers_move, numbers_first}
+use Rattle.history_law.proofs.Spelled.{nonce_part}
 use Rattle.exchange_law.proofs.CountMoments.{at_moment}
 use Rattle.exchange_law.proofs.LatestLaw.{sent_split}
 use Rattle.exchange_law.proofs.RefusalVerdicts.{judged_agrees}
@@ -133,10 +134,6 @@ told_before_or_now w m d r i = elim (said_before_or_now w m d (OfReply r) i) [
 ]
 
 -- ---- of what
-
-nonce_part : (c : Command) → slice_range (spelling c) 40 48 ≡ to_be_bytes w64 c.nonce
-unfolding spelling head fields
-nonce_part c = refl
 
 nonce_at : (a : CommandAction) (cap : Capability) (bytes : List ℕ) →
     (command_at a cap bytes).nonce ≡ from_be_bytes w64 (slice_range bytes 40 48)

@@ -10,7 +10,7 @@ use Rattle.world_history.specs.State.{World}
 use Rattle.world_history.specs.Sending.{Move, move}
 use Rattle.history_law.specs.Moments.{IsMoment, lines_in}
 use Rattle.history_law.specs.Doing.{input_in}
-use Rattle.component_law.proofs.MoveFacts.{are_named}
+use Rattle.component_law.proofs.NamedLines.{are_named}
 use Rattle.component_law.specs.Sent.{IsSentByRun}
 use Rattle.fence_law.specs.State.{State}
 use Rattle.file_simulation.specs.ClientEvents.{Going, going_in}

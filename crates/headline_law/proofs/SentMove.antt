@@ -14,8 +14,8 @@ use Rattle.server_rules.specs.Slots.{slot_of}
 use Rattle.client_rules.specs.Calls.{file_of}
 use Rattle.client_rules.specs.Commands.{no_capability, credential_of}
 use Rattle.client_rules.specs.Grants.{held_of}
-use Rattle.client_rules.specs.Io.{awaited_in}
 use Rattle.client_rules.specs.History.{Input, Calls, Hears, TimesOut, Leaves, Resends, step}
+use Rattle.client_rules.specs.Io.{awaited_in}
 use Rattle.world_history.specs.ClientNames.{Awaited, Call, Client, Credential, Held, ToDrive}
 use Rattle.world_history.specs.ServerNames.{File, Component, Server}
 use Rattle.world_history.specs.State.{World}
@@ -55,7 +55,7 @@ use Rattle.relation_law.proofs.TurnEnds.{PlansFit}
 use Rattle.headline_law.proofs.SentHeld.{IsHeldFor, held_for, file_is, component_is, readable_then}
 use Rattle.headline_law.proofs.SentNames.{capabilities_name_grants}
 use Rattle.headline_law.proofs.SentTurn.{IsSentIn, SendsWrites, turn_writes, turn_behind}
-use Rattle.headline_law.proofs.SentWrites.{NamesGrant, IsSentNow}
+use Rattle.headline_law.proofs.SentWrites.{NamesGrant}
 
 -- what is known of the world
 pub record SentLaws : Type 0 where
@@ -73,14 +73,14 @@ plans_of laws = writes_have_plans (record {
 })
 
 -- the call that awaits a WRITE that was sent in a client's move
-pub record IsSentNew (v : World) (t : State) (file c n : ℕ) (y : Command) : Type 0 where
+pub record IsSentNew (v : World) (file c n : ℕ) (y : Command) : Type 0 where
   pub call : Call
   pub is : (client_of v c).call ≡ Some call
   pub here : file_of call.op ≡ file
   pub awaited : Awaited
   pub awaits : In awaited (awaited_in call.phase)
   pub command : awaited.command ≡ y
-  pub sent : IsSentNow t c n y
+  pub place : awaited.ask.component ≡ n
 
 pub is_write : (a : Action) → a ≡ ToWrite → is_write_action a ≡ true
 is_write a e = ap is_write_action e
@@ -211,17 +211,17 @@ module _ (laws : SentLaws) (w : World) (h : List Line) (m : Move) (f g : File) (
                 ∙ lay.tag z.awaited.ask.component l.0 l.1 l.2 l.3;
           }
 
-      new_sent : IsSentNow (whole_behind k) c n y
+      new_sent : WasSent (whole_behind k) c n y
       new_sent =
           let sent = z.sent (eq-eqb (file_of z.call.op) f.kept.number file_) names in
-          subst (λ (t : State). IsSentNow t c n y)
+          subst (λ (t : State). WasSent t c n y)
           (sym (behind_is w h m f g s k same.number same.map j goes low_ none))
-          (subst (λ (q : ℕ). IsSentNow (turn_behind f.kept.number f.kept.map c s x (slot_of w.server.slots c) there j.input
+          (subst (λ (q : ℕ). WasSent (turn_behind f.kept.number f.kept.map c s x (slot_of w.server.slots c) there j.input
           (table.at_first s f.kept.number c x j.input) (step x j.input)) c q y) component_
-          (subst (λ (q : Command). IsSentNow (turn_behind f.kept.number f.kept.map c s x (slot_of w.server.slots c) there j.input
+          (subst (λ (q : Command). WasSent (turn_behind f.kept.number f.kept.map c s x (slot_of w.server.slots c) there j.input
           (table.at_first s f.kept.number c x j.input) (step x j.input)) c z.awaited.ask.component q) z.command sent))
 
-      new_of : IsSentNew v (whole_behind k) f.kept.number c n y
+      new_of : IsSentNew v f.kept.number c n y
       new_of = record {
         call = z.call;
         is = call_is;
@@ -229,14 +229,14 @@ module _ (laws : SentLaws) (w : World) (h : List Line) (m : Move) (f g : File) (
         awaited = z.awaited;
         awaits = z.awaits;
         command = z.command;
-        sent = new_sent;
+        place = component_;
       }
 
     -- what the turn sends is awaited so
     pub turn_sent : (e n : ℕ) (y : Command) (at : Component) → HasSent (move w m).world j.client e y →
         In (ToDrive e y) (step j.state j.input).sends → is_write_action y.action ≡ true →
         slice_get f.kept.components n ≡ Some at → y.object ≡ at.object →
-        IsSentNew (move w m).world (whole_behind k) f.kept.number j.client n y
+        IsSentNew (move w m).world f.kept.number j.client n y
     turn_sent e n y at has now write found object = new_of e n y at has (sends e y now write) found object
 
   -- ---- both
@@ -266,6 +266,6 @@ module _ (laws : SentLaws) (w : World) (h : List Line) (m : Move) (f g : File) (
           | inr none ↦
               subst (λ (q : ℕ). WasSent (whole_behind k) q n y) (sym now.0)
               (new_sent none e n y at (subst (λ (q : ℕ). HasSent (move w m).world q e y) now.0 has)
-              (sends none e y now.1 (is_write y.action write)) found object).was
+              (sends none e y now.1 (is_write y.action write)) found object)
         ]
       ]

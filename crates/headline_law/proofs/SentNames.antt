@@ -9,7 +9,6 @@ use Rattle.layout_types.specs.Reading.{layout_in}
 use Rattle.layout_ops.specs.declared.results.LayoutSegment.{LayoutSegment}
 use Rattle.layout_ops.specs.declared.results.LayoutGetOk.{LayoutGetOk}
 use Rattle.layout_ops.specs.declared.results.LayoutGetResult.TheVariants as get
-use Rattle.layout_ops.specs.declared.results.Results.{Results}
 use Rattle.layout_ops.specs.declared.results.Results.TheVariants as results
 use Rattle.layout_ops.specs.declared.messages.Answer.{Answer}
 use Rattle.scenario_text.specs.declared.line.Line.{Line}
@@ -20,7 +19,6 @@ use Rattle.client_rules.specs.History.{Input, Hears, Calls, TimesOut, Leaves, Re
 use Rattle.client_rules.specs.Layouts.{taken}
 use Rattle.client_rules.specs.Messages.{TakesAnswer, takes}
 use Rattle.client_rules.specs.Requests.{grant_in}
-use Rattle.client_rules.specs.Results.{layouts_in}
 use Rattle.server_rules.specs.Layouts.{granted, layout_for, segment_for, stateid_of}
 use Rattle.world_history.specs.ClientNames.{Client, CallOp, Held, Listed, Request, Need, First, Get, Commit, Report, Close, Waits}
 use Rattle.world_history.specs.ServerNames.{Kept, Drive, Grant}
@@ -47,7 +45,8 @@ use Rattle.exchange_law.proofs.HeldWorlds.{readable_fronts, readable_there}
 use Rattle.exchange_law.proofs.Meeting.{client_over}
 use Rattle.exchange_law.proofs.PlaceTaken.{IsTaken, is_taken, credential_is}
 use Rattle.exchange_law.proofs.SlotMoments.{comes_new, always}
-use Rattle.cause_law.proofs.Moments.{Stands, stands, taken_gives}
+use Rattle.component_law.proofs.Given.{taken_gives, given_is}
+use Rattle.cause_law.proofs.Moments.{Stands, stands}
 use Rattle.file_simulation.specs.Relation.{client_of}
 use Rattle.relation_law.proofs.DriveShows.{listed}
 
@@ -67,12 +66,6 @@ abbrev pub AllName : List Held → Type 0
 AllName hs = (file : ℕ) (h : Held) → held_of hs file ≡ Some h → NamesIt file h
 
 -- ---- a grant that is taken
-
-given_is : (r : Results) (given ok : LayoutGetOk) → layouts_in r ≡ Some given → r ≡ results.LayoutGet (get.Granted ok)
-    → given ≡ ok
-given_is r given ok e is =
-    let same : Some ok ≡ Some given = ap layouts_in (sym is) ∙ e in
-    cc (sym same)
 
 number_again : (n : ℕ) → n < 2 ^ 32 → grant_in (stateid_of n) ≡ n
 number_again n low = from_be_bytes-to_be_bytes_4 n low

@@ -1,6 +1,6 @@
 -- Where no client goes on in a move, no client sends a command that it hadn't sent.
 -- Towards `SentGoesOn` (`relation_law/specs/Steps.antt`).
-use Rattle.std.proofs.Common.{◌≡◌, ◌⊎◌, ◌<◌, ℕ, List, [], ◌∷◌, slice_get, Some, None, refl, sym, ap, subst, ◌∙◌, inl, inr, filter}
+use Rattle.std.proofs.Common.{◌≡◌, ◌⊎◌, ◌<◌, ℕ, List, slice_get, Some, None, refl, sym, ap, subst, ◌∙◌, inl, inr, filter}
 use Rattle.std.proofs.lemmas.Option.{same_Some}
 use Rattle.osd_lists.specs.declared.node.Node.TheVariants as node
 use Rattle.osd_commands.specs.declared.commands.Command.{Command}
@@ -10,7 +10,7 @@ use Rattle.scenario_text.specs.declared.names.TheConstants.{CLIENTS}
 use Rattle.server_rules.specs.Laws.{In}
 use Rattle.world_history.specs.declared.messages.Message.{Message}
 use Rattle.world_history.specs.ClientNames.{ToDrive}
-use Rattle.world_history.specs.Handed.{Post, client_posts, is_addressed, wrote_in, data_in, op_in}
+use Rattle.world_history.specs.Handed.{client_posts, is_addressed, wrote_in, data_in, op_in}
 use Rattle.world_history.specs.State.{World, ClientAt, at_number}
 use Rattle.server_rules.specs.History as server
 use Rattle.client_rules.specs.History as client
@@ -31,6 +31,7 @@ use Rattle.file_simulation.specs.ClientEvents.{going_in}
 use Rattle.relation_law.specs.DriveHearing.{AwaitedAreSent}
 use Rattle.relation_law.proofs.ComponentsAbove.{addressed}
 use Rattle.relation_law.proofs.DriveAlike.{begun_alike, pends, times_out}
+use Rattle.relation_law.proofs.ReadsMoves.{in_posted}
 
 -- the client is handed this, and sends the command
 pub record BySender (w : World) (action : Action) (c d : ℕ) (x : Command) : Type 0 where
@@ -107,11 +108,6 @@ sent_before_or_now w m c d x i =
       | inr (p, j, is) ↦
           inr (sends w m.chosen m.action c d x (in_posted (acts w m.chosen m.action).posts p (message_of c d x) j is))
     ]
-  where
-    in_posted : (ps : List Post) (p : Post) (x : Message) → In p ps → x ≡ p.message → In x (posted ps)
-    in_posted [] p x i e = absurd i
-    in_posted (q ∷ ps) p x (inl same) e = inl (e ∙ ap (λ (y : Post). y.message) same)
-    in_posted (q ∷ ps) p x (inr i) e = inr (in_posted ps p x i e)
 
 -- ---- where no client goes on
 

@@ -7,7 +7,7 @@ use Rattle.server_rules.specs.History.{Act, step, state_after}
 use Rattle.server_rules.specs.Making.{new_server}
 use Rattle.world_history.specs.ServerNames.{Server, File, Component}
 use Rattle.world_history.specs.ClientNames.{Held}
-use Rattle.component_law.specs.Performing.{AreDistinct}
+use Rattle.component_law.specs.Distinct.{AreDistinct}
 use Rattle.component_law.proofs.ObjectRuns.{each_object_is_owned}
 use Rattle.exchange_law.specs.Sent.{Names}
 use Rattle.cause_law.proofs.Moments.{WasHeld}

@@ -13,14 +13,13 @@ use Rattle.server_rules.specs.Rebuild.{stands_at}
 use Rattle.server_rules.specs.Replies.{Hearing, Older, Full, Done, Nothing, hearing, others, fills_up, heard_with, hears}
 use Rattle.server_rules.specs.Standing.{any_on, lose_on, lose_from}
 use Rattle.server_rules.proofs.FileLaws.{number_at}
-use Rattle.server_rules.proofs.Members.{in_front}
 use Rattle.server_rules.proofs.Runs.{ran_making}
 use Rattle.history_law.specs.Names.{Server, File, Drive, Effects, Component, Awaited, Target, Job, JobKind, Revoking, Work, Creates, Fences, Fetches, Stores, Targets, Gathers, Fills, Lengths, Checks, NoSpace, Reply}
-use Rattle.component_law.specs.Performing.{AreDistinct}
+use Rattle.component_law.specs.Distinct.{AreDistinct}
 use Rattle.component_law.specs.Objects.{target_in, target_of}
-use Rattle.relation_law.proofs.Places.{IsPlaced, KeepPlaces, keep_from, keep_on}
+use Rattle.relation_law.proofs.Places.{IsPlaced, KeepPlaces, placed_then}
 use Rattle.relation_law.proofs.Walk.{Place, AtFill, AtSources, AtRebuild, Asks, Makes, Raises, Reads, Writes, Aims, Sources, Filled, Measures, Checks_, JobCases, place_behind, lost_place, walk_loses, walk_fence, walk_making, walk_gone, walk_full, walk_waits}
-use Rattle.relation_law.proofs.Ways.{IsAlike, alike_spent, FileWays}
+use Rattle.relation_law.proofs.Ways.{IsAlike, alike_spent, FileWays, alike_lacks, alike_lost}
 use Rattle.relation_law.proofs.WaysSteps.{files_go}
 
 -- a component that is set is at its place
@@ -140,18 +139,11 @@ module _ (f : File) where
       subst (λ (y : File). AllStill y.kept.components) (sym same)
       (λ k at there. (at, there, record { drive = refl; object = refl; missing = λ e. e }))
 
-  placed : (a b c : Component) → IsPlaced a b → IsPlaced b c → IsPlaced a c
-  placed a b c x y = record {
-    drive = y.drive ∙ x.drive;
-    object = y.object ∙ x.object;
-    missing = λ e. x.missing (y.missing e);
-  }
-
   still_kept : (cs ds : List Component) → KeepPlaces cs ds → AllStill cs → AllStill ds
   still_kept cs ds keeps still k at there =
       let was = keeps.back k at there in
       let o = still k was.0 was.1 in
-      (o.0, o.1, placed o.0 was.0 at o.2 was.2)
+      (o.0, o.1, placed_then o.0 was.0 at o.2 was.2)
 
   here : (g : Going) → g.file ≡ f → Remakes g
   here g same = still_remade g.file.kept.components _ (still_here g same)
@@ -160,7 +152,7 @@ module _ (f : File) where
   alike g h a m k at there =
       let was = a.places.back k at there in
       elim (m k was.0 was.1) [
-        | inl old ↦ inl (old.0, old.1, placed old.0 was.0 at old.2 was.2)
+        | inl old ↦ inl (old.0, old.1, placed_then old.0 was.0 at old.2 was.2)
         | inr new ↦
             inr (
               (new.0.0, new.0.1, was.2.object ∙ new.0.2),
@@ -243,14 +235,7 @@ module _ (f : File) where
     lacks = noting (with_components g (lose_from (a.component ∷ []) f.kept.components 0)) (NoSpace a.component)
 
     lacks_alike : IsAlike g lacks
-    lacks_alike = record {
-      job = refl;
-      number = refl;
-      map = refl;
-      phase = refl;
-      places = keep_from (a.component ∷ []) f.kept.components 0;
-      notes = λ x q. in_front x m.notes _ q;
-    }
+    lacks_alike = alike_lacks g a.component
 
     lacks_remakes : (work : Work) → j.work ≡ work → Remakes (loses lacks j work (others j.awaited a.command.nonce) false)
     lacks_remakes work is =
@@ -313,14 +298,7 @@ module _ (f : File) where
       h = with_components g (lose_on drive g.file.kept.components)
 
       lost_alike : IsAlike g h
-      lost_alike = record {
-        job = refl;
-        number = refl;
-        map = refl;
-        phase = refl;
-        places = keep_on drive g.file.kept.components;
-        notes = λ x q. q;
-      }
+      lost_alike = alike_lost g drive
 
       here_lost : Remakes h
       here_lost = alike g h lost_alike (here g same)

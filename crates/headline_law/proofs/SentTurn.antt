@@ -22,6 +22,7 @@ use Rattle.file_simulation.specs.Calls.{IsClient, IsHolding, HeldIs}
 use Rattle.file_simulation.specs.ClientEvents as table
 use Rattle.file_simulation.specs.Events.{joined}
 use Rattle.file_simulation.specs.Grants.{LayoutIs}
+use Rattle.file_simulation.specs.Messages.{WasSent}
 use Rattle.file_simulation.specs.Requests.{kept_for}
 use Rattle.relation_law.specs.CallsCases.{IsTurn}
 use Rattle.relation_law.specs.CallsTurns.{IsMid, IsWorking, PhasePends, PhaseOn, PendsAt}
@@ -37,7 +38,7 @@ use Rattle.relation_law.proofs.WorksRun.{finishes}
 use Rattle.headline_law.proofs.SentMids.{MidCases, each_mid}
 use Rattle.headline_law.proofs.SentSince.{DoneSince, finished_since}
 use Rattle.headline_law.proofs.SentSilent.{turn_since}
-use Rattle.headline_law.proofs.SentWrites.{NamesGrant, IsSentNow, fit_of, writes_sent}
+use Rattle.headline_law.proofs.SentWrites.{NamesGrant, fit_of, writes_sent}
 
 -- ---- a call that works asks nothing
 
@@ -92,7 +93,7 @@ module _ (file : ℕ) (m : RawMap) (c : ℕ) (s : State) (x : Client) (slot : Op
     pub command : awaited.command ≡ y
     pub sent : (file_of call.op == file) ≡ true →
         ((h : Held) (g : Grant) → held_of t.client.held file ≡ Some h → LayoutIs m g h → NamesGrant awaited.command g) →
-        IsSentNow (turn_behind es t) c awaited.ask.component awaited.command
+        WasSent (turn_behind es t) c awaited.ask.component awaited.command
 
   abbrev pub SendsWrites : List Event → Step → Type 0
   SendsWrites es t =
@@ -183,13 +184,13 @@ module _ (file : ℕ) (m : RawMap) (c : ℕ) (s : State) (x : Client) (slot : Op
           in_commands = subst (λ (z : Done). In a z.commands) same there
 
           read_none : (h : Held) → CommandsFit e.client h false e.commands →
-              IsSentNow (told s1 file c e.client (map to_drive e.commands)) c a.ask.component a.command
+              WasSent (told s1 file c e.client (map to_drive e.commands)) c a.ask.component a.command
           read_none h f = absurd (true≢false (sym write ∙ (fit_of e.client h false e.commands f a in_commands).action))
 
           by_phase : (p : Phase) → IsWorking p → ((h : Held) (g : Grant) → held_of e.client.held file ≡ Some h →
               LayoutIs m g h → NamesGrant a.command g) → WorkFits file m s1 c e.client call.op e.commands p →
               PhasePends m s1 c call.op (kept_for slot e.client.outstanding) e.commands p →
-              IsSentNow (told s1 file c e.client (map to_drive e.commands)) c a.ask.component a.command
+              WasSent (told s1 file c e.client (map to_drive e.commands)) c a.ask.component a.command
           by_phase (Scatters io queue) j names f p =
               let z = holding f.0 f.1 in
               writes_sent file c e.client call call_is here f.0 f.1 m s1 z.grant io queue e.commands z.held z.nonce f.3
@@ -202,10 +203,10 @@ module _ (file : ℕ) (m : RawMap) (c : ℕ) (s : State) (x : Client) (slot : Op
           by_phase (Waits n) j names f p = absurd j
 
           was_sent : ((h : Held) (g : Grant) → held_of (finished d).client.held file ≡ Some h → LayoutIs m g h →
-              NamesGrant a.command g) → IsSentNow (turn_behind es (finished d)) c a.ask.component a.command
+              NamesGrant a.command g) → WasSent (turn_behind es (finished d)) c a.ask.component a.command
           unfolding finished
           was_sent names =
-              subst (λ (t : State). IsSentNow t c a.ask.component a.command) (sym behind_is)
+              subst (λ (t : State). WasSent t c a.ask.component a.command) (sym behind_is)
               (by_phase call.phase work
               (λ h g held. names h g (ap (λ (z : Done). held_of z.client.held file) same ∙ held)) work_fits pends)
 

@@ -11,10 +11,11 @@ use Rattle.server_rules.proofs.FileLaws.{number_at}
 use Rattle.server_rules.proofs.Members.{in_map}
 use Rattle.world_history.specs.ServerNames.{Server, File, Component, Target}
 use Rattle.history_law.proofs.Files.{Each, in_at}
-use Rattle.component_law.specs.Objects.{AreOwned, IsOwned, NoneIs, objects_of, target_of}
-use Rattle.component_law.specs.Performing.{AreDistinct}
+use Rattle.component_law.specs.Objects.{AreOwned, IsOwned, objects_of, target_of}
+use Rattle.component_law.specs.Distinct.{AreDistinct}
 use Rattle.exchange_law.proofs.Shapes.{step_shaped}
 use Rattle.cause_law.proofs.PlaceSteps.{Claims, step_since}
+use Rattle.cause_law.proofs.PlaceMoments.{not_in}
 use Rattle.relation_law.proofs.DriveMoves.{got_in}
 use Rattle.relation_law.proofs.FramesFiles.{step_stays}
 use Rattle.headline_law.proofs.SentPlaces.{after_more, distinct_over}
@@ -24,11 +25,6 @@ use Rattle.headline_law.proofs.SentTargets.{components_remade}
 pub record IsUnaimed (o : ℕ) (s : Server) : Type 0 where
   pub given : o < s.next_object
   pub none : (n : ℕ) (f : File) (t : Target) → file_at s.files n ≡ Some f → target_of f.job ≡ Some t → t.object ≡ o → ⊥
-
-not_in : (xs : List ℕ) (o : ℕ) → NoneIs o xs → In o xs → ⊥
-not_in [] o none i = i
-not_in (x ∷ xs) o none (inl e) = none.0 (sym e)
-not_in (x ∷ xs) o none (inr i) = not_in xs o none.1 i
 
 -- an object of a list is a component's
 object_of : (cs : List Component) (k o : ℕ) → slice_get (objects_of cs) k ≡ Some o →

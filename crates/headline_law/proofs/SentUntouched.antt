@@ -25,13 +25,12 @@ use Rattle.history_law.specs.Moments.{IsMoment, lines_in, plan_at}
 use Rattle.history_law.specs.Doing.{input_in}
 use Rattle.history_law.specs.Said.{said, posted}
 use Rattle.history_law.proofs.IssuedLaw.{nothing_allowed}
-use Rattle.history_law.proofs.Staying.{written_front}
 use Rattle.component_law.specs.Objects.{AreOwned}
 use Rattle.component_law.proofs.Moments.{allowed_at}
 use Rattle.component_law.proofs.ObjectRuns.{each_object_is_owned}
 use Rattle.exchange_law.specs.Sent.{HasSent, IsBacked, message_of}
 use Rattle.exchange_law.proofs.Commands.{MaySend}
-use Rattle.exchange_law.proofs.CountGrowing.{fewer, text_front}
+use Rattle.exchange_law.proofs.CountGrowing.{fewer}
 use Rattle.exchange_law.proofs.CountMoments.{reached}
 use Rattle.exchange_law.proofs.HeldWorlds.{next_moment}
 use Rattle.exchange_law.proofs.Knowing.{lawful_at}
@@ -43,6 +42,7 @@ use Rattle.cause_law.proofs.Objects.{placed_there}
 use Rattle.file_simulation.specs.Claim.{IsOfScenario}
 use Rattle.file_simulation.specs.ClientEvents.{Going, going_in}
 use Rattle.file_simulation.specs.Relation.{client_of}
+use Rattle.file_simulation.proofs.Fronts.{scenario_before}
 use Rattle.relation_law.specs.Frames.{ByClient}
 use Rattle.relation_law.specs.Working.{ClientWorks}
 use Rattle.relation_law.proofs.ComponentsAbove.{addressed}
@@ -158,11 +158,7 @@ module _ (laws : MovedLaws) where
       works : ClientWorks j.state
       works =
           subst ClientWorks (parties.client_before w m.action j (acts w m.chosen m.action) mine)
-          (works_at laws.held laws.fresh w h k (record {
-            written = written_front h (lines_in w m) t.written;
-            text = text_front h (lines_in w m) t.text;
-            few = fewer h (lines_in w m) t.few;
-          }) j.client (at_number w.clients j.client) refl)
+          (works_at laws.held laws.fresh w h k (scenario_before h (lines_in w m) t) j.client (at_number w.clients j.client) refl)
 
       -- what its call awaits behind the move
       held_unaimed : (call : Call) → (client_of (move w m).world j.client).call ≡ Some call → (a : Awaited) →
@@ -204,16 +200,9 @@ module _ (laws : MovedLaws) where
   abbrev Stand : World → List Line → Type 0
   Stand w h = IsOfScenario h → AreUnaimed w
 
-  front : (w : World) (h : List Line) (m : Move) → IsOfScenario (h ++ lines_in w m) → IsOfScenario h
-  front w h m t = record {
-    written = written_front h (lines_in w m) t.written;
-    text = text_front h (lines_in w m) t.text;
-    few = fewer h (lines_in w m) t.few;
-  }
-
   pub are_unaimed : (w : World) (h : List Line) → IsMoment w h → IsOfScenario h → AreUnaimed w
   are_unaimed w h k t =
       always Stand (record {
         starts = λ t c d x has. absurd has;
-        moves = λ u g j m d p s. move_unaimed u g j m d s (p (front u g m s));
+        moves = λ u g j m d p s. move_unaimed u g j m d s (p (scenario_before g (lines_in u m) s));
       }) laws.held.right.world.more w h k t

@@ -30,11 +30,6 @@ pub record NamesGrant (y : Command) (g : Grant) : Type 0 where
   pub grant : y.capability.grant ≡ g.number
   pub tag : y.capability.tag ≡ g.tag
 
--- a WRITE was sent, of the entry at which its client is
-pub record IsSentNow (s : State) (c k : ℕ) (x : Command) : Type 0 where
-  pub was : WasSent s c k x
-  pub at_ : s.call c ≡ AtWrite was.write.entry
-
 pub fit_of : (x : Client) (h : Held) (write : Bool) (cs : List Awaited) → CommandsFit x h write cs → (a : Awaited) → In a cs →
     CommandFits x h write a
 fit_of x h write [] f a i = absurd i
@@ -55,40 +50,37 @@ module _ (file c : ℕ) (x : Client) (call : Call) (call_is : x.call ≡ Some ca
       ∙ behind (after_all s (Sends c a.ask.component g j a.ask.offset a.command.nonce ∷ [])) g j cs has at f.1
 
   -- each of them is sent
-  one_was : (s : State) (g : Grant) (j : ℕ) (cs : List Awaited) (a : Awaited) → In a cs → s.call c ≡ AtWrite j →
-      a.command.offset ≡ a.ask.offset → CarriesContent (s.start j) (store_of a) → NamesGrant a.command g →
-      IsSentNow (sent_behind s c j g cs) c a.ask.component a.command
-  one_was s g j cs a i at offset carry names = record {
-    was = record {
-      write = write_sent c j g a;
-      sent = write_there s.writes c j g cs a i;
-      holder = refl;
-      grant = sym names.grant;
-      tag = sym names.tag;
-      nonce = refl;
-      at_ = refl;
-      carries = record { content = rw offset carry.bytes; part = rw offset carry.part; just = rw offset carry.just };
-    };
-    at_ = at;
+  one_was : (s : State) (g : Grant) (j : ℕ) (cs : List Awaited) (a : Awaited) → In a cs → a.command.offset ≡ a.ask.offset →
+      CarriesContent (s.start j) (store_of a) → NamesGrant a.command g →
+      WasSent (sent_behind s c j g cs) c a.ask.component a.command
+  one_was s g j cs a i offset carry names = record {
+    write = write_sent c j g a;
+    sent = write_there s.writes c j g cs a i;
+    holder = refl;
+    grant = sym names.grant;
+    tag = sym names.tag;
+    nonce = refl;
+    at_ = refl;
+    carries = record { content = rw offset carry.bytes; part = rw offset carry.part; just = rw offset carry.just };
   }
 
   sending_sent : (s : State) (g : Grant) (io : Io) (queue : List Store) (cs : List Awaited) → s.held c ≡ Some g →
       CommandsFit x h true cs → IsSending s c call.op io queue cs → (a : Awaited) → In a cs → NamesGrant a.command g →
-      IsSentNow (told s file c x (map to_drive cs)) c a.ask.component a.command
+      WasSent (told s file c x (map to_drive cs)) c a.ask.component a.command
   sending_sent s g io queue cs has f k a i names =
-      subst (λ (t : State). IsSentNow t c a.ask.component a.command)
+      subst (λ (t : State). WasSent t c a.ask.component a.command)
       (sym (behind s g k.entry cs has k.scattering.writing.at_ f))
-      (one_was s g k.entry cs a i k.scattering.writing.at_ (fit_of x h true cs f a i).offset
+      (one_was s g k.entry cs a i (fit_of x h true cs f a i).offset
       (k.scattering.content (store_of a) (in_front (store_of a) (stores_of cs) queue (in_map store_of a cs i))) names)
 
   -- a write that starts behind its gather
   gathered_sent : (m : RawMap) (s : State) (g : Grant) (io : Io) (queue : List Store) (cs : List Awaited) →
       s.held c ≡ Some g → s.nonce c ≤ h.number * NONCES + h.count → CommandsFit x h true cs → (j : ℕ) →
       IsGathering m s c call.op j → io.awaited ≡ cs → IsPlannedAt s c h call.op g io queue cs → (a : Awaited) → In a cs →
-      NamesGrant a.command g → IsSentNow (told s file c x (map to_drive cs)) c a.ask.component a.command
+      NamesGrant a.command g → WasSent (told s file c x (map to_drive cs)) c a.ask.component a.command
   gathered_sent m s g io queue [] has low f j k all plan a i names = absurd i
   gathered_sent m s g io queue (b ∷ cs) has low f j k all plan a i names =
-      subst (λ (t : State). IsSentNow t c a.ask.component a.command)
+      subst (λ (t : State). WasSent t c a.ask.component a.command)
       (sym (same_behind file c x call call_is here h holds m s g io queue b cs has low f j k all plan))
       (sending_sent (after_all s (table.starts_write s c (entry_of s c) h call.op g)) g io queue (b ∷ cs) has f
       (sending file c x call call_is here h holds m s g io queue b cs has low f j k all plan) a i names)
@@ -97,10 +89,10 @@ module _ (file c : ℕ) (x : Client) (call : Call) (call_is : x.call ≡ Some ca
   idle_sent : (s : State) (g : Grant) (io : Io) (queue : List Store) (cs : List Awaited) →
       s.held c ≡ Some g → s.nonce c ≤ h.number * NONCES + h.count → CommandsFit x h true cs → IsIdle s c →
       io.awaited ≡ cs → IsPlannedAt (gathered_none s c h call.op g) c h call.op g io queue cs → (a : Awaited) → In a cs →
-      NamesGrant a.command g → IsSentNow (told s file c x (map to_drive cs)) c a.ask.component a.command
+      NamesGrant a.command g → WasSent (told s file c x (map to_drive cs)) c a.ask.component a.command
   idle_sent s g io queue [] has low f idle all plan a i names = absurd i
   idle_sent s g io queue (b ∷ cs) has low f idle all plan a i names =
-      subst (λ (t : State). IsSentNow t c a.ask.component a.command)
+      subst (λ (t : State). WasSent t c a.ask.component a.command)
       (sym (same_none file c x call call_is here h holds s g io queue b cs has low f idle all plan))
       (gathered_sent h.map (gathered_none s c h call.op g) g io queue (b ∷ cs) has low f s.count
       (gathering file c x call call_is here h holds s g io queue b cs has low f idle all plan) all plan a i names)
@@ -110,12 +102,12 @@ module _ (file c : ℕ) (x : Client) (call : Call) (call_is : x.call ≡ Some ca
       s.held c ≡ Some g → s.nonce c ≤ h.number * NONCES + h.count → CommandsFit x h true cs →
       (IsStarting m s c call.op io queue cs → PlanFits file c x call call_is here h holds m s g io queue cs) →
       PendsWrite m s c call.op io queue cs → (a : Awaited) → In a cs → NamesGrant a.command g →
-      IsSentNow (told s file c x (map to_drive cs)) c a.ask.component a.command
+      WasSent (told s file c x (map to_drive cs)) c a.ask.component a.command
   writes_sent m s g io queue cs has low f plan (inl k) a i names = sending_sent s g io queue cs has f k a i names
   writes_sent m s g io queue cs has low f plan (inr k) a i names = by k.from
     where
       by : ((j : ℕ) × IsGathering m s c call.op j) ⊎ IsIdle s c →
-          IsSentNow (told s file c x (map to_drive cs)) c a.ask.component a.command
+          WasSent (told s file c x (map to_drive cs)) c a.ask.component a.command
       by (inl (j, gathers)) =
           gathered_sent m s g io queue cs has low f j gathers k.all ((plan k).0 j gathers) a i names
       by (inr idle) = idle_sent s g io queue cs has low f idle k.all ((plan k).1 idle) a i names

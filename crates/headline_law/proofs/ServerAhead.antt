@@ -135,8 +135,8 @@ module _ (laws : ClientLaws) (keep : ServersKeepRuns) (w : World) (h : List Line
   stepped i comes =
       let did : Step = step w.server m.chosen i in
       let are : events_of s w (owed k.follows.related) f m
-      ≡ led_by m.action (all_lines laws w h m count f g s k.follows i comes) =
-      lines_are laws w h m count f g s k.follows i comes in
+      ≡ led_by m.action (all_lines w h m count f g s k.follows i comes) =
+      lines_are w h m count f g s k.follows i comes in
       subst (λ (ls : Lines). AheadAt w f s ls count (notes_behind count m.action (Some did))) (sym are)
       (behind_action w f g i did.sends (drive_events s w (owed k.follows.related) f m.action) s
       (at_first s w.server did f g i) did.notes m.action count

@@ -9,7 +9,8 @@ use Rattle.server_rules.specs.Jobs.{is_target, remakes, loses, others_than, decl
 use Rattle.server_rules.proofs.Components.{length_lost_on}
 use Rattle.server_rules.specs.Standing.{any_on, lose_on}
 use Rattle.component_law.specs.KeptWalk.{WorkFits}
-use Rattle.component_law.specs.Sound.{target_in}
+use Rattle.component_law.proofs.KeptJobs.{same_but_components}
+use Rattle.component_law.specs.Objects.{target_in}
 use Rattle.world_history.specs.ServerNames.{File, Component, Effects, Drive, Piece, Target, Job, Work, Creates, Fences, Fetches, Stores, Targets, Gathers, Fills, Lengths, Checks}
 use Rattle.world_history.specs.State.{World}
 use Rattle.fence_law.specs.State.{State, Event}
@@ -33,7 +34,7 @@ use Rattle.headline_law.proofs.ServerFences.{silent_told}
 use Rattle.headline_law.proofs.ServerHears.{done_core, done_lost, no_piece}
 use Rattle.headline_law.proofs.ServerNotes.{silent_may}
 use Rattle.headline_law.proofs.ServerPlaces.{CanFill, Fits, Knows, EndsSourced, JobStands}
-use Rattle.headline_law.proofs.ServerWalk.{IsLaid, Midway, May, cases, same_but_components}
+use Rattle.headline_law.proofs.ServerWalk.{IsLaid, Midway, May, cases}
 
 -- what the machine has where the job goes on without what stood on the drive
 abbrev pub LosesKnows : State → (drive : ℕ) → Job → Type 0

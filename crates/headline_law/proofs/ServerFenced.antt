@@ -30,6 +30,7 @@ use Rattle.history_law.proofs.FencingMoves.{IsSent}
 use Rattle.history_law.proofs.Heard.{heard_reached}
 use Rattle.history_law.proofs.Hearing.{done_is_done}
 use Rattle.history_law.proofs.Holding.{Holds}
+use Rattle.history_law.proofs.Ending.{own_each, fits_reached}
 use Rattle.exchange_law.specs.Counters.{ServerIsCounted}
 use Rattle.exchange_law.specs.Files.{ComponentFits}
 use Rattle.exchange_law.proofs.CountGrowing.{as_many}
@@ -38,7 +39,6 @@ use Rattle.exchange_law.proofs.CountStepping.{FileFits}
 use Rattle.exchange_law.proofs.CountWorlds.{FitsThere, all_fit}
 use Rattle.exchange_law.proofs.Knowing.{lawful_at}
 use Rattle.exchange_law.proofs.Parts.{WorkFits, JobFits}
-use Rattle.component_law.proofs.LeastLaw.{fits_reached}
 use Rattle.fence_law.specs.Columns.{HaveNextTag}
 use Rattle.fence_law.specs.State.{State}
 use Rattle.fence_law.specs.Words.{In as InRun}
@@ -47,7 +47,6 @@ use Rattle.file_simulation.specs.Claim.{IsOfScenario}
 use Rattle.file_simulation.specs.Components.{AreComponents, ObjectIs, has_failed, object_on}
 use Rattle.relation_law.proofs.DriveMoves.{got_in}
 use Rattle.relation_law.proofs.OwnedBefore.{OwnedLaws, held, room}
-use Rattle.relation_law.proofs.OwnedJoined.{own_each}
 
 -- what is known of histories
 pub record FencedLaws : Type 0 where

@@ -19,16 +19,15 @@ use Rattle.history_law.specs.Unforged.{AreUnforged, UnguessedAreUnforged}
 use Rattle.history_law.proofs.Coming.{clean_front}
 use Rattle.history_law.proofs.Files.{in_at, safe_in}
 use Rattle.history_law.proofs.Hearing.{found_in}
-use Rattle.history_law.proofs.Staying.{written_front}
 use Rattle.exchange_law.specs.Files.{AllFilesFit}
-use Rattle.exchange_law.proofs.CountGrowing.{fewer, text_front}
 use Rattle.exchange_law.proofs.CountMoments.{reached}
 use Rattle.exchange_law.proofs.Knowing.{lawful_at}
 use Rattle.component_law.specs.KeptWalk.{WorkFits}
-use Rattle.component_law.specs.Sound.{EachStepIsSound, IsAimed, IsAim, target_in, target_of}
+use Rattle.component_law.specs.Sound.{EachStepIsSound, IsAimed, IsAim}
 use Rattle.component_law.specs.Moments.{ServerWritesToOthers}
-use Rattle.component_law.proofs.MoveFacts.{are_named}
+use Rattle.component_law.proofs.NamedLines.{are_named}
 use Rattle.component_law.proofs.Rounds.{each_at}
+use Rattle.component_law.specs.Objects.{target_of, target_in}
 use Rattle.fence_law.specs.State.{State, Layout}
 use Rattle.fence_law.specs.Law.{IsCode}
 use Rattle.fence_law.specs.Machine.{after_all}
@@ -39,6 +38,7 @@ use Rattle.plan_law.proofs.Codes.{layouts_are_codes}
 use Rattle.file_simulation.specs.Claim.{IsOfScenario}
 use Rattle.file_simulation.specs.Jobs.{IsFilling, DoneIn, TargetIn, IsTarget, JobIs}
 use Rattle.file_simulation.specs.ServerEvents.{declared_from}
+use Rattle.file_simulation.proofs.Fronts.{scenario_before}
 use Rattle.relation_law.specs.Awaiting.{FitsIn}
 use Rattle.relation_law.specs.DriveHearing.{IsLaidOut}
 use Rattle.relation_law.specs.Steps.{Follows}
@@ -88,11 +88,7 @@ have_left s t left have n low = elim (have n (subst (λ (y : Layout). n < y.comp
 module _ (laws : GivenLaws) (w : World) (h : List Line) (m : Move) (count : ℕ) (f g : File) (s : State)
     (k : Follows w h m count f g s) where
   pub scenario : IsOfScenario h
-  scenario = record {
-    written = written_front h (take count (lines_in w m)) k.calm.scenario.written;
-    text = text_front h (take count (lines_in w m)) k.calm.scenario.text;
-    few = fewer h (take count (lines_in w m)) k.calm.scenario.few;
-  }
+  scenario = scenario_before h (take count (lines_in w m)) k.calm.scenario
 
   unforged : AreUnforged h
   unforged = laws.unforged h (lawful_at w h k.moment) (clean_front h (take count (lines_in w m)) k.calm.is_unguessed)

@@ -13,8 +13,9 @@ use Rattle.server_rules.proofs.Components.{length_lost}
 use Rattle.server_rules.specs.Standing.{lose_from}
 use Rattle.server_rules.specs.declared.limits.TheConstants.{OLD_FORMAT}
 use Rattle.component_law.specs.KeptWalk.{WorkFits}
-use Rattle.component_law.specs.Sound.{target_in}
 use Rattle.component_law.specs.Tagged.{is_fence}
+use Rattle.component_law.proofs.KeptJobs.{same_but_components}
+use Rattle.component_law.specs.Objects.{target_in}
 use Rattle.world_history.specs.ServerNames.{File, Kept, NoSpace, Repairing, Piece, Target, Job, Work, Creates, Fences, Fetches, Stores, Targets, Gathers, Fills, Lengths, Checks, Awaited, Reply}
 use Rattle.world_history.specs.State.{World}
 use Rattle.fence_law.specs.State.{State, Layout}
@@ -37,7 +38,7 @@ use Rattle.relation_law.proofs.Walk.{Place, AtStart, AtRepair, AtFill, place_beh
 use Rattle.headline_law.specs.ServerLines.{NotesMay}
 use Rattle.headline_law.proofs.ServerPlaces.{Fits, Knows, JobStands, LastKnows}
 use Rattle.headline_law.proofs.ServerNotes.{none_may, own_may, behind_own}
-use Rattle.headline_law.proofs.ServerWalk.{IsLaid, Midway, May, cases, same_but_components}
+use Rattle.headline_law.proofs.ServerWalk.{IsLaid, Midway, May, cases}
 
 -- ---- what is done stays
 

@@ -63,6 +63,32 @@ led_may s (moves.Delivers n) ls may = may
 led_may s (moves.TimesOut c k) ls may = may
 led_may s (moves.Pends c) ls may = may
 
+-- ---- the lines of a step
+
+module _ (w : World) (h : List Line) (m : Move) (count : ℕ) (f g : File) (s : State) (k : Follows w h m count f g s) (i : Input)
+    (comes : input_in w m.action ≡ Some i) where
+  pub found_there : file_at (step w.server m.chosen i).state.files f.kept.number ≡ Some g
+  found_there = ap (λ (x : Server). file_at x.files f.kept.number) (sym (server_steps w m i comes)) ∙ k.goes
+
+  its_lines : server_events s w f.kept.number (input_in w m.action) (did_in w m)
+      ≡ server_goes s w (step w.server m.chosen i) i (Some f) (Some g)
+  its_lines =
+      ap (λ (o : Option Input). server_events s w f.kept.number o (step_by w.server m.chosen o)) comes
+      ∙ ap (λ (o : Option File). server_goes s w (step w.server m.chosen i) i o
+      (file_at (step w.server m.chosen i).state.files f.kept.number)) k.there
+      ∙ ap (λ (o : Option File). server_goes s w (step w.server m.chosen i) i (Some f) o) found_there
+
+  -- what stands behind a line that leads
+  abbrev pub all_lines : Lines
+  all_lines = server_goes s w (step w.server m.chosen i) i (Some f) (Some g) ++ drive_events s w (owed k.related) f m.action
+
+  pub lines_are : events_of s w (owed k.related) f m ≡ led_by m.action all_lines
+  lines_are =
+      ap (λ (o : Option Going). led_by m.action (events_at s w (owed k.related) f m o)) (server_alone w m.action i comes)
+      ∙ ap (λ (ls : Lines). led_by m.action (ls ++ drive_events s w (owed k.related) f m.action)) its_lines
+
+-- ---- that they can happen
+
 module _ (laws : ClientLaws) (w : World) (h : List Line) (m : Move) (count : ℕ) (f g : File) (s : State)
     (k : Follows w h m count f g s) where
   -- ---- what comes to the server
@@ -98,10 +124,6 @@ module _ (laws : ClientLaws) (w : World) (h : List Line) (m : Move) (count : ℕ
   abbrev May : Input → Type 0
   May i = StepMay s w f g i (step w.server m.chosen i)
 
-  found_there : (i : Input) → input_in w m.action ≡ Some i
-      → file_at (step w.server m.chosen i).state.files f.kept.number ≡ Some g
-  found_there i comes = ap (λ (x : Server). file_at x.files f.kept.number) (sym (server_steps w m i comes)) ∙ k.goes
-
   turn : (i : Input) → input_in w m.action ≡ Some i → in_turn w.down i ≡ true
   turn i comes = turn_in w m.action i (allowed_at w h k.moment m.action k.is_due) comes
 
@@ -118,8 +140,8 @@ module _ (laws : ClientLaws) (w : World) (h : List Line) (m : Move) (count : ℕ
       plain_may w.server.next_grant s w f m.chosen (stands_so laws.given w h m count f g s k)
       (is_ready laws.given w h m count f g s k) (job_stands laws.given w h m count f g s k) i (comes_so i comes) no_
       (no_order_is_heard w (reached w h k.moment) i (heard_in w m.action i comes))
-      (idle_by w w.down refl is_fit i (turn i comes)) (fit_by w w.down refl is_fit i (turn i comes)) g (found_there i comes)
-      law in
+      (idle_by w w.down refl is_fit i (turn i comes)) (fit_by w w.down refl is_fit i (turn i comes)) g
+      (found_there w h m count f g s k i comes) law in
       record {
         first = subst (Lawful s) (sym first) law;
         notes = subst (λ (es : List Event). NotesMay (after_all s es) w f i did.notes) (sym first) notes;
@@ -135,7 +157,7 @@ module _ (laws : ClientLaws) (w : World) (h : List Line) (m : Move) (count : ℕ
       (λ own taken.
       asked_so laws w h m count f g s k now q
       (comes ∙ ap (λ (n : ℕ). Some (Hears now (FromClient n) (Asks q))) (sym own)) taken) g
-      (found_there (Hears now (FromClient c) (Asks q)) comes)
+      (found_there w h m count f g s k (Hears now (FromClient c) (Asks q)) comes)
   may (Hears now (FromClient c) (Replies r)) comes = plain (Hears now (FromClient c) (Replies r)) comes tt
   may (Hears now (FromClient c) (Orders o)) comes = plain (Hears now (FromClient c) (Orders o)) comes tt
   may (Hears now FromServer b) comes = plain (Hears now FromServer b) comes tt
@@ -152,27 +174,10 @@ module _ (laws : ClientLaws) (w : World) (h : List Line) (m : Move) (count : ℕ
   -- ---- the lines of the move
 
   module _ (i : Input) (comes : input_in w m.action ≡ Some i) where
-    its_lines : server_events s w f.kept.number (input_in w m.action) (did_in w m)
-        ≡ server_goes s w (step w.server m.chosen i) i (Some f) (Some g)
-    its_lines =
-        ap (λ (o : Option Input). server_events s w f.kept.number o (step_by w.server m.chosen o)) comes
-        ∙ ap (λ (o : Option File). server_goes s w (step w.server m.chosen i) i o
-        (file_at (step w.server m.chosen i).state.files f.kept.number)) k.there
-        ∙ ap (λ (o : Option File). server_goes s w (step w.server m.chosen i) i (Some f) o) (found_there i comes)
-
-    -- what stands behind a line that leads
-    abbrev pub all_lines : Lines
-    all_lines = server_goes s w (step w.server m.chosen i) i (Some f) (Some g) ++ drive_events s w (owed k.related) f m.action
-
-    pub lines_are : events_of s w (owed k.related) f m ≡ led_by m.action all_lines
-    lines_are =
-        ap (λ (o : Option Going). led_by m.action (events_at s w (owed k.related) f m o)) (server_alone w m.action i comes)
-        ∙ ap (λ (ls : Lines). led_by m.action (ls ++ drive_events s w (owed k.related) f m.action)) its_lines
-
     pub lines_may : MayGo s (events_of s w (owed k.related) f m)
     lines_may =
-        subst (MayGo s) (sym lines_are)
-        (led_may s m.action all_lines
+        subst (MayGo s) (sym (lines_are w h m count f g s k i comes))
+        (led_may s m.action (all_lines w h m count f g s k i comes)
         (more_go s (server_goes s w (step w.server m.chosen i) i (Some f) (Some g))
         (drive_events s w (owed k.related) f m.action)
         (step_goes s w f g i (step w.server m.chosen i) (may i comes))

@@ -19,6 +19,7 @@ use Rattle.client_rules.specs.Calls.{file_of}
 use Rattle.client_rules.specs.Grants.{held_of}
 use Rattle.component_law.specs.KeptWalk as kept
 use Rattle.component_law.specs.KeptWalk.{noted_of}
+use Rattle.component_law.proofs.KeptJobs.{same_but_components}
 use Rattle.world_history.specs.ServerNames.{File, Kept, Component, Grant, Note, Still, Reported, IoErr, ClientRequest, Return as Returns}
 use Rattle.world_history.specs.ClientNames.{CallOp, TimedOut, Report, Waits}
 use Rattle.world_history.specs.State.{World}
@@ -53,7 +54,6 @@ use Rattle.headline_law.specs.ServerLines.{NotesMay}
 use Rattle.headline_law.proofs.ServerNotes.{none_may, own_may, behind_own}
 use Rattle.headline_law.proofs.ServerOwn.{StandsSo}
 use Rattle.headline_law.proofs.ServerReturns.{RequestMay, ReturnMay}
-use Rattle.headline_law.proofs.ServerWalk.{same_but_components}
 
 -- ---- the row
 

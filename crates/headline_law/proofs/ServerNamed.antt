@@ -1,7 +1,6 @@
 -- At each moment a client's report names each component that timed out, if the server has the client's grant, and each entry
 -- names a component: `EachReportNamesAll` (`specs/ServerWorlds.antt`).
-use Rattle.std.proofs.Common.{◌≡◌, ◌⊎◌, ◌++◌, ◌≤◌, ℕ, true, List, [], ◌∷◌, length, Some, inl, inr, refl, sym, ap, subst, ◌∙◌}
-use Rattle.std.proofs.lemmas.Bool.{cases_eq}
+use Rattle.std.proofs.Common.{◌≡◌, ◌≤◌, ℕ, true, List, [], ◌∷◌, length, Some, refl, sym, ap, subst, ◌∙◌}
 use Rattle.layout_types.specs.declared.ioerrs.IoErr.{IoErr}
 use Rattle.scenario_text.specs.declared.line.Line.{Line}
 use Rattle.client_rules.specs.Calls.{file_of}
@@ -10,18 +9,13 @@ use Rattle.client_rules.specs.History.{Input, step as client_step}
 use Rattle.client_rules.specs.Requests.{object_of, error_at, return_args, report_of}
 use Rattle.server_rules.specs.Envelopes.{asked_in}
 use Rattle.server_rules.specs.Files.{file_at}
-use Rattle.server_rules.specs.History.{Input as ServerInput, step}
 use Rattle.server_rules.specs.Laws.{In}
 use Rattle.server_rules.specs.Numbers.{among}
 use Rattle.server_rules.specs.Return.{named}
 use Rattle.world_history.specs.ClientNames.{Client, CallOp, Held, Request, TimedOut, Report, Waits}
 use Rattle.world_history.specs.ServerNames.{Server, Kept, Return as Returns}
-use Rattle.world_history.specs.Moves.{Act, Action, acts}
-use Rattle.world_history.specs.Plans.{due}
-use Rattle.world_history.specs.Sending.{Move, move}
 use Rattle.world_history.specs.State.{World, ClientAt, at_number}
-use Rattle.history_law.specs.Moments.{IsMoment, lines_in, plan_at}
-use Rattle.history_law.proofs.Goes.{moves_are_steps}
+use Rattle.history_law.specs.Moments.{IsMoment}
 use Rattle.component_law.proofs.PartyKeeping.{IsAlike}
 use Rattle.cause_law.specs.Reports.{report_read}
 use Rattle.cause_law.proofs.Going.{FoundShort, CallShort, ClientShort, found_short}
@@ -30,18 +24,14 @@ use Rattle.cause_law.proofs.Moving.{report_short}
 use Rattle.cause_law.proofs.ReportSteps.{step_short}
 use Rattle.cause_law.specs.Readable.{FilesAndAnswersAreReadable}
 use Rattle.exchange_law.specs.Calls.{CallFine}
-use Rattle.exchange_law.specs.Doing.{IsHeardByServer, OthersGo, ServerGoes, ClientGoes, ClientStops, ClientComes, Goes, Others, AServer, AClient, Stops, Comes}
 use Rattle.exchange_law.specs.InStep.{state_of}
 use Rattle.exchange_law.specs.Meeting.{KeptGood, IsReadableThrough}
 use Rattle.exchange_law.proofs.ClientMoves.{clients_always}
-use Rattle.exchange_law.proofs.Each.{put_same, put_other, stopped_same, come_same}
-use Rattle.exchange_law.proofs.HeldAsking.{IsOwn}
-use Rattle.exchange_law.proofs.HeldWorlds.{readable_fronts, readable_there, reached}
+use Rattle.exchange_law.proofs.HeldWorlds.{readable_there, reached}
 use Rattle.exchange_law.proofs.Knowing.{lawful_at}
-use Rattle.exchange_law.proofs.SlotMoments.{comes_new, always}
 use Rattle.file_simulation.specs.Relation.{client_of}
 use Rattle.relation_law.proofs.KeptServer.{at_place}
-use Rattle.relation_law.proofs.RequestsHeard.{its_request}
+use Rattle.relation_law.proofs.ClientsWalk.{StepsKeep, holds_always, own_request}
 use Rattle.relation_law.proofs.FramesFiles.{files_distinct}
 use Rattle.relation_law.proofs.ReturnsNamed.{same_names, each_named}
 use Rattle.relation_law.proofs.ReturnsRead.{read_report}
@@ -80,9 +70,6 @@ Names s c y =
 
 abbrev Stands : World → Type 0
 Stands w = (c : ℕ) → Names w.server c (client_of w c)
-
-abbrev Stand : World → List Line → Type 0
-Stand w h = IsReadableThrough h → Stands w
 
 module _ (laws : ReturnsLaws) where
   -- ---- a client's step
@@ -136,99 +123,22 @@ module _ (laws : ReturnsLaws) where
         by (Now hh from args) = named_by_held op timed r report hh from args told few
         by (NoReturn args) = absurd (cc (sym (ap asked_in args) ∙ told))
 
-  -- ---- the server's step
-
-  own_request : (w : World) (h : List Line) (k : IsMoment w h) → IsReadableThrough h → (c : ℕ) (i : ServerInput)
-      → IsHeardByServer w i → IsOwn w.server c (client_of w c) i
-  own_request w h k t c i heard now q is mine named_ new =
-      let it =
-      its_request w h c k (laws.in_step w h k c) (readable_there w h k t) now q named_ (subst (IsHeardByServer w) is heard) new
-      in (it.request, it.outstanding, it.reads)
-
-  -- ---- a move
-
-  module _ (w : World) (h : List Line) (k : IsMoment w h) (m : Move) (d : due (plan_at k) w ≡ Some m.action)
-      (before : Stand w h) (t : IsReadableThrough (h ++ lines_in w m)) where
-    abbrev a : Act
-    a = acts w m.chosen m.action
-
-    abbrev v : World
-    v = (move w m).world
-
-    t_before : IsReadableThrough h
-    t_before = readable_fronts h (lines_in w m) t
-
-    s : Stands w
-    s = before t_before
-
-    idle : (c : ℕ) → v.server ≡ w.server → Names w.server c (client_of v c) → Names v.server c (client_of v c)
-    idle c server r = subst (λ (x : Server). Names x c (client_of v c)) (sym server) r
-
-    as_before : (c : ℕ) → client_of v c ≡ client_of w c → Names w.server c (client_of v c)
-    as_before c is = subst (Names w.server c) (sym is) (s c)
-
-    others : OthersGo w a → Stands v
-    others g c = idle c g.server (as_before c (ap (λ (xs : _). state_of c (at_number xs c)) g.clients))
-
-    stops : ClientStops w a → Stands v
-    stops g c =
-        idle c g.server (as_before c (ap (λ (xs : _). state_of c (at_number xs c)) g.clients
-        ∙ stopped_same w.clients g.client c g.before g.after g.found g.state))
-
-    comes : ClientComes w m.action a → Stands v
-    comes g c =
-        let none = comes_new w h k g.client (d ∙ ap (λ (x : Action). Some x) g.action_is) in
-        idle c g.server (as_before c (ap (λ (xs : _). state_of c (at_number xs c)) g.clients
-        ∙ come_same w.clients g.client c g.after none g.state))
-
-    client_steps : ClientGoes w a → Stands v
-    client_steps g c = idle c g.server (at (cases_eq c g.client))
-      where
-        after : client_of v g.client ≡ (client_step g.before.state g.input).client
-        after =
-            ap (λ (xs : _). state_of g.client (at_number xs g.client)) g.clients
-            ∙ ap (state_of g.client) (put_same w.clients g.client g.before g.after g.found) ∙ g.state
-
-        at : (c ≡ g.client) ⊎ (c ≡ g.client → ⊥) → Names w.server c (client_of v c)
-        at (inl it) =
-            subst (λ (n : ℕ). Names w.server n (client_of v n)) (sym it)
-            (subst (Names w.server g.client) (sym after)
-            (client_names w h k t_before s g.client g.before g.found g.input))
-        at (inr other) =
-            as_before c (ap (λ (xs : _). state_of c (at_number xs c)) g.clients
-            ∙ ap (state_of c) (put_other w.clients g.client c g.after other))
-
-    server_steps : ServerGoes w m.chosen a → Stands v
-    server_steps g c =
+  steps_keep : StepsKeep Names
+  steps_keep = record {
+    starts = λ n op timed r call. absurd (cc call);
+    client = λ w h k t s c a found i. client_names w h k t s c a found i;
+    server = λ w h k m d t later s g c op timed r call out report told.
         let x : Client = client_of w c in
-        let is : client_of v c ≡ x = ap (λ (xs : _). state_of c (at_number xs c)) g.clients in
-        let fine_ : CallFine (KeptGood w.server c) x.held x.outstanding x.call = (laws.agree w h k t_before c).call in
-        let behind : Names (step w.server m.chosen g.input).state c x =
-        λ op timed r call out report told.
+        let fine_ : CallFine (KeptGood w.server c) x.held x.outstanding x.call = (laws.agree w h k t c).call in
         stays_behind w.server m.chosen c x
         (subst (CallFine (KeptGood w.server c) x.held x.outstanding) call fine_).1
         (file_of op) (NamesAll timed report) (stays timed report) (s c op timed r call out report told) g.input
-        (laws.safe w (reached w h k)) (own_request w h k t_before c g.input g.heard) in
-        subst (λ (y : Server). Names y c (client_of v c)) (sym g.server)
-        (subst (Names (step w.server m.chosen g.input).state c) (sym is) behind)
-
-    by_goes : Goes w m.chosen m.action a → Stands v
-    by_goes (Others g) = others g
-    by_goes (AServer g) = server_steps g
-    by_goes (AClient g) = client_steps g
-    by_goes (Stops g) = stops g
-    by_goes (Comes g) = comes g
-
-    move_stands : Stands v
-    move_stands = by_goes (moves_are_steps w m.chosen m.action).goes
+        (laws.safe w (reached w h k)) (own_request laws.in_step w h k t c g.input g.heard);
+  }
 
   -- so it is at each moment
   names_stand : (w : World) (h : List Line) → IsMoment w h → IsReadableThrough h → (c : ℕ) → Names w.server c (client_of w c)
-  names_stand w h k t c =
-      always Stand (record {
-        starts = λ z n op timed r call. absurd (cc call);
-        moves = λ u g j m d p z. move_stands u g j m d p z;
-      }) laws.more w h k t c
+  names_stand = holds_always Names steps_keep laws.more
 
 -- Each report names all that timed out, while the server has the grant.
 pub each_report_names_all : ReturnsLaws → FilesAndAnswersAreReadable → EachReportNamesAll

@@ -7,7 +7,7 @@ use Rattle.server_rules.specs.Rebuild.{group_for}
 use Rattle.server_rules.specs.Replies.{Done, hearing, others, heard_with}
 use Rattle.component_law.specs.Tagged.{is_fence}
 use Rattle.component_law.specs.KeptWalk.{WorkFits}
-use Rattle.component_law.specs.Sound.{target_in}
+use Rattle.component_law.specs.Objects.{target_in}
 use Rattle.world_history.specs.ServerNames.{File, Component, Still, Repairing, Target, Work, Targets, Gathers, Fills, Job, Awaited, Reply}
 use Rattle.fence_law.specs.State.{State}
 use Rattle.fence_law.specs.Columns.{HaveNextTag}

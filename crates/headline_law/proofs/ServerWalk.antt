@@ -15,6 +15,7 @@ use Rattle.server_rules.specs.Repair.{mended}
 use Rattle.component_law.specs.Components.{is_lacking}
 use Rattle.component_law.specs.KeptWalk as kept
 use Rattle.component_law.specs.KeptWalk.{noted_of}
+use Rattle.component_law.proofs.KeptJobs.{same_but_components}
 use Rattle.world_history.specs.ServerNames.{File, Kept, Component, Note, NoteKind, Ready, Fenced, Repaired, Rebuilt, NoDrive, Lost, NoSpace, Repairing, Still, Piece, Target}
 use Rattle.world_history.specs.State.{World, at_number}
 use Rattle.fence_law.specs.State.{State}
@@ -50,21 +51,6 @@ pub record IsLaid (t : State) (f : File) : Type 0 where
   pub checked : IsChecked f.kept.map
   pub layout : t.layout ≡ layout_of f.kept.map f.kept.first_tag
   pub many : length f.kept.components ≡ f.kept.map.comps
-
--- only the components differ
-pub same_but_components : (k : Kept) (cs : List Component) → kept.AreAlike k (record k { components = cs })
-same_but_components k cs = record {
-  number = refl;
-  map = refl;
-  first_tag = refl;
-  tag = refl;
-  size = refl;
-  high = refl;
-  phase = refl;
-  grants = refl;
-  ended = refl;
-  ready = λ e. e;
-}
 
 -- Of a file in the middle of a step: `s` is the machine before the step, and `t` the one behind its first line.
 module _ (next : ℕ) (s t : State) (w : World) (f : File) (i : Input) (safe : Safe t) (laid : IsLaid t f) where

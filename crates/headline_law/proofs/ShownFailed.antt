@@ -24,7 +24,7 @@ use Rattle.cause_law.proofs.Eventless.{NoEvent, first_plain, opens_plain, later_
 use Rattle.exchange_law.proofs.SlotMoments.{always}
 use Rattle.file_simulation.specs.Components.{has_failed}
 use Rattle.relation_law.specs.Growing.{DrivesGrow, Grows}
-use Rattle.relation_law.proofs.PendingMoves.{opening_allowed}
+use Rattle.exchange_law.proofs.PendingMoves.{opening_allowed}
 
 -- ---- lines
 
@@ -45,7 +45,7 @@ plain_lines ds (l ∷ ls) none =
 -- ---- a move
 
 -- the lines of a move begin no event but its own
-move_plain : (w : World) (h : List Line) (k : IsMoment w h) (m : Move) → due (plan_at k) w ≡ Some m.action →
+pub move_plain : (w : World) (h : List Line) (k : IsMoment w h) (m : Move) → due (plan_at k) w ≡ Some m.action →
     NoEvent (move w m).lines
 move_plain w h k m d = by_opening (plan_at k).opening d
   where
@@ -64,7 +64,9 @@ one_more w h m (Opens (event.Fail e)) is none d ds in_ =
     elim (cases_eq d e) [
       | inl same ↦ inr (ap (λ (n : ℕ). Opens (event.Fail n)) (sym same))
       | inr other ↦
-          inl (rw (ne_eqb d e other) at (sym (ap (λ (xs : List ℕ). among d xs) (plain_lines (e ∷ ds) (move w m).lines none)) ∙ in_))
+          inl
+          (rw (ne_eqb d e other) at
+          (sym (ap (λ (xs : List ℕ). among d xs) (plain_lines (e ∷ ds) (move w m).lines none)) ∙ in_))
     ]
 one_more w h m (Opens e) is none d ds in_ =
     inl (sym (ap (λ (xs : List ℕ). among d xs) (plain_lines ds (move w m).lines none)) ∙ in_)

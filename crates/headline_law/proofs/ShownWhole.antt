@@ -1,5 +1,5 @@
 -- What the lines show of a file behind a whole move: its map, and its components as they stand in the world.
-use Rattle.std.proofs.Common.{◌≡◌, ℕ, ◌<◌, ◌++◌, List, Bool, true, false, ◌||◌, Option, Some, None, slice_get, get_or, refl, sym, ap, subst, ◌∙◌, arith}
+use Rattle.std.proofs.Common.{◌≡◌, ℕ, ◌++◌, List, Bool, true, false, ◌||◌, Option, Some, None, slice_get, get_or, refl, sym, ap, subst, ◌∙◌, arith}
 use Rattle.std.proofs.lemmas.Option.{same_Some}
 use Rattle.osd_objects.specs.declared.object.StoredObject.{StoredObject}
 use Rattle.osd_objects.specs.Store.{bytes_or_none}
@@ -23,24 +23,48 @@ use Rattle.server_rules.proofs.FileLaws.{safe_at}
 use Rattle.component_law.proofs.Server.{found_own}
 use Rattle.exchange_law.proofs.CountMoments.{reached}
 use Rattle.history_law.proofs.DriveLines.{drive_read}
+use Rattle.history_law.proofs.Ending.{at_moment}
 use Rattle.component_law.proofs.Failed.{failed_seen}
 use Rattle.component_law.proofs.Failed as failed
-use Rattle.component_law.proofs.MoveFacts.{seen_server}
+use Rattle.component_law.proofs.SeenServer.{seen_server}
 use Rattle.fence_law.specs.State as machine
 use Rattle.fence_law.specs.State.{State}
 use Rattle.file_simulation.specs.Claim.{IsOfScenario, byte_stored}
 use Rattle.file_simulation.specs.Components.{has_failed, is_lost_in, object_on, object_of, ObjectIs, AreComponents}
 use Rattle.file_simulation.specs.Phases.{IsKept, PhaseIs, OutstandingIs}
 use Rattle.file_simulation.specs.Showing.{IsRun, ShowsComponent}
+use Rattle.file_simulation.specs.Simulation.{EarlierAreOver}
 use Rattle.relation_law.specs.Growing.{DrivesGrow}
 use Rattle.relation_law.specs.Steps.{FollowsWhole, whole_behind}
 use Rattle.relation_law.proofs.FramesFiles.{file_stays}
-use Rattle.relation_law.proofs.Hearing.{at_moment}
 use Rattle.relation_law.proofs.Followed as followed
 use Rattle.headline_law.specs.Parts.{SameShown}
 use Rattle.headline_law.proofs.CalmCodes.{server_shown}
 use Rattle.headline_law.proofs.GrantTags.{run_numbered}
 use Rattle.headline_law.proofs.ShownFailed.{failed_have}
+
+-- ---- an object
+
+-- the byte that is stored is that of the object
+pub stored_is : (o : Option DriveAt) (object z : ℕ) → byte_stored o object z ≡ get_or (bytes_or_none (object_on o object)) z 0
+stored_is None object z = refl
+stored_is (Some a) object z = refl
+
+-- so the machine has the bytes that are stored, where it has the object or what stands for it
+pub stored_object : (s : State) (w : World) (f : File) (i : ℕ) (at : Component) → ObjectIs s f i at (object_of w at) → (z : ℕ) →
+    s.cell i z ≡ byte_stored (at_number w.drives at.drive) at.object z
+stored_object s w f i at is z =
+    by (object_of w at) is
+    ∙ sym (stored_is (at_number w.drives at.drive) at.object z)
+  where
+    by : (o : Option StoredObject) → ObjectIs s f i at o → s.cell i z ≡ get_or (bytes_or_none o) z 0
+    by None none = none.cells z
+    by (Some x) there = there.cells z
+
+-- an object that isn't there has no byte but 0
+pub nothing_stored : (o : Option DriveAt) (object : ℕ) → object_on o object ≡ None → (z : ℕ) → byte_stored o object z ≡ 0
+nothing_stored o object none z =
+    stored_is o object z ∙ ap (λ (x : Option StoredObject). get_or (bytes_or_none x) z 0) none
 
 -- ---- a moment
 
@@ -52,7 +76,8 @@ module _ (book : BookIsRead) (more : OneEventMore) (grow : DrivesGrow) (w : Worl
       server_shown first_seen (steps_of h) refl
       ∙ ap (λ x. x.server) (seen_server first_seen (steps_of h) ∙ book w h k scenario.written)
 
-  -- so is each drive
+module _ (more : OneEventMore) (grow : DrivesGrow) (w : World) (h : List Line) (k : IsMoment w h) where
+  -- each drive that is read off the lines is the world's
   pub drive_is : (d : ℕ) → drive_after h d ≡ at_number w.drives d
   drive_is d = drive_read w (at_moment w h k).read.injected h d (at_moment w h k).read.drives
 
@@ -63,7 +88,7 @@ module _ (book : BookIsRead) (more : OneEventMore) (grow : DrivesGrow) (w : Worl
       same None e = e
       same (Some a) e = e
 
-  failed_is : (d : ℕ) → among d (moment_of h).failed ≡ has_failed (at_number w.drives d)
+  pub failed_is : (d : ℕ) → among d (moment_of h).failed ≡ has_failed (at_number w.drives d)
   failed_is d = by (among d (moment_of h).failed) refl (has_failed (at_number w.drives d)) refl
     where
       by : (a : Bool) → among d (moment_of h).failed ≡ a → (b : Bool) → has_failed (at_number w.drives d) ≡ b → a ≡ b
@@ -83,25 +108,10 @@ module _ (book : BookIsRead) (more : OneEventMore) (grow : DrivesGrow) (w : Worl
       let is = are i at there in
       record {
         lost = λ e. lost_is at ∙ sym is.lost ∙ e;
-        same = λ u n. is.lost ∙ sym (lost_is at);
         cells = λ stands z.
-            by_object (object_of w at) refl ((is.stands (is.lost ∙ sym (lost_is at) ∙ stands)).object) z
+            stored_object s w f i at ((is.stands (is.lost ∙ sym (lost_is at) ∙ stands)).object) z
             ∙ ap (λ o. byte_stored o at.object z) (sym (drive_is at.drive));
       }
-    where
-      by_drive : (o : Option DriveAt) → object_on o at.object ≡ None → (z : ℕ) → byte_stored o at.object z ≡ 0
-      by_drive None none z = refl
-      by_drive (Some a) none z = ap (λ (x : Option StoredObject). get_or (bytes_or_none x) z 0) none
-
-      made : (o : Option DriveAt) (x : StoredObject) → object_on o at.object ≡ Some x → (z : ℕ) →
-          get_or x.content.bytes z 0 ≡ byte_stored o at.object z
-      made None x is z = absurd (cc is)
-      made (Some a) x is z = sym (ap (λ (y : Option StoredObject). get_or (bytes_or_none y) z 0) is)
-
-      by_object : (o : Option StoredObject) → object_of w at ≡ o → ObjectIs s f i at o → (z : ℕ) →
-          s.cell i z ≡ byte_stored (at_number w.drives at.drive) at.object z
-      by_object None none is z = is.cells z ∙ sym (by_drive (at_number w.drives at.drive) none z)
-      by_object (Some x) there is z = is.cells z ∙ made (at_number w.drives at.drive) x there z
 
 -- ---- grants of earlier tags
 
@@ -137,7 +147,7 @@ pub record ShownLaws : Type 0 where
 -- the file as the lines show it, and its components
 pub record WholeShown {w : World} {h : List Line} {m : Move} {f g : File} {s : State} (k : FollowsWhole w h m f g s) (x : File) :
     Type 0 where
-  pub same : SameShown (h ++ lines_in w m) (whole_behind k) f x
+  pub same : SameShown f x
   pub components : (i : ℕ) (at : Component) → slice_get x.kept.components i ≡ Some at →
       ShowsComponent (h ++ lines_in w m) (whole_behind k) i at
 
@@ -158,9 +168,8 @@ module _ (laws : ShownLaws) (w : World) (h : List Line) (m : Move) (f g : File) 
       same_Some x g (sym there ∙ ap (λ (y : Server). file_at y.files f.kept.number)
       (moment_server laws.book laws.more laws.grow v (h ++ lines_in w m) behind scenario) ∙ k.follows.goes)
 
-  ended : (j : ℕ) (y : Grant) → j < (whole_behind k).count → ((whole_behind k).start j).tag < (whole_behind k).tag →
-      In y g.kept.grants → y.number ≡ ((whole_behind k).start j).grant → ⊥
-  ended j y low older i number =
+  pub earlier_over : EarlierAreOver (whole_behind k) g
+  earlier_over j y low older i number =
       let safe = safe_at v.server.files f.kept.number g (laws.safe v (reached v (h ++ lines_in w m) behind)) k.follows.goes in
       let out = live_tag (whole_behind k) v g y kept i (found_own g.kept.grants y safe.apart i) in
       let tag = (run_numbered (whole_behind k) run).tags j low y.client out.0 out.1 (sym number ∙ sym out.2) in
@@ -174,9 +183,8 @@ module _ (laws : ShownLaws) (w : World) (h : List Line) (m : Move) (f g : File) 
         same = record {
           map = ap (λ (y : File). y.kept.map) is ∙ stays.same.map;
           first_tag = ap (λ (y : File). y.kept.first_tag) is ∙ stays.same.first_tag;
-          ended = λ j y low older i number. ended j y low older (subst (λ (z : File). In y z.kept.grants) is i) number;
         };
         components = λ i at here.
-            shows laws.book laws.more laws.grow v (h ++ lines_in w m) behind scenario (whole_behind k) g i at components
+            shows laws.more laws.grow v (h ++ lines_in w m) behind (whole_behind k) g i at components
             (subst (λ (y : File). slice_get y.kept.components i ≡ Some at) is here);
       }

@@ -27,16 +27,15 @@ use Rattle.history_law.proofs.Ending.{next_moment}
 use Rattle.history_law.proofs.FencingMoves.{messages_in, Acts, Others, Serves, each_acts}
 use Rattle.history_law.proofs.Files.{in_at}
 use Rattle.history_law.proofs.Numbers.{to_drive, sent_anew, none_anew}
-use Rattle.history_law.proofs.Staying.{written_front}
-use Rattle.exchange_law.proofs.CountGrowing.{fewer, text_front}
 use Rattle.exchange_law.proofs.CountMoments.{reached}
 use Rattle.exchange_law.proofs.SlotMoments.{always}
 use Rattle.cause_law.proofs.Answering.{safe_at}
-use Rattle.component_law.proofs.MoveFacts.{are_named}
+use Rattle.component_law.proofs.NamedLines.{are_named}
 use Rattle.component_law.specs.Objects.{target_in, target_of}
 use Rattle.file_simulation.specs.Claim.{IsOfScenario}
 use Rattle.file_simulation.specs.Jobs.{IsFill}
 use Rattle.file_simulation.specs.Messages.{HasCommanded}
+use Rattle.file_simulation.proofs.Fronts.{scenario_before}
 use Rattle.relation_law.specs.Awaiting.{IsAskedIn, FitsIn}
 use Rattle.relation_law.proofs.FramesFiles.{files_distinct}
 use Rattle.relation_law.proofs.KeptServer.{at_place}
@@ -70,11 +69,7 @@ module _ (laws : OwnedLaws) (safe : GrantsAreSafe) (w : World) (h : List Line) (
   behind = next_moment w h k m d
 
   scenario : IsOfScenario h
-  scenario = record {
-    written = written_front h (lines_in w m) later.written;
-    text = text_front h (lines_in w m) later.text;
-    few = fewer h (lines_in w m) later.few;
-  }
+  scenario = scenario_before h (lines_in w m) later
 
   used : (x : Command) (e : ℕ) → HasCommanded w e x → x.object < w.server.next_object
   used x e has =

@@ -1,5 +1,5 @@
--- What is known of a file before a whole move while a component of it is made anew: no grant is outstanding, what isn't gone
--- has the words of the log's bytes, and so has what is made of the rows that were heard.
+-- What is known of a file before a move that is followed while a component of it is made anew: no grant is outstanding, what
+-- isn't gone has the words of the log's bytes, and so has what is made of the rows that were heard.
 use Rattle.std.proofs.Common.{◌≡◌, ◌==◌, ◌&&◌, ℕ, ◌+◌, ◌/◌, ◌<◌, true, not, List, [], ◌∷◌, length, take, Option, Some, None, refl, sym, ap, subst, ◌∙◌, arith, inl, inr, eq-eqb, ne_eqb}
 use Rattle.std.proofs.lemmas.Bool.{cases_Bool, cases_eq, and_parts, eqb-true, lt-ltb}
 use Rattle.std.proofs.lemmas.Option.{same_Some}
@@ -22,7 +22,9 @@ use Rattle.history_law.specs.Owned.{AreOwned as AreServers}
 use Rattle.history_law.specs.Said.{IsDelivered}
 use Rattle.history_law.specs.BookMoments.{IsMoment, lines_in}
 use Rattle.history_law.proofs.Coming.{clean_front}
-use Rattle.history_law.proofs.Files.{safe_in}
+use Rattle.history_law.proofs.Files.{in_at, safe_in}
+use Rattle.history_law.proofs.Staying.{written_front}
+use Rattle.exchange_law.proofs.CountGrowing.{fewer, text_front}
 use Rattle.history_law.proofs.Hearing.{done_is_done}
 use Rattle.cause_law.proofs.Answering.{safe_at}
 use Rattle.component_law.specs.KeptWalk.{WorkFits}
@@ -44,11 +46,10 @@ use Rattle.file_simulation.specs.Jobs.{IsRow, AreRows, RowsIn, IsJob, JobIs, Has
 use Rattle.file_simulation.specs.Phases.{IsStill, PhaseIs}
 use Rattle.relation_law.specs.Awaiting.{IsAskedIn, ToDoFits, FitsIn, IsFit}
 use Rattle.relation_law.specs.DriveHearing.{IsLaidOut}
-use Rattle.relation_law.specs.Steps.{FollowsWhole}
+use Rattle.relation_law.specs.Steps.{Follows}
 use Rattle.relation_law.proofs.CalmRuns.{whole_now}
 use Rattle.relation_law.proofs.ComponentsMachine.{right_run}
 use Rattle.relation_law.proofs.ComponentsWorld.{laid_out}
-use Rattle.relation_law.proofs.Followed as followed
 use Rattle.relation_law.proofs.KeptRebuilt.{none_outstanding}
 use Rattle.relation_law.proofs.OwnedBefore.{held, run, work_fits, fits_in}
 use Rattle.relation_law.proofs.OwnedJoined.{JoinLaws}
@@ -111,36 +112,40 @@ none_other ws nonce none b i = elim (cases_eq b.command.nonce nonce) [
 
 -- ---- before the move
 
-module _ (laws : TargetLaws) (w : World) (h : List Line) (m : Move) (f g : File) (s : State)
-    (k : FollowsWhole w h m f g s) where
+module _ (laws : TargetLaws) (w : World) (h : List Line) (m : Move) {count : ℕ} (f g : File) (s : State)
+    (k : Follows w h m count f g s) where
   abbrev pub before : IsMoment w h
-  before = k.follows.moment
+  before = k.moment
 
   pub scenario : IsOfScenario h
-  scenario = followed.scenario w h m f g s k
+  scenario = record {
+    written = written_front h (take count (lines_in w m)) k.calm.scenario.written;
+    text = text_front h (take count (lines_in w m)) k.calm.scenario.text;
+    few = fewer h (take count (lines_in w m)) k.calm.scenario.few;
+  }
 
   pub in_before : In f w.server.files
-  in_before = followed.in_before w h m f g s k
+  in_before = in_at w.server.files f.kept.number f k.there
 
   pub laid : IsLaidOut f
   laid =
       laid_out w h before (laws.join.fits w h before scenario.text) (run laws.join.world w h before scenario) f
-      k.follows.there
+      k.there
 
   pub code : IsCode s.layout
   code =
-      subst IsCode (sym k.follows.related.layout) (layouts_are_codes f.kept.map f.kept.first_tag laid.checked)
+      subst IsCode (sym k.related.layout) (layouts_are_codes f.kept.map f.kept.first_tag laid.checked)
 
   pub right : Right s
-  right = right_run s code k.follows.run
+  right = right_run s code k.run
 
   pub whole : IsWholeAt s
-  whole = whole_now s k.follows.run code
+  whole = whole_now s k.run code
 
   pub well : EachTargetIsWellMade → IsWellMade w f
   well made_ =
       made_ w h before scenario
-      (clean_front h (take (length (lines_in w m)) (lines_in w m)) k.follows.calm.is_unguessed) f in_before
+      (clean_front h (take count (lines_in w m)) k.calm.is_unguessed) f in_before
 
   pub well_asked : IsWellAsked w f
   well_asked = laws.asked w h before scenario f in_before
@@ -161,7 +166,7 @@ module _ (laws : TargetLaws) (w : World) (h : List Line) (m : Move) (f g : File)
 
   module _ (j : Job) (runs : f.job ≡ Some j) where
     pub job_is : IsJob s w f j
-    job_is = subst (JobIs s w f) runs k.follows.related.jobs.job
+    job_is = subst (JobIs s w f) runs k.related.jobs.job
 
     pub fit_job : IsFit f.kept j
     fit_job = subst (FitsIn f.kept) runs fit
@@ -176,7 +181,7 @@ module _ (laws : TargetLaws) (w : World) (h : List Line) (m : Move) (f g : File)
       still = still_in f.kept.phase j.work t (work_fits laws.join.world w h before scenario f in_before j runs) aim
 
       pub is_still : IsStill s f
-      is_still = subst (PhaseIs s f) still k.follows.related.kept.phase
+      is_still = subst (PhaseIs s f) still k.related.kept.phase
 
       pub none : (c : ℕ) → s.outstanding c ≡ None
       none = none_outstanding s f is_still alone
@@ -184,7 +189,7 @@ module _ (laws : TargetLaws) (w : World) (h : List Line) (m : Move) (f g : File)
       -- what isn't gone has the words of the log's bytes
       pub words : HasWordsOf s f.kept.map (byte_before s s.count)
       words n z low stands =
-          let l = k.follows.related.layout in
+          let l = k.related.layout in
           whole.settled (s.layout.cell_col n z)
           (λ i u touch. unsettled_none s i is_still.repairing right.sure.safe.open_granted none u) n z
           (ap (λ (y : machine.Layout). y.is_cell n z) l ∙ lt-ltb n f.kept.map.comps low) refl stands

@@ -15,19 +15,15 @@ use Rattle.fence_law.proofs.Open.{now_fresh, fresh_open}
 use Rattle.fence_law.proofs.Parts.{pf_row}
 use Rattle.fence_law.proofs.Safe.{Safe, keep_safe}
 use Rattle.fence_law.proofs.Words.{updated_at, updated_other}
+use Rattle.fence_law.proofs.EveryRun.{tag_next}
 use Rattle.headline_law.proofs.TargetKeeps.{IsSameMachine}
 
 -- ---- what only rises
 
-tag_one : (b : State) (e : Event) → b.tag ≤ (after b e).tag
-tag_one b Fenced = omega arith
-tag_one b Refenced = omega arith
-tag_one b e = omega arith
-
 tag_rises : (b : State) (es : List Event) → b.tag ≤ (after_all b es).tag
 tag_rises b [] = omega arith
 tag_rises b (e ∷ es) =
-    let one : b.tag ≤ (after b e).tag = tag_one b e in
+    let one : b.tag ≤ (after b e).tag = tag_next b e in
     let rest : (after b e).tag ≤ (after_all (after b e) es).tag = tag_rises (after b e) es in omega (arith, one, rest)
 
 -- a grant that was issued, and a fence that was begun, until the next fence is over
@@ -44,7 +40,7 @@ mark_one b e low = (λ x. x, λ x. x)
 marks_stay : (b : State) (es : List Event) → (after_all b es).tag ≤ b.tag → Marks b (after_all b es)
 marks_stay b [] low = (λ x. x, λ x. x)
 marks_stay b (e ∷ es) low =
-    let one : b.tag ≤ (after b e).tag = tag_one b e in
+    let one : b.tag ≤ (after b e).tag = tag_next b e in
     let rest : (after b e).tag ≤ (after_all (after b e) es).tag = tag_rises (after b e) es in
     let x = mark_one b e (omega (arith, low, rest)) in
     let y = marks_stay (after b e) es (omega (arith, low, one)) in
@@ -182,7 +178,7 @@ pub same_machine : (b : State) (es : List Event) → Lawful b es → Safe b → 
 same_machine b [] l safe late idle ends = same_here b
 same_machine b (e ∷ es) l safe late idle ends =
     let t : State = after_all (after b e) es in
-    let one : b.tag ≤ (after b e).tag = tag_one b e in
+    let one : b.tag ≤ (after b e).tag = tag_next b e in
     let rest : (after b e).tag ≤ (after_all (after b e) es).tag = tag_rises (after b e) es in
     let low : (after_all (after b e) es).tag ≤ (after b e).tag = omega (arith, ends.tag, one) in
     let fits : Fits b e (after_all (after b e) es) = (ends, marks_stay (after b e) es low) in

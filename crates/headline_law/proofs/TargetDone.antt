@@ -14,7 +14,7 @@ use Rattle.server_rules.specs.Messages.{Replies, awaited_by}
 use Rattle.server_rules.specs.Replies.{Done, answers, hearing, others}
 use Rattle.history_law.specs.Said.{IsDelivered}
 use Rattle.history_law.specs.Spent.{HasPassed, IsSpent}
-use Rattle.component_law.proofs.MoveFacts.{are_named}
+use Rattle.component_law.proofs.NamedLines.{are_named}
 use Rattle.component_law.specs.Sent.{IsSentByRun}
 use Rattle.server_rules.specs.Making.{new_server}
 use Rattle.history_law.proofs.Hearing.{done_is_done}
@@ -31,7 +31,7 @@ use Rattle.file_simulation.specs.Components.{object_on, has_failed}
 use Rattle.file_simulation.specs.Jobs.{HasColumn, IsFill, IsFilled, TargetIn, offset_of_column, word_now}
 use Rattle.relation_law.specs.Awaiting.{IsAskedIn}
 use Rattle.relation_law.specs.Hearing.{TellsOfWrite}
-use Rattle.relation_law.specs.Steps.{FollowsWhole}
+use Rattle.relation_law.specs.Steps.{Follows}
 use Rattle.relation_law.proofs.Hearing.{owned_over, tells_at}
 use Rattle.relation_law.proofs.OwnedBefore.{done_verdict, run}
 use Rattle.relation_law.proofs.TargetMoments.{in_one, each_fill_is_latest}
@@ -83,8 +83,8 @@ filled_next s f t p ps o filled stands = record {
   above = filled.above;
 }
 
-module _ (laws : TargetLaws) (w : World) (h : List Line) (m : Move) (f g : File) (s : State)
-    (k : FollowsWhole w h m f g s) where
+module _ (laws : TargetLaws) (w : World) (h : List Line) (m : Move) {count : ℕ} (f g : File) (s : State)
+    (k : Follows w h m count f g s) where
   -- a piece of zeros
   pub filled_zeros : (t : Target) (p : Piece) (ps : List Piece) (bytes : List ℕ) → t.component < f.kept.map.comps →
       AreWordsOf f.kept.map p.stripe p.column p.count t.component (byte_before s s.count) bytes → IsOfZeros p bytes →
@@ -93,7 +93,7 @@ module _ (laws : TargetLaws) (w : World) (h : List Line) (m : Move) (f g : File)
       filled_next s f t p ps o filled (λ z has.
       let r = cell_in f.kept.map p t.component z (laid laws w h m f g s k).checked low has in
       let none : word_now s t.component z ≡ 0 =
-      ap (λ (y : machine.Layout). y.word t.component z (byte_before s s.count)) k.follows.related.layout
+      ap (λ (y : machine.Layout). y.word t.component z (byte_before s s.count)) k.related.layout
       ∙ ap (λ (n : ℕ). word_in f.kept.map t.component n (byte_before s s.count)) r.3
       ∙ sym (words r.0 r.2 r.1) ∙ zeros_are bytes p.count zeros r.0 r.1 in
       elim (filled.others z) [ inl word ↦ word | inr zero ↦ zero ∙ sym none ])

@@ -67,13 +67,13 @@ module _ (laws : FollowLaws) (w : World) (h : List Line) (m : Move) (f g : File)
     aim_of = ap target_of had ∙ aimed
 
     low : t.component < f.kept.map.comps
-    low = (well laws.target w h m f g s k laws.well).inside t aim_of
+    low = (well laws.target w h m f g s k.follows laws.well).inside t aim_of
 
     -- drives have what they had
     alike_ : IsAlike w v
     alike_ =
         alike w h m f g s k.follows.moment k.follows.is_due k.follows.there k.follows.run k.follows.related i comes
-        k.follows.goes (awaited_are_sent laws.moved.known w h k.follows.moment (scenario laws.target w h m f g s k).few)
+        k.follows.goes (awaited_are_sent laws.moved.known w h k.follows.moment (scenario laws.target w h m f g s k.follows).few)
 
     objects_same : (todo : List Piece) → IsTarget s w f t todo → has_failed (at_number v.drives t.drive) ≡ false →
         (o : StoredObject) → object_on (at_number v.drives t.drive) t.object ≡ Some o → IsFilled s f t todo o
@@ -90,21 +90,21 @@ module _ (laws : FollowLaws) (w : World) (h : List Line) (m : Move) (f g : File)
     module _ (p : Piece) (ps : List Piece) (was : j.work ≡ Gathers t (p ∷ ps)) (r : IsLastReply i f j) where
       its_words : AreWordsOf f.kept.map p.stripe p.column p.count t.component (byte_before s s.count) (made_of r t p)
       its_words =
-          made_right laws.target w h m f g s k j had t p ps was r.drive r.reply (message r).0 (sym (message r).2)
+          made_right laws.target w h m f g s k.follows j had t p ps was r.drive r.reply (message r).0 (sym (message r).2)
           (message r).3 r.awaited r.awaits r.answer r.is_done r.last
 
       its_sources : HasSources s f t
       its_sources =
-          let x = has_source s f.kept t p (heard_with j r.awaited r.reply) (laid laws.target w h m f g s k).checked
-          (rows_now laws.target w h m f g s k j had t p ps was r.drive r.reply (message r).0 (sym (message r).2)
-          (message r).3 r.awaited r.awaits r.answer r.is_done r.last) (below laws.target w h m f g s k) low
-          (all_sources laws.target w h m f g s k j had t p ps was r.drive r.reply (message r).0 (sym (message r).2)
+          let x = has_source s f.kept t p (heard_with j r.awaited r.reply) (laid laws.target w h m f g s k.follows).checked
+          (rows_now laws.target w h m f g s k.follows j had t p ps was r.drive r.reply (message r).0 (sym (message r).2)
+          (message r).3 r.awaited r.awaits r.answer r.is_done r.last) (below laws.target w h m f g s k.follows) low
+          (all_sources laws.target w h m f g s k.follows j had t p ps was r.drive r.reply (message r).0 (sym (message r).2)
           (message r).3 r.awaited r.awaits r.answer r.is_done r.last) in
           record { out = x.0; each = x.1 }
 
       its_piece : IsPlanned f.kept.map (group_with f.kept.map t.component) f.kept.high p
       its_piece =
-          piece_is laws.target w h m f g s k j had t aimed p
+          piece_is laws.target w h m f g s k.follows j had t aimed p
           (subst (λ (y : Work). In p (todo_in y)) (sym was) (inl refl))
 
       past_zeros : IsOfZeros p (made_of r t p) → IsTarget s w f t ps
@@ -116,7 +116,8 @@ module _ (laws : FollowLaws) (w : World) (h : List Line) (m : Move) (f g : File)
                 absurd (none_of_zeros laws.target w h m f g s k t p x aim_of (made_of r t p) its_words zeros
                 its_piece.within (p ∷ ps) old fill (old.head x fill unspent));
             object = λ lives o is.
-                filled_zeros laws.target w h m f g s k t p ps (made_of r t p) low its_words zeros o (old.object lives o is);
+                filled_zeros laws.target w h m f g s k.follows t p ps (made_of r t p) low its_words zeros o
+                (old.object lives o is);
             source = λ begun. (its_sources.out, its_sources.each);
           }
 
@@ -129,15 +130,15 @@ module _ (laws : FollowLaws) (w : World) (h : List Line) (m : Move) (f g : File)
             apart = old.target.apart;
             words = old.target.words;
             head = λ x fill unspent.
-                absurd (none_unspent laws.target w h m f g s k j had t p ps was r.drive r.reply (message r).0
+                absurd (none_unspent laws.target w h m f g s k.follows j had t p ps was r.drive r.reply (message r).0
                 (sym (message r).2) (message r).3 r.awaited r.awaits r.answer r.is_done x fill unspent);
             object = λ lives o is.
-                filled_written laws.target w h m f g s k j had t p ps was r.drive r.reply (message r).0 (sym (message r).2)
-                (message r).3 r.awaited r.awaits r.answer r.is_done o
+                filled_written laws.target w h m f g s k.follows j had t p ps was r.drive r.reply (message r).0
+                (sym (message r).2) (message r).3 r.awaited r.awaits r.answer r.is_done o
                 (on_drive t.drive t.object w (at_number w.drives t.drive) refl lives o is (λ x here up object.
-                bytes_stand laws.target w h m f g s k j had t p ps was r.drive r.reply (message r).0 (sym (message r).2)
+                bytes_stand laws.target w h m f g s k.follows j had t p ps was r.drive r.reply (message r).0 (sym (message r).2)
                 (message r).3 r.awaited r.awaits r.answer r.is_done laws.well x o here up object
-                (awaited_holder laws.target w h m f g s k r.awaited waits))) (old.target.object lives o is);
+                (awaited_holder laws.target w h m f g s k.follows r.awaited waits))) (old.target.object lives o is);
             source = λ begun. (old.sources.out, old.sources.each);
           }
 
@@ -154,7 +155,7 @@ module _ (laws : FollowLaws) (w : World) (h : List Line) (m : Move) (f g : File)
     reads_in p ps works next =
         let target : IsTarget s w f t (p ∷ ps) = by_next p ps next in
         subst (TargetIn (whole_behind k) v g) (sym works)
-        (target_as s (whole_behind k) w v f g t (p ∷ ps) (code laws.target w h m f g s k)
+        (target_as s (whole_behind k) w v f g t (p ∷ ps) (code laws.target w h m f g s k.follows)
         (leaves laws w h m f g s k parts l runs t aims j had aimed still (p ∷ ps)
         (λ b here write. absurd (cc (sym (subst (λ (y : Work). IsAskedIn g.kept y b) works (fits_behind laws w h m f g s k
         parts l runs t aims b here)).action_is
@@ -176,10 +177,10 @@ module _ (laws : FollowLaws) (w : World) (h : List Line) (m : Move) (f g : File)
         let all : HasAllOf s f.kept.map p t.component fill.command =
         cut_has_all s f.kept.map f.kept.first_tag k.follows.related.layout t.component p (made_of r t p)
         (its_piece p ps was r).within (omega (arith, long)) (its_words p ps was r) fill.command cut
-        (laid laws.target w h m f g s k).checked low in
+        (laid laws.target w h m f g s k.follows).checked low in
         let own : (b : Awaited) → In b l.awaited → fill ≡ b = λ b here. one_of b (subst (In b) is here) in
         subst (TargetIn (whole_behind k) v g) (sym works) (record {
-          target = target_as s (whole_behind k) w v f g t (p ∷ ps) (code laws.target w h m f g s k)
+          target = target_as s (whole_behind k) w v f g t (p ∷ ps) (code laws.target w h m f g s k.follows)
               (leaves laws w h m f g s k parts l runs t aims j had aimed still (p ∷ ps)
               (λ b here write. (
                 subst (λ (y : Awaited). AreWords s (byte_before s s.count) t.component y.command.offset y.command.payload)
@@ -219,13 +220,13 @@ module _ (laws : FollowLaws) (w : World) (h : List Line) (m : Move) (f g : File)
   may_go = record {
     still = λ u aim.
         let x = job_with f.job u aim in still_in f.kept.phase x.0.work u
-        (work_fits laws.target.join.world w h k.follows.moment (scenario laws.target w h m f g s k) f
-        (in_before laws.target w h m f g s k) x.0 x.1) x.2;
+        (work_fits laws.target.join.world w h k.follows.moment (scenario laws.target w h m f g s k.follows) f
+        (in_before laws.target w h m f g s k.follows) x.0 x.1) x.2;
     alone = λ j had b c x y.
         let its : (d : Awaited) → In d j.awaited → In d (awaited_by f.job) = λ d here.
         subst (λ (o : Option Job). In d (awaited_by o)) (sym had) here in
-        (held laws.target.join.world w h k.follows.moment (scenario laws.target w h m f g s k)).numbers.alone b c
-        (f, in_before laws.target w h m f g s k, its b x) (f, in_before laws.target w h m f g s k, its c y);
+        (held laws.target.join.world w h k.follows.moment (scenario laws.target w h m f g s k.follows)).numbers.alone b c
+        (f, in_before laws.target w h m f g s k.follows, its b x) (f, in_before laws.target w h m f g s k.follows, its c y);
     apart = λ u aim.
         ((owns laws.target.join.world v (h ++ lines) (behind laws w h m f g s k parts l runs t aims) (later laws w h m f g s
         k parts l runs t aims)).1 g (in_behind laws w h m f g s k parts l runs t aims)).apart u aim;

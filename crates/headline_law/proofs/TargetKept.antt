@@ -23,7 +23,7 @@ use Rattle.world_history.specs.State.{World, at_number}
 use Rattle.history_law.specs.BookMoments.{IsMoment, plan_at, lines_in}
 use Rattle.history_law.specs.Spent.{HasPassed}
 use Rattle.history_law.proofs.Coming.{clean_front}
-use Rattle.component_law.proofs.MoveFacts.{are_named}
+use Rattle.component_law.proofs.NamedLines.{are_named}
 use Rattle.component_law.specs.Objects.{target_in, target_of}
 use Rattle.component_law.specs.Sent.{commanded}
 use Rattle.exchange_law.proofs.CountMoments.{reached}

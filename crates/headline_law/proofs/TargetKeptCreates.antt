@@ -18,12 +18,11 @@ use Rattle.world_history.specs.Sending.{Move, move}
 use Rattle.world_history.specs.State.{World}
 use Rattle.history_law.specs.BookMoments.{IsMoment, plan_at, lines_in}
 use Rattle.history_law.specs.Numbered.{Awaits, NumbersOn}
-use Rattle.history_law.proofs.Ending.{next_moment}
+use Rattle.history_law.proofs.Ending.{next_moment, at_moment}
 use Rattle.history_law.proofs.Files.{in_at}
 use Rattle.history_law.proofs.FencingMoves.{Acts, Others, Serves, each_acts}
 use Rattle.history_law.proofs.JobSteps.{step_numbers}
 use Rattle.history_law.proofs.Lists.{numbered_from}
-use Rattle.relation_law.proofs.Hearing.{at_moment}
 use Rattle.history_law.proofs.Numbers.{Numbers, to_drive, sent_anew, none_anew}
 use Rattle.component_law.proofs.Moments.{each_first}
 use Rattle.component_law.specs.Naming.{IsNamed, AreNamed}

@@ -24,6 +24,7 @@ use Rattle.history_law.specs.Said.{said}
 use Rattle.history_law.proofs.DriveLines.{drive_read, sent_read}
 use Rattle.history_law.proofs.LaneLines.{letter, letters, in_get}
 use Rattle.history_law.proofs.Spelled.{command_reads}
+use Rattle.history_law.proofs.Heard.{letter_message}
 use Rattle.cause_law.proofs.Objects.{placed_there}
 use Rattle.exchange_law.specs.Lanes.{LanesAreOwn, IsFrom}
 use Rattle.exchange_law.specs.Sent.{HasSent}
@@ -32,9 +33,9 @@ use Rattle.exchange_law.proofs.CountMoments.{reached}
 use Rattle.exchange_law.proofs.Knowing.{lawful_at}
 use Rattle.exchange_law.proofs.PlaceWorlds.{PostPlaced}
 use Rattle.exchange_law.proofs.Replied.{read_at}
+use Rattle.exchange_law.proofs.LaneRows.{lane_found}
 use Rattle.file_simulation.specs.Claim.{IsOfScenario}
 use Rattle.file_simulation.specs.Components.{object_on}
-use Rattle.headline_law.proofs.SmallLemmas.{lane_found, letter_message}
 use Rattle.relation_law.proofs.ComponentsMoved.{MovedLaws}
 use Rattle.relation_law.proofs.ComponentsSenders.{placed_by, same_message}
 use Rattle.relation_law.proofs.FramesFiles.{files_distinct}

@@ -12,8 +12,8 @@ use Rattle.history_law.specs.BookMoments.{IsMoment}
 use Rattle.history_law.specs.Reaching.{has_reached, has_tag, reached_in}
 use Rattle.component_law.specs.Objects.{target_in, target_of}
 use Rattle.component_law.specs.Standing.{StandsBy, is_making, makes_objects}
-use Rattle.component_law.proofs.MoveFacts.{are_named}
-use Rattle.component_law.proofs.LeastLaw.{stand_at, fits_reached}
+use Rattle.component_law.proofs.NamedLines.{are_named}
+use Rattle.component_law.proofs.LeastLaw.{stand_at}
 use Rattle.exchange_law.proofs.CountGrowing.{as_many}
 use Rattle.exchange_law.proofs.CountMoments.{reached}
 use Rattle.exchange_law.proofs.Knowing.{lawful_at}
@@ -23,6 +23,7 @@ use Rattle.exchange_law.specs.Files.{KeptFits}
 use Rattle.file_simulation.specs.Claim.{IsOfScenario}
 use Rattle.file_simulation.specs.Components.{object_on, has_failed}
 use Rattle.history_law.proofs.DriveLines.{drive_read}
+use Rattle.history_law.proofs.Ending.{fits_reached}
 use Rattle.relation_law.proofs.ComponentsMoved.{MovedLaws}
 use Rattle.relation_law.proofs.FramesFiles.{files_distinct}
 use Rattle.relation_law.proofs.KeptServer.{at_place}

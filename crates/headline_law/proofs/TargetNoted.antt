@@ -34,7 +34,7 @@ none_more ns m kind other none x k d i e = elim (in_either x ns (record { file =
   | inr (inr z) ↦ z
 ]
 
-pub none_if : (b : Bool) (g : Going) (kind : NoteKind) → IsOther kind → NoneMade g.effects.notes →
+none_if : (b : Bool) (g : Going) (kind : NoteKind) → IsOther kind → NoneMade g.effects.notes →
     NoneMade (noting_if b g kind).effects.notes
 none_if true g kind other none = none_more g.effects.notes g.file.kept.number kind other none
 none_if false g kind other none = none

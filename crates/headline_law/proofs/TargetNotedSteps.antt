@@ -1,37 +1,31 @@
 -- A component that a step of the server notes as made anew was the target of its file, and a reply came.
 -- `RebuiltWereTargets` (`specs/TargetLaws.antt`).
-use Rattle.std.proofs.Common.{◌≡◌, ◌==◌, ℕ, ◌+◌, Bool, true, false, List, [], ◌∷◌, slice_get, Option, Some, None, refl, sym, ap, subst, ◌∙◌, inl, inr, if◌then◌else◌}
+use Rattle.std.proofs.Common.{◌≡◌, ℕ, List, [], ◌∷◌, slice_get, Some, refl, sym, ap, subst, ◌∙◌, inl, inr}
 use Rattle.std.proofs.lemmas.Option.{same_Some}
 use Rattle.osd_lists.specs.declared.node.Node.TheVariants as node
 use Rattle.osd_commands.specs.declared.replies.Reply.{Reply}
-use Rattle.server_rules.specs.declared.limits.TheConstants.{GREATEST_TAG}
-use Rattle.server_rules.specs.Commit.{Committed, NoGrant, Wrong, Sizes, by_commit, commit_row, commits}
 use Rattle.server_rules.specs.Files.{Step, begins, file_at, put_file, at_file, step_at}
-use Rattle.server_rules.specs.Get.{Early, BadMode, Invalid, Unable, Waits, On, Late, NoNumber, Lacks, Conflict, Gives, by_late, late, give_or_refuse, after_fence, fence_first, on_grants, must_fence, by_early, gets}
-use Rattle.server_rules.specs.Going.{Going, keeping, noting, noting_if}
+use Rattle.server_rules.specs.Going.{Going}
 use Rattle.server_rules.specs.History.{Input, Hears, step}
 use Rattle.server_rules.specs.Jobs.{fence_begins, declares, making}
 use Rattle.server_rules.specs.Laws.{In}
 use Rattle.server_rules.specs.Making.{with_file}
 use Rattle.server_rules.specs.Messages.{Replies}
-use Rattle.server_rules.specs.Numbers.{among}
 use Rattle.server_rules.specs.Openings.{opens, opens_each}
 use Rattle.server_rules.specs.Orders.{declare, declares_each, offline}
 use Rattle.server_rules.specs.Replies.{hearing}
 use Rattle.server_rules.specs.Requests.{serves}
-use Rattle.server_rules.specs.Return.{Returned, NoGrant as NotHeld, Clean, Taken, TooMany, Fencing as ToFence, by_return, return_row, reports_from, takes_loss, returns_on}
-use Rattle.server_rules.specs.Served.{Served}
-use Rattle.server_rules.specs.Standing.{lose_from}
 use Rattle.server_rules.proofs.FileLaws.{number_at, put_same}
-use Rattle.world_history.specs.ServerNames.{Server, File, Drive, Effects, Component, Grant, Job, Revoking, Note, NoteKind, Rebuilt, Spent, Reported, ClientRequest, RequestArgs, Get, Commit, Return}
+use Rattle.world_history.specs.ServerNames.{Server, File, Drive, Effects, Revoking, Note, NoteKind, Rebuilt, Spent, Reported, ClientRequest, RequestArgs}
 use Rattle.history_law.specs.Steps.{Answering, IsAnswering, answered_file, new_file, Refuses, WhileBusy, OnGreatest, StepCases, RequestCases}
 use Rattle.history_law.proofs.Steps.{each_step, each_request}
-use Rattle.component_law.specs.Performing.{AreDistinct}
+use Rattle.component_law.specs.Distinct.{AreDistinct}
 use Rattle.component_law.specs.Objects.{target_of}
 use Rattle.relation_law.proofs.KeptServer.{at_place}
 use Rattle.relation_law.proofs.Ways.{hears_number}
 use Rattle.headline_law.specs.TargetLaws.{JobsAreAtPieces, RebuiltWereTargets}
-use Rattle.headline_law.proofs.TargetNoted.{NoneMade, none_more, none_if, Made, AllMade, made_fence, made_making, made_opens, made_declares, made_hears}
+use Rattle.headline_law.proofs.ServedWalk.{walk_serves}
+use Rattle.headline_law.proofs.TargetNoted.{NoneMade, none_more, Made, AllMade, made_fence, made_making, made_opens, made_declares, made_hears}
 
 -- where no reply comes, nothing is made anew
 none_of : (f : File) (g : Going) → AllMade ⊥ f g → NoneMade g.effects.notes
@@ -43,75 +37,16 @@ fence_none go format none =
 
 -- ---- a request
 
-reports_none : (g : Going) (ks : List ℕ) (cs : List Component) (k : ℕ) → NoneMade g.effects.notes →
-    NoneMade (reports_from g ks cs k).effects.notes
-unfolding reports_from
-reports_none g ks [] k none = none
-reports_none g ks (at ∷ cs) k none =
-    reports_none (noting_if (among k ks) g (Reported k)) ks cs (k + 1)
-    (none_if (among k ks) g (Reported k) (λ a b z. cc z) none)
-
-module _ (go : Going) (none : NoneMade go.effects.notes) where
-  abbrev S : Served → Type 0
-  S v = NoneMade v.going.effects.notes
-
-  either_served : (b : Bool) (x y : Served) → S x → S y → S (if b then x else y)
-  either_served true x y p q = p
-  either_served false x y p q = q
-
-  spent : NoneMade (noting go Spent).effects.notes
-  spent = none_more go.effects.notes go.file.kept.number Spent (λ a b z. cc z) none
-
-  late_none : (g : Going) (x : Grant) (l : Late) → NoneMade g.effects.notes → S (by_late g x l)
-  late_none g x NoNumber k = k
-  late_none g x (Lacks n) k = k
-  late_none g x (Conflict holder) k = k
-  late_none g x Gives k = k
-
-  given : (g : Going) (next : ℕ) (x : Grant) → NoneMade g.effects.notes → S (give_or_refuse g next x)
-  unfolding give_or_refuse
-  given g next x k = late_none g x (late g.file.kept next x) k
-
-  behind_fence : (g : Going) (next : ℕ) (x : Grant) (o : Option Job) → NoneMade g.effects.notes → S (after_fence g next x o)
-  behind_fence g next x None k = given g next x k
-  behind_fence g next x (Some j) k = k
-
-  first_none : (next format : ℕ) (x : Grant) → S (fence_first go next format x)
-  unfolding fence_first
-  first_none next format x =
-      either_served (go.file.kept.tag == GREATEST_TAG) _ _ spent
-      (behind_fence (fence_begins Revoking format go) next x (fence_begins Revoking format go).file.job
-      (fence_none go format none))
-
-  early_none : (next format now : ℕ) (x : Grant) (e : Early) → S (by_early go next format now x e)
-  unfolding on_grants
-  early_none next format now x BadMode = none
-  early_none next format now x Invalid = none
-  early_none next format now x Unable = none
-  early_none next format now x (Waits k) = none
-  early_none next format now x On =
-      either_served (must_fence now go.file.kept.grants x) _ _ (first_none next format x) (given go next x none)
-
-  commit_none : (c : Committed) → S (by_commit go c)
-  commit_none NoGrant = none
-  commit_none Wrong = none
-  commit_none (Sizes size) = none
-
-  return_none : (format client : ℕ) (r : Returned) → S (by_return go format client r)
-  unfolding takes_loss
-  return_none format client NotHeld = none
-  return_none format client Clean = none
-  return_none format client (Taken ks) =
-      reports_none (keeping go (record go.file.kept { components = lose_from ks go.file.kept.components 0 })) ks
-      go.file.kept.components 0 none
-  return_none format client TooMany = spent
-  return_none format client ToFence = fence_none go format none
-
-  none_serves : (next format now client : ℕ) (args : RequestArgs) → S (serves go next format now client args)
-  unfolding gets commits returns_on
-  none_serves next format now client (Get iomode offset count) = early_none next format now _ _
-  none_serves next format now client (Commit last) = commit_none (commit_row go.file.kept client last)
-  none_serves next format now client (Return report) = return_none format client (return_row go.file.kept client report)
+pub none_serves : (go : Going) → NoneMade go.effects.notes → (next format now client : ℕ) (args : RequestArgs) →
+    NoneMade (serves go next format now client args).going.effects.notes
+none_serves go none =
+    walk_serves (λ (m : Effects). NoneMade m.notes) go
+    (record {
+      begins = none;
+      fences = λ format. fence_none go format none;
+      spent = λ g q. none_more g.effects.notes g.file.kept.number Spent (λ a b z. cc z) q;
+      reported = λ k g q. none_more g.effects.notes g.file.kept.number (Reported k) (λ a b z. cc z) q;
+    })
 
 -- ---- rounds
 
@@ -126,7 +61,7 @@ declared_none drive ds (x ∷ fs) m c pieces none =
     declared_none drive ds fs g.effects g.chosen (λ y i. pieces y (inr i))
     (none_of x g (made_declares ⊥ x drive at refl none (pieces x (inl refl))))
 
-opened_none : (format : ℕ) (ds : List Drive) (fs : List File) (m : Effects) → NoneMade m.notes →
+pub opened_none : (format : ℕ) (ds : List Drive) (fs : List File) (m : Effects) → NoneMade m.notes →
     NoneMade (opens_each format ds fs m).effects.notes
 unfolding opens_each
 opened_none format ds [] m none = none

@@ -24,7 +24,7 @@ use Rattle.history_law.specs.Doing.{input_in}
 use Rattle.history_law.specs.Numbered.{Awaits}
 use Rattle.history_law.proofs.FencingMoves.{Acts, Others, Serves, each_acts}
 use Rattle.history_law.proofs.Numbers.{to_drive, sent_anew, none_anew}
-use Rattle.component_law.proofs.MoveFacts.{are_named}
+use Rattle.component_law.proofs.NamedLines.{are_named}
 use Rattle.component_law.specs.Objects.{target_in, target_of}
 use Rattle.fence_law.specs.State.{State}
 use Rattle.fence_law.specs.Law.{byte_before}
@@ -150,13 +150,13 @@ module _ (laws : FollowLaws) (w : World) (h : List Line) (m : Move) (f g : File)
   module _ (j : Job) (had : f.job ≡ Some j) (aimed : target_in j.work ≡ Some t) (still : IsSameStill f.kept g.kept) where
     same : IsSameMachine s (whole_behind k)
     same =
-        let st = is_still laws.target w h m f g s k j had t aimed in
-        let r = right laws.target w h m f g s k in
+        let st = is_still laws.target w h m f g s k.follows j had t aimed in
+        let r = right laws.target w h m f g s k.follows in
         same_machine s (joined (events_of s w (owed k.follows.related) f m)) k.lawful r.sure.safe r.sure.late
         (record {
           fencing = st.fencing;
           repairing = st.repairing;
-          outstanding = none laws.target w h m f g s k j had t aimed;
+          outstanding = none laws.target w h m f g s k.follows j had t aimed;
           unused = st.unused (λ no_job. cc (sym had ∙ no_job));
         })
         (record {
@@ -205,7 +205,7 @@ module _ (laws : FollowLaws) (w : World) (h : List Line) (m : Move) (f g : File)
             let long : length y.payload ≡ length x.payload = ap length payload in omega (arith, inside.1, offset, long),
           )
           | inr zero ↦
-              inr (same_words s (whole_behind k) (code laws.target w h m f g s k) same t.component z ∙ zero)
+              inr (same_words s (whole_behind k) (code laws.target w h m f g s k.follows) same t.component z ∙ zero)
         ]
 
     words_as : (x y : Command) → y.offset ≡ x.offset → y.payload ≡ x.payload →
@@ -218,7 +218,7 @@ module _ (laws : FollowLaws) (w : World) (h : List Line) (m : Move) (f g : File)
     pub words_now : (offset : ℕ) (bytes : List ℕ) → AreWords s (byte_before s s.count) t.component offset bytes →
         AreWords (whole_behind k) (byte_before (whole_behind k) (whole_behind k).count) t.component offset bytes
     words_now offset bytes words i low =
-        words i low ∙ sym (same_words s (whole_behind k) (code laws.target w h m f g s k) same t.component (offset + i))
+        words i low ∙ sym (same_words s (whole_behind k) (code laws.target w h m f g s k.follows) same t.component (offset + i))
 
     pub sources_now : HasSources s f t → HasSources (whole_behind k) g t
     sources_now x = record {
@@ -229,11 +229,11 @@ module _ (laws : FollowLaws) (w : World) (h : List Line) (m : Move) (f g : File)
     }
 
     pub target_in_ : (work : Work) → j.work ≡ work → TargetIn s w f work
-    target_in_ work is = subst (TargetIn s w f) is (job_is laws.target w h m f g s k j had).target
+    target_in_ work is = subst (TargetIn s w f) is (job_is laws.target w h m f g s k.follows j had).target
 
     asked_before : (work : Work) → j.work ≡ work → (b : Awaited) → In b j.awaited → IsAskedIn f.kept work b
     asked_before work is b i =
-        subst (λ (y : Work). IsAskedIn f.kept y b) is ((fit_job laws.target w h m f g s k j had).asked b i)
+        subst (λ (y : Work). IsAskedIn f.kept y b) is ((fit_job laws.target w h m f g s k.follows j had).asked b i)
 
     objects_stay : (todo : List Piece) → HasToDo f.kept t todo j.work → IsTarget s w f t todo →
         has_failed (at_number v.drives t.drive) ≡ false → (o : StoredObject) →
@@ -305,7 +305,7 @@ module _ (laws : FollowLaws) (w : World) (h : List Line) (m : Move) (f g : File)
           subst (λ (y : Target). IsTarget s w f y (all_pieces f y)) one (target_in_ (Targets u) is) in
           subst (λ (y : Target). IsTarget (whole_behind k) v g y (all_pieces g y)) (sym one)
           (subst (λ (ps : List Piece). IsTarget (whole_behind k) v g t ps) (sym all_same)
-          (target_as s (whole_behind k) w v f g t (all_pieces f t) (code laws.target w h m f g s k)
+          (target_as s (whole_behind k) w v f g t (all_pieces f t) (code laws.target w h m f g s k.follows)
           (leaves (all_pieces f t)
           (λ b i write. absurd (cc (sym (asked_before (Targets u) is (wo.awaited b i).0 (wo.awaited b i).1).action_is
           ∙ sym (wo.awaited b i).2.action ∙ write)))
@@ -315,7 +315,7 @@ module _ (laws : FollowLaws) (w : World) (h : List Line) (m : Move) (f g : File)
           let target : IsTarget s w f t todo =
           subst (λ (y : Target). IsTarget s w f y todo) one (target_in_ (Gathers u todo) is) in
           subst (λ (y : Target). IsTarget (whole_behind k) v g y todo) (sym one)
-          (target_as s (whole_behind k) w v f g t todo (code laws.target w h m f g s k)
+          (target_as s (whole_behind k) w v f g t todo (code laws.target w h m f g s k.follows)
           (leaves todo (λ b i write. absurd (no_write u todo (wo.awaited b i).0 (asked_before (Gathers u todo) is (wo.awaited
           b i).0
           (wo.awaited b i).1) (sym (wo.awaited b i).2.action ∙ write)))
@@ -327,7 +327,7 @@ module _ (laws : FollowLaws) (w : World) (h : List Line) (m : Move) (f g : File)
           let asked : (b : Awaited) → In b j.awaited → IsAskedIn f.kept (Fills t todo) b = λ b i.
           subst (λ (y : Target). IsAskedIn f.kept (Fills y todo) b) one (asked_before (Fills u todo) is b i) in
           subst (λ (y : Target). IsFilling (whole_behind k) v g y todo) (sym one) (record {
-            target = target_as s (whole_behind k) w v f g t todo (code laws.target w h m f g s k)
+            target = target_as s (whole_behind k) w v f g t todo (code laws.target w h m f g s k.follows)
                 (leaves todo (λ b i write. again_new todo b (wo.awaited b i).0 (wo.awaited b i).1 (wo.awaited b i).2
                 (asked (wo.awaited b i).0 (wo.awaited b i).1) filling.awaited)
                 (objects_stay todo (has_todo todo (Fills u todo) is (one, refl)) filling.target)) filling.target;
@@ -353,7 +353,7 @@ module _ (laws : FollowLaws) (w : World) (h : List Line) (m : Move) (f g : File)
             let alike_now : IsAlike w v =
             alike w h m f g s k.follows.moment k.follows.is_due k.follows.there k.follows.run k.follows.related i comes
             k.follows.goes
-            (awaited_are_sent laws.moved.known w h k.follows.moment (scenario laws.target w h m f g s k).few) in
+            (awaited_are_sent laws.moved.known w h k.follows.moment (scenario laws.target w h m f g s k.follows).few) in
             let low = stored t.drive t.object o (sym (alike_now.objects t.drive t.object) ∙ there) in
             absurd (omega (arith, low, fresh));
         source = λ begun. absurd (begun.done begun.planned);
@@ -361,17 +361,17 @@ module _ (laws : FollowLaws) (w : World) (h : List Line) (m : Move) (f g : File)
     where
       used : (x : Command) (d : ℕ) → HasCommanded w d x → x.object < w.server.next_object
       used x d has =
-          let sent = run laws.target.join.world w h k.follows.moment (scenario laws.target w h m f g s k) in
+          let sent = run laws.target.join.world w h k.follows.moment (scenario laws.target w h m f g s k.follows) in
           let all = (laws.target.join.world.ahead sent.acts sent.named).1 sent.acts [] (sym (append-nil sent.acts)) in
           subst (λ (q : Server). x.object < q.next_object) (sym sent.server) (all.1 d x (sent.sends d x has)).used
 
       stored : (d n : ℕ) (o : StoredObject) → object_on (at_number w.drives d) n ≡ Some o → n < w.server.next_object
       stored =
           stored_used laws.moved.made.ahead laws.moved.made.given laws.moved.made.counted w h k.follows.moment
-          (scenario laws.target w h m f g s k)
+          (scenario laws.target w h m f g s k.follows)
           (laws.moved.unforged h (lawful_at w h k.follows.moment)
           (clean_front h (take (length lines) lines) k.follows.calm.is_unguessed))
-          (run laws.target.join.world w h k.follows.moment (scenario laws.target w h m f g s k))
+          (run laws.target.join.world w h k.follows.moment (scenario laws.target w h m f g s k.follows))
 
       never : (x : Command) → IsFill v t x → ⊥
       never x fill = elim (was_sent x fill) [

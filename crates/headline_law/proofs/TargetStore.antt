@@ -154,7 +154,7 @@ module _ (laws : StoreLaws) (w : World) (h : List Line) (m : Move) (f g : File) 
   clean = clean_front h (lines_in w m) (moved.clean laws.moved w h m f g s k)
 
   here : In f w.server.files
-  here = in_before laws.target w h m f g s k
+  here = in_before laws.target w h m f g s k.follows
 
   aim_in : (work : Work) → HasToDo f.kept t todo work → target_in work ≡ Some t
   aim_in Creates x = absurd x
@@ -174,7 +174,7 @@ module _ (laws : StoreLaws) (w : World) (h : List Line) (m : Move) (f g : File) 
   aimed = ap target_of runs ∙ aim
 
   low : t.component < f.kept.map.comps
-  low = (well laws.target w h m f g s k laws.well).inside t aimed
+  low = (well laws.target w h m f g s k.follows laws.well).inside t aimed
 
   -- what is to be done was planned
   todo_planned : (p : Piece) → In p todo → In p all_pieces
@@ -182,7 +182,8 @@ module _ (laws : StoreLaws) (w : World) (h : List Line) (m : Move) (f g : File) 
     where
       asked : (work : Work) → j.work ≡ work → In p (todo_in work) → In p all_pieces
       asked work is x =
-          (well_asked laws.target w h m f g s k).planned j t p runs aim (subst (λ (y : Work). In p (todo_in y)) (sym is) x)
+          (well_asked laws.target w h m f g s k.follows).planned j t p runs aim
+          (subst (λ (y : Work). In p (todo_in y)) (sym is) x)
 
       by : (work : Work) → j.work ≡ work → HasToDo f.kept t todo work → In p all_pieces
       by Creates is x = absurd x
@@ -202,7 +203,7 @@ module _ (laws : StoreLaws) (w : World) (h : List Line) (m : Move) (f g : File) 
       stripe_for f.kept.map t.component z < f.kept.high
   below [] all c head = absurd head
   below (p ∷ ps) all c head =
-      below_piece f.kept.map p t.component f.kept.high c (laid laws.target w h m f g s k).checked
+      below_piece f.kept.map p t.component f.kept.high c (laid laws.target w h m f g s k.follows).checked
       (planned f.kept.map (group_with f.kept.map t.component) f.kept.high p (all p (inl refl))) head
 
   by_write : (x : Command) (of : IsOfServer w t.drive x) → of.command.object ≡ t.object → of.command.action ≡ action.Write →
@@ -217,7 +218,7 @@ module _ (laws : StoreLaws) (w : World) (h : List Line) (m : Move) (f g : File) 
   -- ---- a CREATE
 
   stands : StandsBy w.down (reached_in h) f
-  stands = stands_now laws.moved w h before (scenario laws.target w h m f g s k) clean f here
+  stands = stands_now laws.moved w h before (scenario laws.target w h m f g s k.follows) clean f here
 
   -- while the object isn't there, its CREATE is awaited
   creating : object_on (at_number w.drives t.drive) t.object ≡ None →
@@ -231,14 +232,14 @@ module _ (laws : StoreLaws) (w : World) (h : List Line) (m : Move) (f g : File) 
         | inr reached ↦
             let r =
             there_if (at_number w.drives t.drive) t.object f.kept.tag lived
-            (reached_now laws.moved w h before (scenario laws.target w h m f g s k) clean f here t aimed reached) in
+            (reached_now laws.moved w h before (scenario laws.target w h m f g s k.follows) clean f here t aimed reached) in
             absurd (cc (sym none ∙ r.1))
       ]
 
   -- then all is to be done yet
   all_todo : (a : Awaited) → In a (awaited_by f.job) → a.command.action ≡ action.Create → todo ≡ all_pieces
   all_todo a waits create =
-      by j.work has ((fit_job laws.target w h m f g s k j runs).asked a
+      by j.work has ((fit_job laws.target w h m f g s k.follows j runs).asked a
       (subst (λ (q : Option Job). In a (awaited_by q)) runs waits))
     where
       by : (work : Work) → HasToDo f.kept t todo work → IsAskedIn f.kept work a → todo ≡ all_pieces
@@ -255,7 +256,7 @@ module _ (laws : StoreLaws) (w : World) (h : List Line) (m : Move) (f g : File) 
       by (Checks ps tally) x asked = absurd x
 
   ran : IsSentByRun w
-  ran = run laws.target.join.world w h before (scenario laws.target w h m f g s k)
+  ran = run laws.target.join.world w h before (scenario laws.target w h m f g s k.follows)
 
   in_run : In f (state_after (new_server []) ran.acts).files
   in_run = subst (λ (q : Server). In f q.files) ran.server here
@@ -280,7 +281,8 @@ module _ (laws : StoreLaws) (w : World) (h : List Line) (m : Move) (f g : File) 
       let c = creating none in
       let room : counters_have_room (state_after (new_server []) ran.acts) ≡ true =
       ap counters_have_room (sym ran.server)
-      ∙ laws.moved.room w h before (scenario laws.target w h m f g s k).text (scenario laws.target w h m f g s k).few in
+      ∙ laws.moved.room w h before (scenario laws.target w h m f g s k.follows).text
+      (scenario laws.target w h m f g s k.follows).few in
       let from : f.kept.tag ≤ x.capability.tag =
       laws.moved.made.first ran.acts ran.turns room f in_run c.0 c.1 c.2.action t.drive x (ran.sends t.drive x sent)
       (object ∙ sym c.4) in
@@ -297,13 +299,14 @@ module _ (laws : StoreLaws) (w : World) (h : List Line) (m : Move) (f g : File) 
       let r = by_create of.command of.sent own none in
       subst (IsFilled s f t todo) (same_Some _ o (sym made ∙ is))
       (subst (λ (ps : List Piece). IsFilled s f t ps (created of.command.capability.tag x.payload (lane_for x 0))) (sym r.1)
-      (filled_created s f t of.command.capability.tag x.payload (lane_for x 0) r.0 (laid laws.target w h m f g s k).checked low))
+      (filled_created s f t of.command.capability.tag x.payload (lane_for x 0) r.0
+      (laid laws.target w h m f g s k.follows).checked low))
   by_turn (Writes x of own write b was made unspent) o is =
       subst (IsFilled s f t todo) (same_Some _ o (sym made ∙ is))
       (by_write x of own write b (target.object lived b was) (lane_for x 0)
       (target.head of.command (record { sent = of.sent; write = write; object = own }) unspent))
   by_turn (Sets x of own sets b c was made n lanes) o is =
-      absurd (elim ((well_asked laws.target w h m f g s k).only t of.command aimed of.sent own) [
+      absurd (elim ((well_asked laws.target w h m f g s k.follows).only t of.command aimed of.sent own) [
         | inl create ↦ elim sets [ inl tag ↦ cc (sym create ∙ tag) | inr attr ↦ cc (sym create ∙ attr) ]
         | inr write ↦ elim sets [ inl tag ↦ cc (sym write ∙ tag) | inr attr ↦ cc (sym write ∙ attr) ]
       ])
@@ -312,7 +315,7 @@ module _ (laws : StoreLaws) (w : World) (h : List Line) (m : Move) (f g : File) 
   stays =
       by_turn (turned laws.moved laws.places w h before m k.follows.is_due (moved.later laws.moved w h m f g s k)
       (moved.clean laws.moved w h m f g s k) t.drive t.object
-      ((well laws.target w h m f g s k laws.well).alone t aimed).sent)
+      ((well laws.target w h m f g s k.follows laws.well).alone t aimed).sent)
 
 pub target_objects_stay : StoreLaws → TargetObjectsStay
 target_objects_stay laws w h m f g s k j t todo runs has target lives o is =

@@ -20,14 +20,13 @@ use Rattle.history_law.specs.BookMoments.{IsMoment, plan_at, lines_in}
 use Rattle.history_law.specs.Spent.{IsSpent}
 use Rattle.history_law.proofs.Ending.{next_moment}
 use Rattle.history_law.proofs.Spending.{IsFree, free, not_spent}
-use Rattle.history_law.proofs.Staying.{written_front}
-use Rattle.component_law.proofs.MoveFacts.{are_named}
+use Rattle.component_law.proofs.NamedLines.{are_named}
 use Rattle.component_law.proofs.Moments.{allowed_at}
 use Rattle.component_law.specs.Sent.{IsSentByRun}
-use Rattle.exchange_law.proofs.CountGrowing.{fewer, text_front}
 use Rattle.exchange_law.specs.Sent.{HasSent}
 use Rattle.file_simulation.specs.Claim.{IsOfScenario}
 use Rattle.file_simulation.specs.Components.{object_on}
+use Rattle.file_simulation.proofs.Fronts.{scenario_before}
 use Rattle.relation_law.specs.ComponentsFollow.{EachWriteHasItsPlace}
 use Rattle.relation_law.specs.DriveHearing.{IsPerformed, IsOfServer, IsOfSender}
 use Rattle.relation_law.proofs.ComponentsGuesses.{none_is_guessed}
@@ -61,11 +60,7 @@ module _ (laws : MovedLaws) (places : EachWriteHasItsPlace) (w : World) (h : Lis
   v = (move w m).world
 
   pub scenario : IsOfScenario h
-  scenario = record {
-    written = written_front h (lines_in w m) later.written;
-    text = text_front h (lines_in w m) later.text;
-    few = fewer h (lines_in w m) later.few;
-  }
+  scenario = scenario_before h (lines_in w m) later
 
   run : IsSentByRun w
   run = laws.made.run w h k (are_named h scenario.written)

@@ -58,7 +58,7 @@ module _ (laws : TargetLaws) (w : World) (h : List Line) (m : Move) (f g : File)
       nat_lt 0 (end_of bytes (replicate p.count 0)) ≡ false → p.column + p.count ≤ f.kept.map.unit → (todo : List Piece) →
       IsTarget s w f t todo → IsFill w t x → IsInPiece f.kept.map p t.component x → ⊥
   none_of_zeros t p x aim bytes words zeros fits todo target fill inside =
-      let e : EndsInSome x.payload = (well_asked laws w h m f g s k).ends t x aim fill in
+      let e : EndsInSome x.payload = (well_asked laws w h m f g s k.follows).ends t x aim fill in
       let n : ℕ = e.0 in
       let base : ℕ = offset_of f.kept.map p.stripe p.column in
       let j : ℕ = x.offset + n - base in
@@ -74,15 +74,15 @@ pub zeros_are_spent : TargetLaws → ZerosAreSpent
 zeros_are_spent laws w h m f g s k t z x fill =
     let aim : target_in z.job.work ≡ Some t = ap target_in z.work in
     let target : IsTarget s w f t (z.piece ∷ []) =
-    subst (TargetIn s w f) z.work (job_is laws w h m f g s k z.job z.runs).target in
+    subst (TargetIn s w f) z.work (job_is laws w h m f g s k.follows z.job z.runs).target in
     elim (spent_either (at_number w.drives t.drive) x fill.write) [
       | inl spent ↦ spent
       | inr unspent ↦
           absurd (none_of_zeros laws w h m f g s k t z.piece x (ap target_of z.runs ∙ aim)
           (made f.kept t z.piece (heard_with z.job z.awaited z.reply))
-          (made_right laws w h m f g s k z.job z.runs t z.piece [] z.work z.drive z.reply z.delivered z.from z.read
+          (made_right laws w h m f g s k.follows z.job z.runs t z.piece [] z.work z.drive z.reply z.delivered z.from z.read
           z.awaited z.awaits z.answer z.is_done z.last)
-          z.zeros (piece_is laws w h m f g s k z.job z.runs t aim z.piece
+          z.zeros (piece_is laws w h m f g s k.follows z.job z.runs t aim z.piece
           (subst (λ (y : Work). In z.piece (todo_in y)) (sym z.work) (inl refl))).within (z.piece ∷ []) target fill
           (target.head x fill unspent))
     ]

@@ -16,6 +16,7 @@ use Rattle.history_law.proofs.DriveLines.{drive_read}
 use Rattle.history_law.proofs.Holding.{Holds, holds}
 use Rattle.history_law.proofs.LaneLines.{letter, in_get}
 use Rattle.history_law.proofs.Spelled.{command_reads}
+use Rattle.history_law.proofs.Heard.{world_command}
 use Rattle.exchange_law.specs.Counters.{ServerIsCounted}
 use Rattle.exchange_law.proofs.CountGrowing.{as_many}
 use Rattle.exchange_law.proofs.CountMoments.{at_moment}
@@ -24,7 +25,6 @@ use Rattle.exchange_law.proofs.Replied.{read_at}
 use Rattle.component_law.specs.Origin.{EachTagWasSent}
 use Rattle.component_law.specs.Sent.{IsSentByRun}
 use Rattle.component_law.specs.Tagged.{NoCommandIsAhead}
-use Rattle.component_law.proofs.Letters.{world_command}
 use Rattle.file_simulation.specs.Claim.{IsOfScenario}
 use Rattle.file_simulation.specs.Components.{object_on}
 use Rattle.file_simulation.specs.Messages.{HasCommanded}

@@ -1,7 +1,7 @@
 -- At each moment of a calm history each object that a client or the server named, or that a drive has, has a number that the
 -- server used.
 use Rattle.component_law.specs.Sent.{IsSentByRun}
-use Rattle.component_law.proofs.MoveFacts.{are_named}
+use Rattle.component_law.proofs.NamedLines.{are_named}
 use Rattle.exchange_law.proofs.Knowing.{lawful_at}
 use Rattle.relation_law.proofs.ComponentsMoved.{MovedLaws}
 use Rattle.headline_law.specs.Used.{EachObjectIsUsed}

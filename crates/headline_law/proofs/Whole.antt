@@ -1,17 +1,20 @@
--- The headline at each moment of a history, by the laws of histories and of the machine.
-use Rattle.file_simulation.specs.Claim.{AuditsFindNone}
+-- The headline, by the laws of histories and of the machine.
+use Rattle.file_simulation.specs.Claim.{AuditsFindNone, HeadlineHolds}
+use Rattle.file_simulation.specs.Conclusion.{FilesAreShaped, RunsGiveTheHeadline, SimulationGivesRuns}
 use Rattle.file_simulation.specs.Simulation.{EachFileIsCreated, EachMoveGoesOn}
 use Rattle.headline_law.specs.Ending.{NotesAreKnown}
 use Rattle.headline_law.specs.EntriesTied.{CutsKeepEntries, ServersKeepEntries}
-use Rattle.headline_law.specs.Headline.{MomentsAreRight}
 use Rattle.headline_law.specs.Histories.{HistoriesAreLawful, MachineIsLawful}
 use Rattle.headline_law.specs.MarksTied.{WritesStayTied}
 use Rattle.headline_law.proofs.AuditGo.{audits_find_none}
 use Rattle.headline_law.proofs.BirthWorld.{each_file_is_created}
 use Rattle.headline_law.proofs.CalmAnswers.{followed_answers_fit}
+use Rattle.headline_law.proofs.CalmCuts.{cuts_are_seen}
 use Rattle.headline_law.proofs.CalmTaken.{told_are_taken}
 use Rattle.headline_law.proofs.CalmWorlds.{CalmLaws, cuts_calm, cuts_marked, cuts_run, drives_go, servers_go}
 use Rattle.headline_law.proofs.ClientLawful.{clients_are_lawful}
+use Rattle.headline_law.proofs.CreationShown.{CreationLaws, creations_are_shown, none_is_logged_at_cuts}
+use Rattle.headline_law.proofs.CutsJoined.{CutParts, each_cut_is_shown}
 use Rattle.headline_law.proofs.DriveLawful.{drives_are_lawful}
 use Rattle.headline_law.proofs.EntriesAll.{entries_are_kept}
 use Rattle.headline_law.proofs.EntriesClients as entries
@@ -22,7 +25,6 @@ use Rattle.headline_law.proofs.EntriesServerOver.{losses_are_over}
 use Rattle.headline_law.proofs.EntriesServerReported.{LossesAreSole, losses_are_reported}
 use Rattle.headline_law.proofs.EntriesServerTied.{servers_keep}
 use Rattle.headline_law.proofs.EntriesShown.{ReadingLaws}
-use Rattle.headline_law.proofs.Headline.{moments_are_right}
 use Rattle.headline_law.proofs.Histories as known
 use Rattle.headline_law.proofs.Joining.{InductionParts, RelationParts, RunParts, ShownParts, WorldParts, each_move_goes_on}
 use Rattle.headline_law.proofs.LinesWhole.{events_have_lines, notes_are_told}
@@ -39,10 +41,13 @@ use Rattle.headline_law.proofs.MarksNewJoined.{writes_stay}
 use Rattle.headline_law.proofs.MarksNewPending.{sent_are_logged}
 use Rattle.headline_law.proofs.MarksPending.{sent_in_writes}
 use Rattle.headline_law.proofs.MarksWritesJoined.{TiedLaws}
-use Rattle.headline_law.proofs.NotLogged.{none_is_logged_then}
+use Rattle.headline_law.proofs.OtherCuts.{others_show_components}
+use Rattle.headline_law.proofs.OtherCutsServer.{others_show_files}
 use Rattle.headline_law.proofs.Relation as relation
+use Rattle.headline_law.proofs.RoomCuts.{cuts_have_room}
 use Rattle.headline_law.proofs.ServerAhead.{ahead_is_lawful}
 use Rattle.headline_law.proofs.ServerClients as server
+use Rattle.headline_law.proofs.ServerCuts.{servers_show_components, servers_show_files}
 use Rattle.headline_law.proofs.ServerJoined.{servers_are_lawful}
 
 module _ (l : HistoriesAreLawful) (machine : MachineIsLawful) where
@@ -225,16 +230,35 @@ module _ (l : HistoriesAreLawful) (machine : MachineIsLawful) where
   pub files_are_created : EachFileIsCreated
   files_are_created = each_file_is_created (known.births l (relation.low l))
 
-  pub right_at_moments : MomentsAreRight
-  right_at_moments = moments_are_right (record {
+  -- ---- cuts inside a move
+
+  cut_parts : CutParts
+  cut_parts = record {
     induction = parts;
-    created = files_are_created;
-    none = none_is_logged_then (known.logged l);
-    codes = machine.layouts_are_codes;
-    columns = machine.columns_have_stripes;
-    judge = machine.judged;
-    whole = machine.whole;
-  })
+    room = cuts_have_room;
+    servers_files = servers_show_files (record {
+      server = l.server_goes_on;
+      lines = l.all_lines_go_on;
+      seen = cuts_are_seen l.book_is_read l.moment_goes_on notes (told_are_taken followed_answers_fit);
+    });
+    servers_components = servers_show_components (record { rebuilt = relation.rebuilt_laws l; grow = l.drives_grow });
+    others_files = others_show_files (record {
+      book = l.book_is_read;
+      reads = l.step_is_read;
+      moments = l.moment_goes_on;
+      pending = l.pending_is_read;
+    });
+    others_components = others_show_components (record { shown = known.shown l; drives = relation.drives l });
+  }
+
+  creation : CreationLaws
+  creation = known.creations l cuts_have_room
+
+  -- the headline, by the laws of the simulation and of the shape of files
+  pub headline : SimulationGivesRuns → RunsGiveTheHeadline → FilesAreShaped → HeadlineHolds
+  headline runs gives shaped =
+      gives (runs moves_go_on files_are_created (each_cut_is_shown cut_parts) (creations_are_shown creation)) shaped
+      (none_is_logged_at_cuts creation)
 
   pub audits_find : AuditsFindNone
   audits_find =

@@ -1,11 +1,11 @@
 -- What is known of every history, and the headline is proved from: laws of the server, of clients, of drives and of messages.
 use Rattle.world_history.specs.History.{OneEventMore}
-use Rattle.world_history.specs.Laws.{MomentGoesOn, AllLinesGoOn}
+use Rattle.world_history.specs.Laws.{MomentGoesOn, AllLinesGoOn, ServerGoesOn, StepsGoOn}
 use Rattle.server_rules.specs.Laws.{EachStepIsSafe}
 use Rattle.history_law.specs.Counters.{GrantsAreCounted}
 use Rattle.history_law.specs.Grants.{GrantsAreSafe}
 use Rattle.history_law.specs.Holder.{UnforgedHolderIsServer}
-use Rattle.history_law.specs.Read.{BookIsRead}
+use Rattle.history_law.specs.Read.{BookIsRead, StepIsRead}
 use Rattle.history_law.specs.Unforged.{UnguessedAreUnforged}
 use Rattle.exchange_law.specs.Counters.{ClientsAreCounted, CountersStayLow, ServerIsCounted}
 use Rattle.exchange_law.specs.Files.{AllFilesFit}
@@ -16,7 +16,7 @@ use Rattle.exchange_law.specs.Requests.{OneRequest}
 use Rattle.exchange_law.specs.Taking.{AnswersAreOwn}
 use Rattle.component_law.specs.FenceTags.{EachStepTellsTags}
 use Rattle.component_law.specs.First.{CreatesAreFirst}
-use Rattle.component_law.specs.Following.{PendingIsRead}
+use Rattle.component_law.specs.LeftPending.{PendingIsRead}
 use Rattle.component_law.specs.Going.{EachStepTells}
 use Rattle.component_law.specs.Listed.{ComponentsAgree}
 use Rattle.component_law.specs.Moments.{ServerWritesToOthers}
@@ -30,7 +30,7 @@ use Rattle.component_law.specs.Tags.{EachStepRaisesTags}
 use Rattle.component_law.specs.Told.{LossesAreTold}
 use Rattle.cause_law.specs.Fresh.{GrantsAreFresh}
 use Rattle.cause_law.specs.Readable.{AnswersAreFit, FilesAndAnswersAreReadable, PlacesAreEnough}
-use Rattle.ready_law.specs.Offline.{OfflineHaveFailed}
+use Rattle.component_law.specs.Offline.{OfflineHaveFailed}
 use Rattle.name_law.specs.ClientSends.{ClientsSendToNamed}
 use Rattle.name_law.specs.ClientTells.{CallsOfTextArePending, OutcomesOfTextAreTold}
 use Rattle.name_law.specs.ServerNamed.{EachServerStepIsNamed}
@@ -54,6 +54,9 @@ pub record HistoriesAreLawful : Type 0 where
   pub one_event_more : OneEventMore
   pub moment_goes_on : MomentGoesOn
   pub all_lines_go_on : AllLinesGoOn
+  pub server_goes_on : ServerGoesOn
+  pub steps_go_on : StepsGoOn
+  pub step_is_read : StepIsRead
   pub book_is_read : BookIsRead
   pub seen_is_sound : SeenIsSound
   pub pending_is_read : PendingIsRead

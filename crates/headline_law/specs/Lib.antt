@@ -2,7 +2,7 @@ pub mod ClientTold
 pub mod Ending
 pub mod EntriesTied
 pub mod FoundHeld
-pub mod Headline
+pub mod NotLogged
 pub mod Histories
 pub mod Marks
 pub mod MarksShown
@@ -19,5 +19,8 @@ pub mod Stated
 pub mod TargetDrives
 pub mod TargetGoes
 pub mod TargetLaws
+pub mod Mended
 pub mod Used
 pub mod Watching
+pub use Rattle.file_simulation.specs.Claim
+pub use Rattle.relation_law.specs.Working

@@ -1,30 +1,36 @@
 -- What the induction over the moves of a calm history stands on, part by part.
-use Rattle.std.specs.Prelude.{◌≡◌, ◌++◌, ◌≤◌, ◌<◌, ℕ, List, [], length, take, true, Some, None}
+use Rattle.std.specs.Prelude.{◌≡◌, ◌⊎◌, ◌+◌, ◌++◌, ◌≤◌, ◌<◌, ℕ, List, [], ◌∷◌, length, slice_get, take, true, Some, None}
 use Rattle.scenario_text.specs.declared.line.Line.{Line}
-use Rattle.server_rules.specs.History.{Input}
+use Rattle.server_rules.specs.History.{Input, step}
 use Rattle.server_rules.specs.Laws.{In}
-use Rattle.world_history.specs.ServerNames.{File, Grant, Job, Repairing}
+use Rattle.server_rules.specs.Files.{file_at}
+use Rattle.world_history.specs.ServerNames.{Component, File, Job, Note, Rebuilt, Repairing, Server}
 use Rattle.world_history.specs.State.{World}
 use Rattle.world_history.specs.Sending.{Move, move}
+use Rattle.world_history.specs.Plans.{due}
 use Rattle.world_history.specs.ReadLog.{log_of}
 use Rattle.world_history.specs.Stripes.{Moment, is_calm}
 use Rattle.world_history.specs.Calm.{moment_of}
-use Rattle.history_law.specs.BookMoments.{lines_in}
+use Rattle.history_law.specs.BookMoments.{IsMoment, plan_at, lines_in}
 use Rattle.history_law.specs.Doing.{input_in, did_in}
+use Rattle.exchange_law.specs.Text.{AreOfText}
+use Rattle.component_law.specs.Distinct.{AreDistinct}
 use Rattle.fence_law.specs.State.{State}
 use Rattle.fence_law.specs.Columns.{IsCalm}
 use Rattle.fence_law.specs.Log.{IsLog}
 use Rattle.fence_law.specs.Machine.{Lawful as IsLawfulRun}
 use Rattle.file_simulation.specs.ClientEvents.{Going, going_in}
 use Rattle.file_simulation.specs.Components.{AreComponents}
-use Rattle.file_simulation.specs.Cuts.{at_cut, rebuilt_ahead, notes_behind}
+use Rattle.file_simulation.specs.Claim.{IsOfScenario}
+use Rattle.file_simulation.specs.Cuts.{at_cut, lines_before, rebuilt_ahead, notes_behind}
 use Rattle.file_simulation.specs.Events.{joined, events_of}
 use Rattle.file_simulation.specs.Jobs.{AreOwned, AreQuiet, OweWords, RowsIn, DoneIn, TargetIn}
 use Rattle.file_simulation.specs.Messages.{AreSent}
 use Rattle.file_simulation.specs.Phases.{IsKept, AreBelowHigh}
-use Rattle.file_simulation.specs.Showing.{Pairs, IsPair, ArePaired, IsRun, ShowsLines, IsLastMoment}
+use Rattle.file_simulation.specs.Showing.{Pairs, IsPair, ArePaired, IsRun, ShowsComponent, ShowsLines, IsLastMoment}
+use Rattle.file_simulation.specs.Simulation.{EarlierAreOver}
 use Rattle.file_simulation.specs.Tied.{AreTied, WritesAreTied}
-use Rattle.relation_law.specs.Steps.{Follows, FollowsWhole, behind, owed, whole_behind, AreRequests, AreCalls, AreReads}
+use Rattle.relation_law.specs.Steps.{HasRoom, Follows, FollowsWhole, behind, owed, whole_behind, AreRequests, AreCalls, AreReads}
 
 -- ---- events that can happen
 
@@ -48,6 +54,7 @@ pub record FollowsShown (w : World) (h : List Line) (m : Move) (count : ℕ) (f 
     pub follows : Follows w h m count f g s
     pub low : count ≤ length (lines_in w m)
     pub shown : ShowsLines h s f.kept.number pairs
+    pub over : EarlierAreOver s f
     pub tied : AreTied w h s f.kept.number pairs
     pub writes : WritesAreTied w h s f pairs
 
@@ -184,12 +191,57 @@ ReadsFollow = FollowsIn AreReads
 
 -- ---- a file at a cut
 
--- The file that the lines show at a cut has the map and the first tag of the file before the move.
-pub record SameShown (h : List Line) (s : State) (f x : File) : Type 0 where
+-- A file has the map and the first tag of another.
+pub record SameShown (f x : File) : Type 0 where
   pub map : x.kept.map ≡ f.kept.map
   pub first_tag : x.kept.first_tag ≡ f.kept.first_tag
-  -- the grant of an entry of an earlier tag is over
-  pub ended : (j : ℕ) (y : Grant) → j < s.count → (s.start j).tag < s.tag → In y x.kept.grants → y.number ≡ (s.start j).grant → ⊥
+
+-- The file that the lines show at a cut inside a step of the server is the one behind the step, but for its job.
+abbrev pub ServersShowFiles : Type 0
+ServersShowFiles =
+    (w : World) (h : List Line) (m : Move) (count : ℕ) (f g : File) (s : State) → Follows w h m count f g s → (i : Input) →
+    input_in w m.action ≡ Some i → (q : ℕ) → count ≡ lines_before m.action + q → (x : File) →
+    file_at (moment_of (lines_to w h m count)).server.files f.kept.number ≡ Some x → x.kept ≡ g.kept
+
+-- Behind the first lines of any other move, or before the step begins, it is the one before the move.
+abbrev pub OthersShowFiles : Type 0
+OthersShowFiles =
+    (w : World) (h : List Line) (m : Move) (count : ℕ) (f g : File) (s : State) → Follows w h m count f g s →
+    (input_in w m.action ≡ None) ⊎ (count < lines_before m.action) → (x : File) →
+    file_at (moment_of (lines_to w h m count)).server.files f.kept.number ≡ Some x → x ≡ f
+
+-- the machine at a cut shows these components
+abbrev pub ShowsAll : {w : World} → {h : List Line} → {m : Move} → {count : ℕ} → {f g : File} → {s : State} → {pairs : Pairs} →
+    CutShown w h m count f g s pairs → List Component → Type 0
+ShowsAll {w} {h} {m} {count} {f} {g} {s} {pairs} k cs =
+    (i : ℕ) (at : Component) → slice_get cs i ≡ Some at →
+    ShowsComponent (lines_to w h m count) (cut_at k.shown.follows) i at
+
+-- Inside a step of the server it shows those behind the step.
+abbrev pub ServersShowComponents : Type 0
+ServersShowComponents =
+    (w : World) (h : List Line) (m : Move) (count : ℕ) (f g : File) (s : State) (pairs : Pairs) →
+    (k : CutShown w h m count f g s pairs) → (i : Input) → input_in w m.action ≡ Some i → (q : ℕ) →
+    count ≡ lines_before m.action + q → ShowsAll k g.kept.components
+
+-- Elsewhere it shows those before the move.
+abbrev pub OthersShowComponents : Type 0
+OthersShowComponents =
+    (w : World) (h : List Line) (m : Move) (count : ℕ) (f g : File) (s : State) (pairs : Pairs) →
+    (k : CutShown w h m count f g s pairs) → (input_in w m.action ≡ None) ⊎ (count < lines_before m.action) →
+    ShowsAll k f.kept.components
+
+-- Where the first lines of a move are those of a scenario's text, so are all of them, and there is room for its numbers.
+abbrev pub CutsHaveRoom : Type 0
+CutsHaveRoom =
+    (w : World) (h : List Line) (m : Move) (count : ℕ) → (k : IsMoment w h) → due (plan_at k) w ≡ Some m.action → 0 < count →
+    IsOfScenario (lines_to w h m count) → AreOfText (h ++ lines_in w m) × HasRoom w m
+
+-- A note that a component was rebuilt is the first on its file that a step of the server tells.
+abbrev pub RebuiltIsFirst : Type 0
+RebuiltIsFirst =
+    (s : Server) (chosen : List ℕ) (i : Input) → AreDistinct s.files → (front back : List Note) (x y : Note) (k d : ℕ) →
+    (step s chosen i).notes ≡ front ++ (x ∷ back) → x.kind ≡ Rebuilt k d → In y front → y.file ≡ x.file → ⊥
 
 -- ---- lines and events
 

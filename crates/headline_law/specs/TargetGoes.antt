@@ -12,7 +12,7 @@ use Rattle.server_rules.specs.Rebuild.{made, sources, to_fill}
 use Rattle.server_rules.specs.Replies.{Done, answers, hearing, others, heard_with}
 use Rattle.world_history.specs.ServerNames.{Server, File, Kept, Awaited, Piece, Target, Job, Targets, Gathers, Fills, Still}
 use Rattle.component_law.specs.Objects.{NoneIs, objects_of, target_in, target_of}
-use Rattle.component_law.specs.Performing.{AreDistinct}
+use Rattle.component_law.specs.Distinct.{AreDistinct}
 use Rattle.headline_law.specs.TargetLaws.{IsAskedOrHeard}
 
 -- ---- what comes

@@ -23,7 +23,7 @@ use Rattle.world_history.specs.Guesses.{unguessed}
 use Rattle.world_history.specs.State.{World, at_number}
 use Rattle.history_law.specs.BookMoments.{IsMoment}
 use Rattle.history_law.specs.Spent.{HasPassed}
-use Rattle.component_law.specs.Performing.{AreDistinct}
+use Rattle.component_law.specs.Distinct.{AreDistinct}
 use Rattle.component_law.specs.Objects.{target_in, target_of}
 use Rattle.exchange_law.specs.Sent.{HasSent}
 use Rattle.file_simulation.specs.Claim.{IsOfScenario}

@@ -1,5 +1,6 @@
 // The laws of histories and of the machine of a file that the headline is proved from, and two more of every history.
-ghost use Rattle.headline_law.specs.Headline.{NoneIsLoggedThen};
+ghost use Rattle.file_simulation.specs.Claim.{EachRepairLeavesNone};
+ghost use Rattle.file_simulation.specs.Conclusion.{NoneIsLogged};
 ghost use Rattle.headline_law.specs.Histories.{HistoriesAreLawful, MachineIsLawful};
 ghost use Rattle.headline_law.specs.Used.{EachObjectIsUsed};
 
@@ -9,7 +10,7 @@ use cause_law::{
 use component_law::{
     components_agree, creates_are_first, each_step_is_sound, each_step_raises_tags,
     each_step_stands, each_step_tells, each_step_tells_tags, each_tag_was_sent, losses_are_told,
-    no_command_is_ahead, pending_is_read, seen_is_sound, server_sent_its_run,
+    no_command_is_ahead, offline_have_failed, pending_is_read, seen_is_sound, server_sent_its_run,
     server_writes_to_others,
 };
 use exchange_law::{
@@ -18,14 +19,14 @@ use exchange_law::{
 };
 use fence_law::{audited, judged, whole};
 use history_law::{
-    book_is_read, grants_are_counted, grants_are_safe, holder_is_server, unguessed_are_unforged,
+    book_is_read, grants_are_counted, grants_are_safe, holder_is_server, step_is_read,
+    unguessed_are_unforged,
 };
 use name_law::{
     calls_of_text_are_pending, clients_send_to_named, each_server_step_is_named, outcomes_are_told,
     server_is_named, server_leaves_nothing_out, texts_are_named,
 };
 use plan_law::{columns_have_stripes, layouts_are_codes};
-use ready_law::offline_have_failed;
 use relation_law::{
     calls_go_on, clients_keep_runs, components_go_on, drives_grow, each_send_is_awaited,
     jobs_ask_their_own, kept_goes_on, owned_follows, quiet_follows, requests_go_on,
@@ -33,14 +34,15 @@ use relation_law::{
 use server_rules::each_step_is_safe;
 use world_history::{one_event_more, reading_goes_on};
 
-/// Every history is so: what is read off its lines goes on, the server's steps and numbers are safe and counted, clients ask
-/// one request at a time and agree with the server, and drives only grow.
+/// Every history is so: what is read off its lines goes on, the server's steps and numbers are safe and counted,
+/// clients ask one request at a time and agree with the server, and drives only grow.
 pub fn histories_are_lawful()
     ensures { HistoriesAreLawful }
 {
     one_event_more();
     reading_goes_on();
     book_is_read();
+    step_is_read();
     seen_is_sound();
     pending_is_read();
     losses_are_told();
@@ -86,8 +88,8 @@ pub fn histories_are_lawful()
     unguessed_are_unforged();
 }
 
-/// The machine of a file is so: its layouts are codes, its log is accepted and its undisturbed columns are whole; and these parts
-/// of its relation to the world go on in each move.
+/// The machine of a file is so: its layouts are codes, its log is accepted and its undisturbed columns are whole; and
+/// these parts of its relation to the world go on in each move.
 pub fn machine_is_lawful()
     ensures { MachineIsLawful }
 {
@@ -105,17 +107,26 @@ pub fn machine_is_lawful()
     quiet_follows();
 }
 
-/// At each moment of a calm and unguessed history each object number in a command of a client or of the server, and each that a
-/// drive has, is below the number that the server gives next.
+/// At each moment of a calm and unguessed history each object number in a command of a client or of the server, and
+/// each that a drive has, is below the number that the server gives next.
 pub fn each_object_is_used()
     ensures { EachObjectIsUsed }
 {
     histories_are_lawful();
 }
 
-/// A file that there isn't has no entry in the log, at each moment of a history of a scenario's text with few messages.
+/// A file that there isn't has no entry in the log of a history of a scenario's text with few messages.
 pub fn none_is_logged()
-    ensures { NoneIsLoggedThen }
+    ensures { NoneIsLogged }
+{
+    histories_are_lawful();
+}
+
+/// Right behind each note that a repair is over, in every lawful history whose events a text may have: the note
+/// stands for a repair that counted so many stripes and left so many of them short; and if it left none, no stripe
+/// that it counted is disturbed there.
+pub fn repairs_leave_none()
+    ensures { EachRepairLeavesNone }
 {
     histories_are_lawful();
 }

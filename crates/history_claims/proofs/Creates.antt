@@ -41,10 +41,10 @@ use Rattle.history_law.proofs.Made.{for_named, told_on}
 use Rattle.history_law.proofs.Staying.{written_front}
 use Rattle.history_law.proofs.StepEnds.{place_of}
 use Rattle.component_law.specs.Words.{Each}
-use Rattle.component_law.specs.Following.{is_opening}
+use Rattle.component_law.specs.Opening.{is_opening}
 use Rattle.component_law.proofs.Shapes.{Bare, is_event, sent_bare}
 use Rattle.component_law.proofs.Inside.{shape_each, opens_each}
-use Rattle.component_law.proofs.MoveFollowing.{acts_shape, next_opens, plain_lines}
+use Rattle.component_law.proofs.NextMoves.{acts_shape, next_opens, plain_lines}
 use Rattle.component_law.proofs.MoveOpening.{begins_bare}
 use Rattle.exchange_law.proofs.CountMoments.{at_moment}
 use Rattle.history_law.proofs.Ending.{next_moment}

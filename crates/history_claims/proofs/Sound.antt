@@ -1,5 +1,5 @@
 -- Each lawful history is sound.
-use Rattle.std.proofs.Common.{◌≡◌, List, Option, Some, None, subst}
+use Rattle.std.proofs.Common.{◌≡◌, ◌++◌, ◌∷◌, [], List, Option, Some, None, sym, subst, ◌∙◌, append_assoc}
 use Rattle.scenario_text.specs.declared.line.Line.{Line}
 use Rattle.world_history.specs.Book.{book_of}
 use Rattle.world_history.specs.ServerNames.{File}
@@ -17,6 +17,7 @@ use Rattle.component_law.specs.OnDrives.{StandApart, ComponentsStandApart}
 use Rattle.history_claims.specs.Spread.{ComponentsStandSpread}
 use Rattle.history_claims.specs.Created.{EachFileIsCreated}
 use Rattle.history_claims.specs.Sound.{HistoriesAreSound}
+use Rattle.history_claims.specs.Plain.{ReadyReadsArePlain}
 use Rattle.component_law.specs.Given.{GrantsAreOlder}
 use Rattle.component_law.specs.Live.{EachAnswerIsLive}
 use Rattle.component_law.specs.Barred.{GivenIsBarred}
@@ -48,6 +49,7 @@ use Rattle.cause_law.specs.Unanswered.{PendingCallsAreUnanswered}
 use Rattle.ready_law.specs.Answered.{ReadyIsAnswered}
 use Rattle.ready_law.specs.Losses.{FilesBearLosses, LossesAreBorne}
 use Rattle.component_law.specs.TagTags.{EachTagIsItsFiles}
+use Rattle.headline_law.specs.Claim.{AuditsFindNone, EachRepairLeavesNone, HeadlineHolds}
 use Rattle.history_claims.proofs.Texts.{events_make_text}
 use Rattle.history_claims.proofs.Cutting.{cuts_go_on}
 
@@ -73,11 +75,12 @@ pub histories_are_sound : HistoriesAreSafe → VerdictsAreAnswered → CommandsA
     → EachByteHasItsCause → EachTagIsItsFiles → EachRequestIsAnswered → EachMessageIsCaused → EachGrantHasItsCauses
     → EachComponentHasItsCauses → EachLossHasItsCause → EachTagHasItsCause → EachAwaitedHasItsCauses → EachAwaitedHasItsEnd
     → EachAwaitedWasSent → EachCrashBars → EachGrantIsNamedOnce → EachObjectIsOwn → EachEndIsSaid
-    → EachCallIsLeftSo → PendingCallsAreUnanswered → LossesAreBorne → ReadyIsAnswered → WithinTheLimitAreFew
+    → EachCallIsLeftSo → PendingCallsAreUnanswered → LossesAreBorne → ReadyIsAnswered → ReadyReadsArePlain → HeadlineHolds
+    → AuditsFindNone → EachRepairLeavesNone → WithinTheLimitAreFew
     → HistoriesAreSound
 histories_are_sound safe answered issued listed fair ranges fronts apart spread created own fenced live given older barred exact
     allowed lanes lanes_own judged awaited low ends outcomes read bytes tags caused told changed gone lost raised waits until sent
-    barred_by named objects said left unanswered borne ready few = record {
+    barred_by named objects said left unanswered borne ready plain right audits mended few = record {
       sound = λ h l. record {
         safe = safe h l;
         answered = λ w s. answered w h s;
@@ -123,6 +126,12 @@ histories_are_sound safe answered issued listed fair ranges fronts apart spread 
         unanswered = unanswered h l;
         losses = λ names. losses_at apart borne h l names;
         ready = λ written text few. ready h l written text few;
+        plain = λ written text few. plain h l written text few;
+        right = λ before after is. right before (fronts before after (subst Lawful is l));
+        audits = λ before after is. audits before (fronts before after (subst Lawful is l));
+        mended = λ before last after is.
+            mended before last (fronts (before ++ last ∷ []) after
+            (subst Lawful (is ∙ sym (append_assoc before (last ∷ []) after)) l));
       };
       text = events_make_text;
       few = few;

@@ -3,3 +3,4 @@ pub mod Spread
 pub mod Created
 pub mod Texts
 pub mod Sound
+pub mod Plain

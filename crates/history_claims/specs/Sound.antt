@@ -41,11 +41,12 @@ use Rattle.cause_law.specs.Pending.{CallsAreLeft}
 use Rattle.cause_law.specs.Read.{AnswersAt}
 use Rattle.cause_law.specs.ReadBytes.{BytesAt}
 use Rattle.cause_law.specs.Unanswered.{UnansweredAt}
-use Rattle.ready_law.specs.Answered.{EachReadyIsAnswered}
+use Rattle.ready_law.specs.Answered.{EachReadyIsAnswered, EachReadyReadIsPlain}
 use Rattle.ready_law.specs.Losses.{FilesBearLosses}
 use Rattle.cause_law.specs.Numbers.{GrantsAreNamedOnce, ObjectsAreOwnAt}
 use Rattle.cause_law.specs.Reopened.{CrashesBarAt}
 use Rattle.component_law.specs.TagTags.{HaveTagsAt}
+use Rattle.headline_law.specs.Claim.{HasNoBadAudit, IsRightIfCalm, RepairedAt}
 use Rattle.history_claims.specs.Texts.{EventsMakeText, CutsGoOn}
 
 -- What the lines of a sound history say.
@@ -171,6 +172,18 @@ pub record IsSound (h : List Line) : Type 0 where
   -- in a history of a scenario's text with few messages each call that is ready where its event begins, and whose event is over,
   -- ended in ok, which one line of the event tells, and within its bound of messages
   pub ready : AreWritten h → AreOfText h → AreFew h → EachReadyIsAnswered h
+  -- and a ready read whose event is calm gave the bytes that the writes before it leave in order, if each of these was
+  -- acknowledged
+  pub plain : AreWritten h → AreOfText h → AreFew h → EachReadyReadIsPlain h
+  -- the headline: up to each place up to which the history is of a scenario's text, with few messages, calm and unguessed, the
+  -- judge accepts the log of each file. So every answered read gave, in order of start, the acknowledged writes before it, an
+  -- unfinished write's bytes being old or new, once for all. And each stripe that isn't disturbed there is whole
+  pub right : AtEachMoment IsRightIfCalm h
+  -- and no audit found a bad stripe
+  pub audits : AtEachMoment HasNoBadAudit h
+  -- right behind each note that a repair is over: the note stands for a repair that counted so many stripes and left so many of
+  -- them short; and if it left none short, no stripe that it counted is disturbed there
+  pub mended : AtEachLine RepairedAt h
 
 -- Each lawful history is sound, whatever its events name. Where a text may have the events, it is one of a scenario's text;
 -- and where a world that stands for it is within the limit of kept bytes, it has few messages. A history that is cut at that

@@ -11,9 +11,9 @@ use Rattle.world_history.specs.Book.{server_after, book_of}
 use Rattle.world_history.specs.History.{Lawful}
 use Rattle.history_law.specs.Safe.{AtEachMoment}
 use Rattle.component_law.specs.Naming.{AreNamed}
-use Rattle.component_law.specs.Sound.{target_of}
 use Rattle.component_law.specs.Spread.{IsSpread, HasRoom}
 use Rattle.component_law.specs.Failing.{AreLostIn, IsBorne}
+use Rattle.component_law.specs.Objects.{target_of}
 
 -- No zone has more components of a group than the code brings back, each counted, present or missing, on the drive on
 -- which it stands or last stood. One that is made anew comes into a zone with room for it. So whichever components are

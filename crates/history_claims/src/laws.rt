@@ -1,5 +1,6 @@
 // What holds of every history, for the crates above.
 ghost use Rattle.history_claims.specs.Created.{EachFileIsCreated};
+ghost use Rattle.history_claims.specs.Plain.{ReadyReadsArePlain};
 ghost use Rattle.history_claims.specs.Sound.{HistoriesAreSound};
 ghost use Rattle.history_claims.specs.Spread.{ComponentsStandSpread};
 
@@ -11,26 +12,32 @@ use cause_law::{
     tags_have_causes,
 };
 use component_law::{
-    answers_are_live, components_stand_apart, each_step_is_apart, each_step_is_sound,
-    each_step_spreads, each_step_zones, each_tag_is_its_files, given_is_barred, given_was_live,
-    grants_are_older, one_zone_is_borne,
+    answers_are_live, components_stand_apart, each_object_is_owned, each_step_is_apart,
+    each_step_is_sound, each_step_spreads, each_step_zones, each_tag_is_its_files, given_is_barred,
+    given_was_live, grants_are_in_order, grants_are_older, keys_are_known, no_tag_is_ahead,
+    no_tag_is_behind, nothing_due_rests, one_zone_is_borne, sizes_agree,
 };
 use exchange_law::{
-    commands_are_issued_exactly, counters_stay_low, lanes_are_fair, lanes_are_own,
-    refusals_were_awaited, refusals_were_judged, unforged_are_issued_exactly,
-    within_the_limit_are_few,
+    awaited_are_taken, commands_are_issued_exactly, counters_stay_low, files_have_shape,
+    lanes_are_fair, lanes_are_own, refusals_were_awaited, refusals_were_judged,
+    unforged_are_issued_exactly, within_the_limit_are_few,
 };
+use file_log::{plain, range_found};
+use headline_law::{audits_find_none, headline_holds, histories_are_lawful, repairs_leave_none};
 use history_law::{
     commands_are_issued, histories_are_safe, holders_are_own, ranges_are_apart,
     unforged_are_fenced, unforged_are_issued, unguessed_are_unforged, verdicts_are_answered,
 };
-use ready_law::{losses_are_borne, ready_calls_end_in_ok};
+use ready_law::{
+    clear_commands_are_carried_out, events_stand_apart, losses_are_borne, lost_are_listed,
+    ready_calls_end_in_ok, room_stays, scenes_are_read,
+};
 use server_rules::files_are_put;
-use world_history::{fronts_are_lawful, one_event_more, reading_goes_on};
+use world_history::{fronts_are_lawful, messages_are_read, one_event_more, reading_goes_on};
 
 /// At each moment of a lawful history whose events lines can name, the components of each zoned file are spread over
-/// zones: no zone has more of a group than the code brings back, each counted, present or missing, on the drive on which
-/// it stands or last stood. If all lost ones were of one zone, each stripe can be read and written.
+/// zones: no zone has more of a group than the code brings back, each counted, present or missing, on the drive on
+/// which it stands or last stood. If all lost ones were of one zone, each stripe can be read and written.
 pub fn components_stand_spread()
     ensures { ComponentsStandSpread }
 {
@@ -41,9 +48,9 @@ pub fn components_stand_spread()
     one_zone_is_borne();
 }
 
-/// In a whole history whose events a text may have, of each event that makes a file which isn't there: the CREATEs of the
-/// event's step go to the drives of the file's components, in order and one each, as the book has the file behind the
-/// step. Where the file is refused, there are none.
+/// In a whole history whose events a text may have, of each event that makes a file which isn't there: the CREATEs of
+/// the event's step go to the drives of the file's components, in order and one each, as the book has the file behind
+/// the step. Where the file is refused, there are none.
 pub fn files_are_created()
     ensures { EachFileIsCreated }
 {
@@ -52,28 +59,62 @@ pub fn files_are_created()
     one_event_more();
 }
 
-/// Each lawful history is sound, in the words of its lines: it is safe; in a whole one the line behind each verdict on
-/// a delivered message is the drive's reply; what a drive performs is the server's, or was issued to the client whose
-/// command it is; no byte of a component is inside the capabilities of two live grants of which one is for writing;
-/// each layout that the server sends a client is of a grant of this client that is live then, or repeats what it was
-/// sent; the components of a file stand on different drives, to which its CREATEs went, and those of a zoned file are
-/// spread over zones. As far as nothing is forged,
-/// injected bytes that are performed carry a capability that the server gave a client, or are its own; what is
-/// performed under the server's holder is its own, and each lane of an object its holder's; and a fence that is over
-/// lasts, and bars what was given before it. In a history of a scenario's text with few messages each performed command
-/// that isn't the server's is for a component under a grant of a client, which the book had live as the answer was
-/// first sent; as far as nothing is forged, the object of each present component has its file's tag, or the next one
-/// while a fence is open; no call ends since its layout can't be used or since a command lies outside its capability,
-/// none is refused since its client has no sequence number left, and the server's counters have room. Each call ends as
-/// what it met says: the answers and replies that it took, and timeouts, or is left pending at the end of its event; and a
-/// read is answered by what was read of drives in its call. One that is left pending waits for the answer to an older
-/// request, or its server is down. In a whole history each new request is answered in its step by
-/// the first row that applies to its file's book, any other answer repeats the last one or says that its request is
-/// misordered, and nothing else makes a grant live or ends one but a fence. There a file's tag changes exactly with the
-/// note that a fence of it is over, its components as notes and declarations say, and what its job awaits was sent and
-/// isn't answered. A crash of the server bars each file that had a grant or a fence, until a fence of it is over, and no
-/// grant and no object number comes twice. Each call that is ready ends in ok if its event is over, within its bound of
-/// messages, and as long as few drives fail no stripe is beyond its code. A history that is cut at the limit of kept bytes goes on being of a text.
+/// In a lawful history of a scenario's text with few messages, each read that is ready where its event begins, if the
+/// event is over and calm and each write that was started before it was acknowledged, gives the bytes that these
+/// writes leave in order.
+pub fn ready_reads_are_plain()
+    ensures { ReadyReadsArePlain }
+{
+    histories_are_lawful();
+    headline_holds();
+    ready_calls_end_in_ok();
+    fronts_are_lawful();
+    plain();
+    range_found();
+    messages_are_read();
+    awaited_are_taken();
+    files_have_shape();
+    components_stand_apart();
+    each_object_is_owned();
+    grants_are_in_order();
+    keys_are_known();
+    no_tag_is_ahead();
+    no_tag_is_behind();
+    nothing_due_rests();
+    sizes_agree();
+    clear_commands_are_carried_out();
+    events_stand_apart();
+    lost_are_listed();
+    room_stays();
+    scenes_are_read();
+}
+
+/// Each lawful history is sound, in the words of its lines: it is safe; in a whole one the line behind each verdict
+/// on a delivered message is the drive's reply; what a drive performs is the server's, or was issued to the client
+/// whose command it is; no byte of a component is inside the capabilities of two live grants of which one is for
+/// writing; each layout that the server sends a client is of a grant of this client that is live then, or repeats
+/// what it was sent; the components of a file stand on different drives, to which its CREATEs went, and those of a
+/// zoned file are spread over zones. As far as nothing is forged, injected bytes that are performed carry a
+/// capability that the server gave a client, or are its own; what is performed under the server's holder is its own,
+/// and each lane of an object its holder's; and a fence that is over lasts, and bars what was given before it. In a
+/// history of a scenario's text with few messages each performed command that isn't the server's is for a component
+/// under a grant of a client, which the book had live as the answer was first sent; as far as nothing is forged, the
+/// object of each present component has its file's tag, or the next one while a fence is open; no call ends since its
+/// layout can't be used or since a command lies outside its capability, none is refused since its client has no
+/// sequence number left, and the server's counters have room. Each call ends as what it met says: the answers and
+/// replies that it took, and timeouts, or is left pending at the end of its event; and a read is answered by what was
+/// read of drives in its call. One that is left pending waits for the answer to an older request, or its server is
+/// down. In a whole history each new request is answered in its step by the first row that applies to its file's
+/// book, any other answer repeats the last one or says that its request is misordered, and nothing else makes a grant
+/// live or ends one but a fence. There a file's tag changes exactly with the note that a fence of it is over, its
+/// components as notes and declarations say, and what its job awaits was sent and isn't answered. A crash of the
+/// server bars each file that had a grant or a fence, until a fence of it is over, and no grant and no object number
+/// comes twice. Each call that is ready ends in ok if its event is over, within its bound of messages; a ready read
+/// whose event is calm gives what the writes before it leave in order, if each of these was acknowledged; and as long
+/// as few drives fail no stripe is beyond its code. Up to each place up to which such a history is calm and
+/// unguessed, each answered read gave what was acknowledged before it, each stripe that isn't disturbed is whole, and
+/// no audit found a bad one; and right behind a repair that left none short none that it counted is disturbed. A
+/// history that is cut at the limit of kept bytes goes on being of a text.
 pub fn histories_are_sound()
     ensures { HistoriesAreSound }
 {
@@ -122,5 +163,9 @@ pub fn histories_are_sound()
     pending_calls_are_unanswered();
     losses_are_borne();
     ready_calls_end_in_ok();
+    ready_reads_are_plain();
+    headline_holds();
+    audits_find_none();
+    repairs_leave_none();
     within_the_limit_are_few();
 }

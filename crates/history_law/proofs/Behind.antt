@@ -1,6 +1,6 @@
 -- Behind a note no step begins in the lines of its move: a move tells at most the line with which its step begins, and
 -- then what the party tells and sends.
-use Rattle.std.proofs.Common.{◌≡◌, ℕ, ◌+◌, true, false, List, [], ◌∷◌, ◌++◌, length, Option, refl, sym, ap, subst, ◌∙◌, inl, inr}
+use Rattle.std.proofs.Common.{◌≡◌, ℕ, ◌+◌, true, false, List, [], ◌∷◌, ◌++◌, Option, refl, sym, ap, subst, ◌∙◌, inl, inr}
 use Rattle.std.proofs.lemmas.Bool.{false≢true}
 use Rattle.osd_lists.proofs.Slices.{head_same, tail_same}
 use Rattle.server_rules.specs.Laws.{In}

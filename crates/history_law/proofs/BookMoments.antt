@@ -19,6 +19,7 @@ use Rattle.history_law.proofs.Moments.{no_event}
 use Rattle.history_law.proofs.Histories.{stands, kept_part}
 use Rattle.history_law.specs.BookMoments.{IsMoment, lines_so_far, lines_in}
 use Rattle.history_law.specs.Doing.{did_in}
+use Rattle.history_law.specs.Placed.{IsReadable}
 use Rattle.history_law.specs.Read.{AreWritten, BookIsRead, FilesAreRead, ReadsAs, StepIsRead}
 use Rattle.history_law.proofs.Staying.{written_front}
 use Rattle.history_law.proofs.Following.{IsServerRead, IsFollowed, followed, is_new, rule_read, opens_read}
@@ -42,6 +43,10 @@ module _ (on : ServerGoesOn) (all : AllLinesGoOn) where
       subst (λ (v : World). IsFollowed v h) (sym k.world_is)
       (subst (IsFollowed (world_after k.before k.moves)) (sym k.lines_are)
       (at_moves k.before k.history k.event k.moves k.stands k.allowed k.are_due))
+
+  -- what the server sends can be told and read, at each moment
+  pub server_is_readable : (w : World) (h : List Line) → IsMoment w h → AreWritten h → IsReadable w.server
+  server_is_readable w h k written = ((at_moment w h k).server written).readable
 
   pub book_is_read : BookIsRead
   book_is_read w h k written = ((at_moment w h k).server written).seen

@@ -1,9 +1,7 @@
 -- The check value of each command has its length.
-use Rattle.std.proofs.Common.{◌≡◌, ℕ, ◌-◌, Bool, true, false, cond, List, length, drop, replicate, refl, ◌∙◌, arith, eqb}
+use Rattle.std.proofs.Common.{◌≡◌, ℕ, ◌-◌, Bool, true, false, cond, List, length, drop, replicate, ◌∙◌, arith, eqb}
 use Rattle.std.proofs.lemmas.List.{drop_at, drop_all, length-append, length-replicate}
-use Rattle.sha1.specs.Sha1.{sha1, digest_bytes as sha1_bytes}
-use Rattle.sha2.specs.Sha256.{sha256, digest_bytes as sha256_bytes}
-use Rattle.hmac_tags.specs.Mac.{hmac, hmac_sha1, hmac_sha256}
+use Rattle.hmac_tags.specs.Mac.{hmac_sha1, hmac_sha256}
 use Rattle.hmac_tags.proofs.Lengths.{long_sha1, long_sha256}
 use Rattle.osd_capability.specs.declared.keys.CapKey.{CapKey}
 use Rattle.osd_capability.specs.declared.keys.CapKey.TheVariants.{One, Two}

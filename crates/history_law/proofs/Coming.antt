@@ -159,11 +159,11 @@ none_fair n m is = absurd (cc is)
 abbrev keys_of : Option DriveAt → Option (List DriveKey)
 keys_of o = option_map (λ (a : DriveAt). a.state.keys) o
 
-verdict_keys : (a : DriveAt) (c : Command) (v : Verdict) → (state_by v a.state c).keys ≡ a.state.keys
+pub verdict_keys : (a : DriveAt) (c : Command) (v : Verdict) → (state_by v a.state c).keys ≡ a.state.keys
 verdict_keys a c verdict.Perform = refl
 verdict_keys a c v = refl
 
-judged_keys : (a : DriveAt) (r : Result Command CommandErr) → (judges a r).drive.state.keys ≡ a.state.keys
+pub judged_keys : (a : DriveAt) (r : Result Command CommandErr) → (judges a r).drive.state.keys ≡ a.state.keys
 unfolding judges
 judged_keys a (Ok c) = verdict_keys a c (first_fault a.state a.clock c)
 judged_keys a (Err e) = refl
@@ -352,7 +352,8 @@ module _ (lines : List Line) (d : ℕ) (bytes : List ℕ) where
         bytes_are = w.bytes_are ∙ sym injected_is;
       }
 
-comes_delivered : (before : List Line) (n : ℕ) → IsDelivered before n (delivery.Judged told.Perform) → AreFair (sent_in before) → (m : Sent)
+comes_delivered : (before : List Line) (n : ℕ) → IsDelivered before n (delivery.Judged told.Perform) → AreFair (sent_in before)
+    → (m : Sent)
     → slice_get (sent_in before) n ≡ Some m → IsServerOrClient m.from
 comes_delivered before n p fair m found =
     let same : m ≡ p.message = some_same m p.message (sym found ∙ p.sent) in

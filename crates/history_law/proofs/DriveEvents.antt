@@ -172,7 +172,8 @@ not_deaf false true is = absurd (cc is)
 not_deaf false false is = refl
 
 injected_told : (w : World) (k : ℕ) (bytes : List ℕ) (h before : List Line) (o : Option DriveAt)
-    → before ≡ h ++ line.Event (event.Inject k bytes) ∷ [] → AreRead w bytes before → at_number w.drives k ≡ o → unless_deaf (at_number w.drives k) ≡ None
+    → before ≡ h ++ line.Event (event.Inject k bytes) ∷ [] → AreRead w bytes before → at_number w.drives k ≡ o
+    → unless_deaf (at_number w.drives k) ≡ None
     → IsTold before (injects_at w k bytes o)
 injected_told w k bytes h before None is r none allowed = quiet_told w bytes before _ r (nothing w)
 injected_told w k bytes h before (Some a) is r there allowed =

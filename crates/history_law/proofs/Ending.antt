@@ -55,18 +55,18 @@ next_moment w h k m d =
 
 -- ---- at each moment
 
-at_moves : (v : World) (h : List Line) (e : Event) (ms : List Move) → StandsFor v h → refusal v e ≡ None
+pub at_moves : (v : World) (h : List Line) (e : Event) (ms : List Move) → StandsFor v h → refusal v e ≡ None
     → AreDue (plan_of v e) v ms → Holds (world_after v ms) (h ++ lines_so_far v e ms)
 at_moves v h e [] s allowed d = subst (Holds v) (sym (append-nil h)) (stands Holds holds v h s)
 at_moves v h e (m ∷ ms) s allowed d = kept_part Holds holds v h e m ms d allowed (stands Holds holds v h s)
 
-at_moment : (w : World) (h : List Line) → IsMoment w h → Holds w h
+pub at_moment : (w : World) (h : List Line) → IsMoment w h → Holds w h
 at_moment w h k =
     subst (λ (v : World). Holds v h) (sym k.world_is)
     (subst (Holds (world_after k.before k.moves)) (sym k.lines_are)
     (at_moves k.before k.history k.event k.moves k.stands k.allowed k.are_due))
 
-own_each : (first lines : List Line)
+pub own_each : (first lines : List Line)
     → ((before : List Line) (l : Line) (after : List Line) → first ++ lines ≡ before ++ l ∷ after → OwnAt before l)
     → EachBehind OwnAt first lines
 own_each first [] own = tt
@@ -103,9 +103,10 @@ fences_end w h k m d own n tag i =
 
 -- ---- from then on
 
-fits_reached : (h : List Line) (drive object tag : ℕ) (o : Bool) → object < 2 ^ 64 → tag < 2 ^ 32
+-- what was reached, as far as the numbers fit their places
+pub fits_reached : (object tag : ℕ) (o : Bool) → object < 2 ^ 64 → tag < 2 ^ 32
     → (not (is_spellable object tag) || o) ≡ true → o ≡ true
-fits_reached h drive object tag o object_fits tag_fits e =
+fits_reached object tag o object_fits tag_fits e =
     sym (ap (λ (b : Bool). not b || o) (both (nat_lt object (2 ^ 64)) (nat_lt tag (2 ^ 32))
     (less object (2 ^ 64) object_fits) (less tag (2 ^ 32) tag_fits))) ∙ e
   where
@@ -124,6 +125,6 @@ reached_refuses h l first middle after m is drive object tag object_fits tag_fit
           let s : Spends h = all_spend h (each_front HoldsAt [] h further.1 further.2.lines) in
           absurd (s.refuses (first ++ middle) m drive bytes c j read
           (s.stays first middle (m ∷ after) is drive c
-          (reached_spent _ object tag c (fits_reached first drive object tag _ object_fits tag_fits reached) own less)))
+          (reached_spent _ object tag c (fits_reached object tag _ object_fits tag_fits reached) own less)))
       | inr from ↦ from
     ]

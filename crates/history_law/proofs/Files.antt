@@ -1,5 +1,5 @@
 -- The files of a server behind a step, one by one.
-use Rattle.std.proofs.Common.{◌≡◌, ◌⊎◌, ◌==◌, ℕ, Bool, true, false, nat_lt, List, [], ◌∷◌, Some, map, inl, inr, refl, sym, subst, ◌∙◌, if◌then◌else◌}
+use Rattle.std.proofs.Common.{◌≡◌, ◌==◌, ℕ, Bool, true, false, List, [], ◌∷◌, Some, map, inl, inr, refl, sym, subst, ◌∙◌, if◌then◌else◌}
 use Rattle.std.proofs.lemmas.Bool.{cases_eq, eq-eqb, ne_eqb}
 use Rattle.server_rules.specs.Files.{Step, begins, file_at, put_file, add_file, at_file}
 use Rattle.server_rules.specs.Going.{Going}
@@ -17,6 +17,7 @@ use Rattle.world_history.specs.ServerNames.{Server, File, Drive, Effects, Order,
 use Rattle.history_law.specs.Steps.{answered_file, new_file, with_added, with_zoned, with_answer, StepCases}
 use Rattle.history_law.specs.Files.{GoesAt, AllGo, FilesGo, Quiet, Asked, FileCases}
 use Rattle.history_law.proofs.Steps.{each_step}
+use Rattle.history_law.proofs.JobFiles.{in_add, in_put}
 
 -- ---- places in the list
 
@@ -38,31 +39,6 @@ in_at (g ∷ fs) n f e = either (g.kept.number == n) e (in_at fs n f)
         → In f (g ∷ fs)
     either true is rest = let same : g ≡ f = cc is in inl (sym same)
     either false is rest = inr (rest is)
-
-pub in_put : (fs : List File) (n : ℕ) (g x : File) → In x (put_file fs n g) → (x ≡ g) ⊎ In x fs
-unfolding put_file
-in_put [] n g x i = absurd i
-in_put (f ∷ fs) n g x i = either (f.kept.number == n) i (in_put fs n g x)
-  where
-    either : (b : Bool) → In x (if b then g ∷ fs else f ∷ put_file fs n g)
-        → (In x (put_file fs n g) → (x ≡ g) ⊎ In x fs) → (x ≡ g) ⊎ In x (f ∷ fs)
-    either true (inl e) rest = inl e
-    either true (inr i) rest = inr (inr i)
-    either false (inl e) rest = inr (inl e)
-    either false (inr i) rest = elim (rest i) [ inl e ↦ inl e | inr j ↦ inr (inr j) ]
-
-pub in_add : (fs : List File) (g x : File) → In x (add_file fs g) → (x ≡ g) ⊎ In x fs
-unfolding add_file
-in_add [] g x (inl e) = inl e
-in_add [] g x (inr i) = absurd i
-in_add (f ∷ fs) g x i = either (nat_lt f.kept.number g.kept.number) i (in_add fs g x)
-  where
-    either : (b : Bool) → In x (if b then f ∷ add_file fs g else g ∷ f ∷ fs)
-        → (In x (add_file fs g) → (x ≡ g) ⊎ In x fs) → (x ≡ g) ⊎ In x (f ∷ fs)
-    either true (inl e) rest = inr (inl e)
-    either true (inr i) rest = elim (rest i) [ inl e ↦ inl e | inr j ↦ inr (inr j) ]
-    either false (inl e) rest = inl e
-    either false (inr i) rest = inr i
 
 -- ---- what is so of each file
 

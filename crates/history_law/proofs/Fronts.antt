@@ -87,7 +87,7 @@ body_leaves i start n x e =
     (sym (padding_ok i.at (first_nonzero i.left (start + n) (start + padded n))
     (slice_range i.left start (start + n), behind (start + padded n) i) x g.1))
 
-length_opaque : (b : List ℕ) → length (opaque_item b) ≡ 4 + padded (length b)
+pub length_opaque : (b : List ℕ) → length (opaque_item b) ≡ 4 + padded (length b)
 unfolding opaque_item u32_item fixed_item
 length_opaque b =
     let fill = length-replicate {A = ℕ} (padded (length b) - length b) 0 in

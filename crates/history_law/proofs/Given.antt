@@ -84,11 +84,11 @@ GivenIn (results.LayoutGet (get.Granted ok)) given =
 GivenIn r given = ⊥
 
 -- nothing is read in no bytes
-bool_needs : (i : Rest) (x : Bool × Rest) → bool_in i ≡ Ok x → i.left ≡ [] → ⊥
+pub bool_needs : (i : Rest) (x : Bool × Rest) → bool_in i ≡ Ok x → i.left ≡ [] → ⊥
 unfolding bool_in
 bool_needs i x e none = let b = bind_ok _ _ x e in number_needs i b.0 b.1 none
 
-none_left : (i : Rest) (x : LayoutGetOk × Rest) → get_ok_in i ≡ Ok x → i.left ≡ [] → ⊥
+pub none_left : (i : Rest) (x : LayoutGetOk × Rest) → get_ok_in i ≡ Ok x → i.left ≡ [] → ⊥
 unfolding get_ok_in bool_field bool_part
 none_left i x e none =
     let b = bind_ok _ _ x e in
@@ -172,7 +172,7 @@ GivenBy (envelope.Answer a) given = GivenIn a.results given
 GivenBy e given = ⊥
 
 -- no other message is read as an answer
-other_kind : {V : Type 0} (read : Rest → Result (V × Rest) OpErr) (name : V → Envelope) (i : Rest) (a : Answer)
+pub other_kind : {V : Type 0} (read : Rest → Result (V × Rest) OpErr) (name : V → Envelope) (i : Rest) (a : Answer)
     (j : Rest) → ((v : V) → name v ≡ envelope.Answer a → ⊥)
     → (read i >>= named name) ≡ Ok (envelope.Answer a, j) → ⊥
 other_kind read name i a j not e =

@@ -37,6 +37,7 @@ use Rattle.world_history.specs.Handed.{for_server}
 use Rattle.world_history.specs.Reading.{sent_in}
 use Rattle.world_history.specs.ReadDrives.{drive_after}
 use Rattle.world_history.specs.Laws.{shown}
+use Rattle.world_history.proofs.Parties.{party_server, party_drive}
 use Rattle.history_law.specs.Judging.{Replies}
 use Rattle.history_law.proofs.Each.{EachBehind, HoldsAt, each_front}
 use Rattle.history_law.proofs.DriveLines.{sent_read, shown_get}
@@ -55,21 +56,8 @@ use Rattle.history_law.proofs.Telling.{counts, reply_nonce_is, verdict_low, Lane
 
 -- ---- parties and messages
 
-party_server : (n : Node) → party_of n ≡ party.Server → n ≡ node.Server
-party_server node.Server e = refl
-party_server (node.Drive d) e = absurd (cc e)
-party_server (node.Client c) e = absurd (cc e)
-
-party_drive : (n : Node) (d : ℕ) → party_of n ≡ party.Drive d → n ≡ node.Drive d
-party_drive node.Server d e = absurd (cc e)
-party_drive (node.Drive k) d e = ap (λ (n : ℕ). node.Drive n) (same e)
-  where
-    same : party.Drive k ≡ party.Drive d → k ≡ d
-    same x = cc x
-party_drive (node.Client c) d e = absurd (cc e)
-
 -- where a letter is read, the message stands in the world
-letter_message : (ms : List Posted) (x : Sent) → In x (letters (map shown ms)) → (q : Posted) × In q ms
+pub letter_message : (ms : List Posted) (x : Sent) → In x (letters (map shown ms)) → (q : Posted) × In q ms
     × (x ≡ letter (shown q))
 letter_message ms x i =
     let s = in_mapped letter x (map shown ms) i in
@@ -83,7 +71,7 @@ pub record IsCommand (w : World) (d : ℕ) (bytes : List ℕ) : Type 0 where
   pub low : command.nonce < w.server.next_nonce
   pub bytes_are : bytes ≡ spelling command
 
-its_command : (w : World) (n : Numbers w) (d : ℕ) (bytes : List ℕ) (m : Message) → In m (messages_in w)
+pub its_command : (w : World) (n : Numbers w) (d : ℕ) (bytes : List ℕ) (m : Message) → In m (messages_in w)
     → m ≡ to_drive d m.body → bytes ≡ spelled m.body → IsCommand w d bytes
 its_command w n d bytes m i is spells =
     let there : In (to_drive d m.body) (messages_in w) = subst (λ (x : Message). In x (messages_in w)) is i in
@@ -95,7 +83,7 @@ its_command w n d bytes m i is spells =
       bytes_are = spells ∙ ap spelled c.1;
     }
 
-world_command : (w : World) (h : List Line) → IsRead w h → Numbers w → (d : ℕ) (bytes : List ℕ) → SentTo h d bytes
+pub world_command : (w : World) (h : List Line) → IsRead w h → Numbers w → (d : ℕ) (bytes : List ℕ) → SentTo h d bytes
     → IsCommand w d bytes
 world_command w h r n d bytes s =
     let q = letter_message w.network.messages s.message
@@ -128,7 +116,7 @@ pub record IsIt (d : ℕ) (a : Awaited) (c : Command) : Type 0 where
   pub tag : a.command.capability.tag < 2 ^ 32 → c.capability.tag ≡ a.command.capability.tag
   pub holder : a.command.capability.holder < 2 ^ 32 → c.capability.holder ≡ a.command.capability.holder
 
-read_nonce : (w : World) (d : ℕ) (bytes : List ℕ) (k : IsCommand w d bytes) (c : Command) → counters_have_room w.server ≡ true
+pub read_nonce : (w : World) (d : ℕ) (bytes : List ℕ) (k : IsCommand w d bytes) (c : Command) → counters_have_room w.server ≡ true
     → reading bytes ≡ Ok c → (c.nonce ≡ k.command.nonce) × (c.nonce < 2 ^ 64)
 read_nonce w d bytes k c low read =
     let below : k.command.nonce < 2 ^ 64 = omega (arith, low_nonce w low, k.low) in
@@ -226,14 +214,14 @@ module _ (w : World) (h : List Line) (r : IsRead w h) (n : Numbers w) (own : Eac
 
 -- ---- what is heard
 
-replied : (o : Result Reply CommandErr) (x : Reply) → by_reply o ≡ Some (RepliesTo x) → o ≡ Ok x
+pub replied : (o : Result Reply CommandErr) (x : Reply) → by_reply o ≡ Some (RepliesTo x) → o ≡ Ok x
 replied (Ok y) x e = ap (λ (z : Reply). Ok z) (same e)
   where
     same : Some (RepliesTo y) ≡ Some (RepliesTo x) → y ≡ x
     same f = cc f
 replied (Err f) x e = absurd (cc e)
 
-read_reply : (n : Node) (d : ℕ) (bytes : List ℕ) (x : Reply) → n ≡ node.Drive d
+pub read_reply : (n : Node) (d : ℕ) (bytes : List ℕ) (x : Reply) → n ≡ node.Drive d
     → message_in n bytes ≡ Some (RepliesTo x)
     → replies.reading bytes ≡ Ok x
 unfolding message_in

@@ -1,6 +1,6 @@
 -- Each step of the server is the same where a placer names the drives of the CREATEs that it sends.
 use Rattle.std.specs.List.{list_any}
-use Rattle.std.proofs.Common.{◌≡◌, ℕ, ◌==◌, ◌<◌, ◌∷◌, [], List, ◌++◌, Bool, true, false, ◌&&◌, ◌||◌, nat_eq, nat_le, Option, Some, None, is_some, find, refl, sym, ap, ◌∙◌, append_assoc, if◌then◌else◌}
+use Rattle.std.proofs.Common.{◌≡◌, ℕ, ◌==◌, ◌<◌, ◌∷◌, [], List, ◌++◌, Bool, true, false, ◌&&◌, ◌||◌, nat_eq, nat_le, Option, Some, None, is_some, find, refl, sym, ap, subst, ◌∙◌, append_assoc, if◌then◌else◌}
 use Rattle.std.proofs.lemmas.List.{append-nil}
 use Rattle.std.proofs.lemmas.Grind.{flat_map-append}
 use Rattle.osd_lists.specs.declared.node.Node.{Node}
@@ -8,24 +8,24 @@ use Rattle.osd_lists.specs.declared.node.Node.TheVariants as node
 use Rattle.osd_capability.specs.Layout.{is_format}
 use Rattle.scenario_text.specs.declared.names.TheConstants.{DRIVES}
 use Rattle.server_rules.specs.declared.limits.TheConstants.{MAX_CLIENT, GREATEST_TAG}
-use Rattle.world_history.specs.ServerNames.{Server, File, Drive, Awaited, Effects, Job, JobKind, Revoking, Rebuilding, Auditing, ClientRequest, Reply, OrderResult, IsSpent, HasStarted, OrderKind, ToRecall, ToRevoke, ToDeclare, ToRebuild, ToAudit, Busy, Spent, Answers, AnswersOrder}
+use Rattle.world_history.specs.ServerNames.{Server, Kept, File, Drive, Awaited, Effects, Job, JobKind, Revoking, Rebuilding, Auditing, ClientRequest, Reply, OrderResult, IsSpent, HasStarted, OrderKind, ToRecall, ToRevoke, ToDeclare, ToRebuild, ToAudit, Busy, Spent, Answers, AnswersOrder}
 use Rattle.server_rules.specs.Going.{Going, noting}
 use Rattle.server_rules.specs.Get.{lowest}
 use Rattle.server_rules.specs.Replies.{on_reply}
 use Rattle.server_rules.specs.Served.{Served}
 use Rattle.server_rules.specs.Slots.{Admit, New, Again, Misordered, slot_of, admit}
 use Rattle.server_rules.specs.Jobs.{fence_begins, declares}
-use Rattle.server_rules.specs.Files.{Step, still, begins, file_at, at_file, step_at, to_drives}
+use Rattle.server_rules.specs.Files.{Step, still, begins, file_at, put_file, at_file, step_at, to_drives}
 use Rattle.server_rules.specs.Rounds.{Round, then_files, step_round}
 use Rattle.server_rules.specs.Requests.{carried_out, carries_out, by_admit, on_request}
 use Rattle.server_rules.specs.Messages.{heard_at, or_else, by_heard, on_drive_reply, Message, Asks, Replies, Orders, handled, on_message, counters_have_room}
 use Rattle.server_rules.specs.Orders.{Ordered, begins_job, starts, recalls_on, offline, declares_each, with_offline, declare, declares_known, ordered, with_result}
 use Rattle.history_law.specs.Placed.{AreNamed, HaveFormats, IsReadable, placed_by}
 use Rattle.history_law.proofs.Creating.{place}
-use Rattle.history_law.proofs.Placing.{choosing, Fit, placed_of, Placed, placed_here}
+use Rattle.history_law.proofs.Placing.{Given, given, choosing, Fit, placed_of, Placed, placed_here}
 use Rattle.history_law.proofs.BookGoing.{fence_placed, declares_placed}
-use Rattle.history_law.proofs.Served.{ends_placed, HeardAs, reply_placed, Serves, request_serves}
-use Rattle.history_law.proofs.Stepping.{IsPlaced, placed_always, placed_either, placed_sent, placed_more, recalls_to_others, format_at, formats_put, step_placed}
+use Rattle.history_law.proofs.Served.{ends_placed, HearsAlike, HeardAs, reply_placed, Serves, request_serves}
+use Rattle.history_law.proofs.Stepping.{all_kept, IsPlaced, placed_always, placed_either, kept_alike, put_alike, placed_sent, placed_more, recalls_to_others, format_at, formats_put, step_placed}
 
 -- ---- a request
 
@@ -39,6 +39,8 @@ served_placed s q v f r e = record {
       ∙ placed_sent s.drives v.going.effects.sent n ∙ ap (placed_of s.drives) e.sends
       ∙ sym (append-nil (placed_of s.drives e.more)))
       ∙ ap (carried_out s q) (e.same []);
+  keeps = λ x n y at. kept_alike _ _ n (put_alike s.files q.file (f x).going.file v.going.file (e.alike x).kept);
+  mends = λ x. ap (λ (m : Effects). m.mended) (e.alike x).effects;
   readable = record {
     drives = r.drives;
     format = r.format;
@@ -70,16 +72,26 @@ request_placed s now chosen q r = admit_placed s now chosen q (admit (slot_of s.
 
 -- ---- a reply
 
+first_alike : (o p : Option Going) (h : Going) → HearsAlike o h → HearsAlike (or_else o p) h
+first_alike None p h s = absurd s
+first_alike (Some g) p h s = s
+
 either_heard : (ds : List Drive) (o p : Option Going) (f k : List ℕ → Option Going) → HeardAs ds [] o f
     → HeardAs ds [] p k
     → HeardAs ds [] (or_else o p) (λ x. or_else (f x) (k x))
 either_heard ds None None f k h i = λ x. ap (λ (y : Option Going). or_else y (k x)) (h x) ∙ i x
 either_heard ds None (Some g) f k h i =
-    let x = placed_of ds i.0 in
-    (i.0, i.1, i.2, ap (λ (y : Option Going). or_else y (k x)) (h x) ∙ i.3, i.4)
+    let x = placed_of ds i.0 in (
+      i.0,
+      i.1,
+      i.2,
+      ap (λ (y : Option Going). or_else y (k x)) (h x) ∙ i.3,
+      i.4,
+      λ z. subst (λ (y : Option Going). HearsAlike (or_else y (k z)) g) (sym (h z)) (i.5 z),
+    )
 either_heard ds (Some g) p f k h i =
     let x = placed_of ds h.0 in
-    (h.0, h.1, h.2, ap (λ (y : Option Going). or_else y (k x)) h.3, h.4)
+    (h.0, h.1, h.2, ap (λ (y : Option Going). or_else y (k x)) h.3, h.4, λ z. first_alike (f z) (k z) g (h.5 z))
 
 heard_placed : (s : Server) (chosen : List ℕ) (drive : ℕ) (m : Reply) (fs : List File) → AreNamed s.drives
     → HaveFormats fs
@@ -92,12 +104,32 @@ heard_placed s chosen drive m (f ∷ fs) a h =
     (reply_placed (at_file s chosen f) drive m (record { format = h.0; drives = a }))
     (heard_placed s chosen drive m fs a h.1)
 
+heard_alike : (s : Server) (o : Option Going) (h : Going) → HearsAlike o h
+    → all_kept (by_heard s o).state.files ≡ all_kept (by_heard s (Some h)).state.files
+heard_alike s None h a = absurd a
+heard_alike s (Some g) h a =
+    ap (λ (k : Kept). all_kept (put_file s.files k.number g.file)) a.kept
+    ∙ put_alike s.files h.file.kept.number g.file h.file a.kept
+
+heard_mends : (s : Server) (o : Option Going) (h : Going) → HearsAlike o h
+    → (by_heard s o).mended ≡ (by_heard s (Some h)).mended
+heard_mends s None h a = absurd a
+heard_mends s (Some g) h a = ap (λ (m : Effects). m.mended) a.effects
+
 by_heard_placed : (s : Server) (o : Option Going) (f : List ℕ → Option Going) → IsReadable s → HeardAs s.drives [] o f
     → IsPlaced s (by_heard s o) (λ x. by_heard s (f x))
-by_heard_placed s None f r h = record { same = λ n. ap (by_heard s) (h _); readable = r; knows = λ d. refl }
+by_heard_placed s None f r h = record {
+  same = λ n. ap (by_heard s) (h _);
+  keeps = λ x n y at. kept_alike _ _ n (ap (λ (o : Option Going). all_kept (by_heard s o).state.files) (h x));
+  mends = λ x. ap (λ (o : Option Going). (by_heard s o).mended) (h x);
+  readable = r;
+  knows = λ d. refl;
+}
 by_heard_placed s (Some g) f r h = record {
   same = λ n. ap (λ (ns : List ℕ). by_heard s (f ns))
       (placed_sent s.drives g.effects.sent n ∙ ap (placed_of s.drives) h.2) ∙ ap (by_heard s) h.3;
+  keeps = λ x n y at. kept_alike _ _ n (heard_alike s (f x) g (h.5 x));
+  mends = λ x. heard_mends s (f x) g (h.5 x);
   readable = record {
     drives = r.drives;
     format = r.format;
@@ -185,21 +217,31 @@ offline_known (x ∷ ds) drive d =
     either true = refl
     either false = refl
 
-record Goes (ds : List Drive) (sent : List Awaited) (r : Round) (f : List ℕ → Round) : Type 0 where
+record Goes (ds : List Drive) (sent : List Awaited) (r : Round) (f : Given → Round) : Type 0 where
   more : List Awaited
   sends : r.effects.sent ≡ sent ++ more
-  same : (rest : List ℕ) → f (placed_of ds more ++ rest) ≡ record r { chosen = rest }
+  same : (rest : List ℕ) → f (given sent (placed_of ds more ++ rest)) ≡ record r { chosen = rest }
+  alike : (x : Given) → all_kept (f x).files ≡ all_kept r.files
+  mends : (x : Given) → (f x).effects.mended ≡ r.effects.mended
   files : HaveFormats r.files
 
-goes_then : (ds : List Drive) (sent : List Awaited) (g : Going) (f : List ℕ → Going) (k : Effects → List ℕ → Round)
-    → Placed ds sent g f → Goes ds g.effects.sent (k g.effects g.chosen) (k g.effects)
+goes_then : (ds : List Drive) (sent : List Awaited) (g : Going) (f : Given → Going) (k : Effects → List ℕ → Round)
+    → Placed ds sent g f
+    → Goes ds g.effects.sent (k g.effects g.chosen) (λ x. k (record g.effects { sent = x.sent }) x.chosen)
     → Goes ds sent (then_files g (k g.effects g.chosen)) (λ x. then_files (f x) (k (f x).effects (f x).chosen))
 goes_then ds sent g f k p q = record {
   more = p.more ++ q.more;
   sends = q.sends ∙ ap (λ (cs : List Awaited). cs ++ q.more) p.sends ∙ append_assoc sent p.more q.more;
-  same = λ rest. ap (λ (ns : List ℕ). next (f (ns ++ rest))) (flat_map-append (place ds) p.more q.more)
-      ∙ ap (λ (ns : List ℕ). next (f ns)) (append_assoc (placed_of ds p.more) (placed_of ds q.more) rest)
+  same = λ rest. ap (λ (ns : List ℕ). next (f (given sent (ns ++ rest)))) (flat_map-append (place ds) p.more q.more)
+      ∙ ap (λ (ns : List ℕ). next (f (given sent ns))) (append_assoc (placed_of ds p.more) (placed_of ds q.more) rest)
       ∙ ap next (p.same (placed_of ds q.more ++ rest)) ∙ ap (then_files g) (q.same rest);
+  alike = λ x. ap (λ (y : Kept). y ∷ all_kept (k (f x).effects (f x).chosen).files) (p.alike x).kept
+      ∙ ap (λ (ks : List Kept). g.file.kept ∷ ks) (
+      ap (λ (m : Effects). all_kept (k (record m { sent = (f x).effects.sent }) (f x).chosen).files) (p.alike x).effects
+      ∙ q.alike (given (f x).effects.sent (f x).chosen)
+      );
+  mends = λ x. ap (λ (m : Effects). (k (record m { sent = (f x).effects.sent }) (f x).chosen).effects.mended) (p.alike x).effects
+      ∙ q.mends (given (f x).effects.sent (f x).chosen);
   files = (p.format, q.files);
 }
   where
@@ -208,10 +250,18 @@ goes_then ds sent g f k p q = record {
 
 each_placed : (drive : ℕ) (ds : List Drive) (fs : List File) (m : Effects) (chosen : List ℕ) → AreNamed ds
     → HaveFormats fs
-    → Goes ds m.sent (declares_each drive ds fs m chosen) (declares_each drive ds fs m)
+    → Goes ds m.sent (declares_each drive ds fs m chosen)
+    (λ x. declares_each drive ds fs (record m { sent = x.sent }) x.chosen)
 unfolding declares_each
 each_placed drive ds [] m chosen a h =
-    record { more = []; sends = sym (append-nil m.sent); same = λ rest. refl; files = tt }
+    record {
+      more = [];
+      sends = sym (append-nil m.sent);
+      same = λ rest. refl;
+      alike = λ x. refl;
+      mends = λ x. refl;
+      files = tt;
+    }
 each_placed drive ds (f ∷ fs) m chosen a h =
     let g0 : Going = record { file = f; effects = m; drives = ds; chosen = chosen } in
     let g = declares g0 drive in
@@ -229,6 +279,8 @@ declare_placed s chosen drive r =
       same = λ n. ap (λ (ns : List ℕ). step_round (with_offline s drive) (declares_each drive ds s.files (begins s) ns))
           (placed_sent ds _ n ∙ ap (placed_of ds) e.sends ∙ sym (append-nil (placed_of ds e.more)))
           ∙ ap (step_round (with_offline s drive)) (e.same []);
+      keeps = λ x n y at. kept_alike _ _ n (e.alike (given [] x));
+      mends = λ x. e.mends (given [] x);
       readable = record { drives = named; format = r.format; files = e.files };
       knows = offline_known s.drives drive;
     }
@@ -258,6 +310,8 @@ answered_placed s kind o f p results = record {
       (p.same n)
       ∙ ap (λ (r : OrderResult). with_result kind (record { step = o.step; result = r }))
       (results (placed_by n o.step.sends));
+  keeps = p.keeps;
+  mends = p.mends;
   readable = p.readable;
   knows = p.knows;
 }

@@ -64,7 +64,7 @@ pub again_row : (d : DriveState) (now : ℕ) (c : Command) → first_fault d now
 unfolding first_fault
 again_row d now c e = or_none _ (first_applies is_again (all_rows d now c) refl (ap is_again e))
 
-old_row : (d : DriveState) (now : ℕ) (c : Command) → first_fault d now c ≡ verdict.OldFormat
+pub old_row : (d : DriveState) (now : ℕ) (c : Command) → first_fault d now c ≡ verdict.OldFormat
     → nat_lt c.capability.format d.least ≡ true
 unfolding first_fault
 old_row d now c e = or_none _ (first_applies is_old (all_rows d now c) refl (ap is_old e))

@@ -1,13 +1,13 @@
--- Any step of the server, with the drives of the CREATEs that it sends.
+-- Any step of the server, with the drives of the CREATEs that it sends, and with any drives of a placer.
 use Rattle.std.specs.List.{list_any}
-use Rattle.std.proofs.Common.{◌≡◌, ◌==◌, ℕ, ◌<◌, ◌∷◌, [], List, Bool, true, false, ◌||◌, ◌⊎◌, inl, nat_eq, nat_lt, map, refl, sym, ap, ◌∙◌, arith, if◌then◌else◌}
+use Rattle.std.proofs.Common.{◌≡◌, ◌==◌, ℕ, ◌<◌, ◌∷◌, [], List, Bool, true, false, Some, ◌||◌, ◌⊎◌, inl, nat_eq, nat_lt, map, refl, sym, ap, ◌∙◌, arith, if◌then◌else◌}
 use Rattle.std.proofs.lemmas.Bool.Decides.{nat_tests}
 use Rattle.world_history.specs.Moves.{knows_drive}
 use Rattle.osd_capability.specs.Layout.{is_format}
 use Rattle.scenario_text.specs.declared.names.TheConstants.{DRIVES}
 use Rattle.world_history.specs.ServerNames.{Server, File, Drive, Effects, Revoking}
 use Rattle.server_rules.specs.declared.limits.TheConstants.{GREATEST_TAG}
-use Rattle.server_rules.specs.Files.{Step, still, begins}
+use Rattle.server_rules.specs.Files.{Step, still, begins, file_at}
 use Rattle.server_rules.specs.Going.{Going}
 use Rattle.server_rules.specs.Jobs.{fence_begins}
 use Rattle.server_rules.specs.Making.{add_drive}
@@ -17,10 +17,10 @@ use Rattle.server_rules.specs.Rounds.{step_round}
 use Rattle.server_rules.specs.Zoning.{zone_or, put_in_zone}
 use Rattle.server_rules.proofs.Zoned.{any_zoned}
 use Rattle.server_rules.specs.History.{Input, Hears, Makes, Obeys, Adds, Zones, Formats, Resends, Crashes, Opens, step}
-use Rattle.history_law.specs.Placed.{AreNamed, HaveFormats, IsReadable, PlacedIsChosen}
+use Rattle.history_law.specs.Placed.{AreNamed, HaveFormats, IsReadable, PlacedIsChosen, PlacerLeavesKept, PlacerLeavesRepairs}
 use Rattle.history_law.proofs.Placing.{Fit, greater_format}
 use Rattle.history_law.proofs.BookGoing.{fence_placed}
-use Rattle.history_law.proofs.Stepping.{IsPlaced, placed_always, placed_either}
+use Rattle.history_law.proofs.Stepping.{kept_of, IsPlaced, placed_always, placed_either}
 use Rattle.history_law.proofs.HistorySteps.{order_placed, message_placed}
 use Rattle.history_law.proofs.Made.{making_format, file_placed}
 
@@ -34,6 +34,26 @@ placed_is_chosen s chosen (Formats format) n r = refl
 placed_is_chosen s chosen Resends n r = refl
 placed_is_chosen s chosen Crashes n r = refl
 placed_is_chosen s chosen Opens n r = refl
+
+-- ---- what each input keeps of the files that were there
+
+same_kept : (s : Server) (chosen placed : List ℕ) (i : Input) (n : ℕ) (f : File) → IsReadable s
+    → file_at s.files n ≡ Some f
+    → kept_of (file_at (step s placed i).state.files n) ≡ kept_of (file_at (step s chosen i).state.files n)
+same_kept s chosen placed (Hears now from m) n f r at = (message_placed s now chosen from m r).keeps placed n f at
+same_kept s chosen placed (Makes file m tag zoned) n f r at =
+    (file_placed s file m tag zoned r chosen).keeps placed n f at
+same_kept s chosen placed (Obeys kind target) n f r at = (order_placed s chosen kind target r).keeps placed n f at
+same_kept s chosen placed (Adds d) n f r at = refl
+same_kept s chosen placed (Zones d zone) n f r at = refl
+same_kept s chosen placed (Formats format) n f r at = refl
+same_kept s chosen placed Resends n f r at = refl
+same_kept s chosen placed Crashes n f r at = refl
+same_kept s chosen placed Opens n f r at = refl
+
+pub placer_leaves_kept : PlacerLeavesKept
+placer_leaves_kept s chosen placed i n f g x r at is other =
+    cc (sym (ap kept_of other) ∙ same_kept s chosen placed i n f r at ∙ ap kept_of is)
 
 -- ---- what each input leaves can be told and read
 
@@ -154,3 +174,16 @@ knows_behind s chosen (Formats format) d r h e = inl e
 knows_behind s chosen Resends d r h e = inl e
 knows_behind s chosen Crashes d r h e = inl e
 knows_behind s chosen Opens d r h e = inl (sym ((opened_placed s r).knows d) ∙ e)
+
+-- ---- what repairs it ends
+
+pub placer_leaves_repairs : PlacerLeavesRepairs
+placer_leaves_repairs s chosen placed (Hears now from m) r = (message_placed s now chosen from m r).mends placed
+placer_leaves_repairs s chosen placed (Makes file m tag zoned) r = (file_placed s file m tag zoned r chosen).mends placed
+placer_leaves_repairs s chosen placed (Obeys kind target) r = (order_placed s chosen kind target r).mends placed
+placer_leaves_repairs s chosen placed (Adds d) r = refl
+placer_leaves_repairs s chosen placed (Zones d zone) r = refl
+placer_leaves_repairs s chosen placed (Formats format) r = refl
+placer_leaves_repairs s chosen placed Resends r = refl
+placer_leaves_repairs s chosen placed Crashes r = refl
+placer_leaves_repairs s chosen placed Opens r = refl

@@ -107,6 +107,18 @@ ended_silent c None o = tt
 ended_silent c (Some op) None = tt
 ended_silent c (Some op) (Some o) = end_silent c (known_outcome (kind_of op) o)
 
+-- what is taken as an answer is read as one
+pub answer_read : (bytes : List ℕ) (r : Result Envelope OpErr) (a : client_rules.Answer) → envelope_of bytes ≡ r
+    → by_envelope r ≡ Some (Answers a) → envelope_of bytes ≡ Ok (envelope.Answer a)
+answer_read bytes (Ok (envelope.Answer b)) a read e =
+    let same : b ≡ a = cc e in read ∙ ap (λ (x : client_rules.Answer). Ok (envelope.Answer x)) same
+answer_read bytes (Ok (envelope.Recall b)) a read e = absurd (cc e)
+answer_read bytes (Ok (envelope.Request b)) a read e = absurd (cc e)
+answer_read bytes (Ok (envelope.RecallAnswer b)) a read e = absurd (cc e)
+answer_read bytes (Ok (envelope.Order b)) a read e = absurd (cc e)
+answer_read bytes (Ok (envelope.OrderAnswer b)) a read e = absurd (cc e)
+answer_read bytes (Err x) a read e = absurd (cc e)
+
 module _ (ss : List Sent) where
   -- ---- what is sent
 
@@ -185,17 +197,6 @@ module _ (ss : List Sent) where
         client_did_known c a i (step a.state i) found (step_known (MaySend ss c) a.state i (k.clients c a found) known)
 
   -- an answer that is delivered was given
-  answer_read : (bytes : List ℕ) (r : Result Envelope OpErr) (a : client_rules.Answer) → envelope_of bytes ≡ r
-      → by_envelope r ≡ Some (Answers a) → envelope_of bytes ≡ Ok (envelope.Answer a)
-  answer_read bytes (Ok (envelope.Answer b)) a read e =
-      let same : b ≡ a = cc e in read ∙ ap (λ (x : client_rules.Answer). Ok (envelope.Answer x)) same
-  answer_read bytes (Ok (envelope.Recall b)) a read e = absurd (cc e)
-  answer_read bytes (Ok (envelope.Request b)) a read e = absurd (cc e)
-  answer_read bytes (Ok (envelope.RecallAnswer b)) a read e = absurd (cc e)
-  answer_read bytes (Ok (envelope.Order b)) a read e = absurd (cc e)
-  answer_read bytes (Ok (envelope.OrderAnswer b)) a read e = absurd (cc e)
-  answer_read bytes (Err x) a read e = absurd (cc e)
-
   lists_all : (bytes : List ℕ) (a : client_rules.Answer) (h : client_rules.Held) (t : IsTaken a h) (n : ℕ)
       (o : ObjectCred) → envelope_of bytes ≡ Ok (envelope.Answer a) → slice_get t.layout.olo_components n ≡ Some o
       → Lists bytes n o

@@ -2,9 +2,8 @@
 use Rattle.std.proofs.Common.{◌≡◌, ◌⊎◌, ℕ, zero, suc, ◌+◌, ◌≤◌, Bool, true, false, List, [], ◌∷◌, length, slice_get, Some, Ok, nat_eq, refl, sym, ap, subst, ◌∙◌, arith, inl, inr, if◌then◌else◌}
 use Rattle.std.specs.List.{flat_map}
 use Rattle.std.proofs.lemmas.List.Concat.{flat_map-cons}
-use Rattle.hmac_tags.specs.Mac.{hmac, hmac_sha1, hmac_sha256}
-use Rattle.sha1.specs.Sha1.{sha1, digest_bytes as sha1_bytes}
-use Rattle.sha2.specs.Sha256.{sha256, digest_bytes as sha256_bytes}
+use Rattle.hmac_tags.specs.Mac.{hmac_sha1, hmac_sha256}
+use Rattle.hmac_tags.proofs.Lengths.{long_sha1, long_sha256}
 use Rattle.xdr_codec.specs.Items.{u32_item, u64_item, fixed_item, opaque_item}
 use Rattle.xdr_codec.specs.Reading.{Rest}
 use Rattle.xdr_codec.proofs.ItemLaws.{bind_ok, ok_is}
@@ -85,14 +84,6 @@ cred_gets v short i more x at e =
     ))))))
 
 -- ---- a key is short
-
-long_sha1 : (key text : List ℕ) → length (hmac_sha1 key text) ≡ 20
-unfolding hmac sha1 sha1_bytes
-long_sha1 key text = refl
-
-long_sha256 : (key text : List ℕ) → length (hmac_sha256 key text) ≡ 32
-unfolding hmac sha256 sha256_bytes
-long_sha256 key text = refl
 
 short_key : (b : Bool) (key text : List ℕ)
     → length (key_bytes (if b then Two (hmac_sha256 key text) else One (hmac_sha1 key text))) ≤ 4096

@@ -1,5 +1,5 @@
 -- Members of lists, and commands that are numbered.
-use Rattle.std.proofs.Common.{◌≡◌, ◌⊎◌, ℕ, ◌+◌, ◌≤◌, ◌<◌, Bool, true, false, List, [], ◌∷◌, ◌++◌, length, map, filter, refl, sym, subst, ◌∙◌, arith, inl, inr, if◌then◌else◌}
+use Rattle.std.proofs.Common.{◌≡◌, ◌⊎◌, ℕ, ◌+◌, ◌≤◌, ◌<◌, Bool, true, false, List, [], ◌∷◌, ◌++◌, length, refl, sym, subst, ◌∙◌, arith, inl, inr, if◌then◌else◌}
 use Rattle.history_law.specs.Names.{Awaited}
 use Rattle.server_rules.specs.Laws.{In}
 use Rattle.history_law.specs.Numbered.{Numbered}

@@ -1,7 +1,7 @@
 -- A file is made on the drives that a placer named, which its CREATEs tell.
-use Rattle.std.proofs.Common.{◌≡◌, ℕ, ◌+◌, ◌==◌, ◌<◌, ◌∷◌, [], List, ◌++◌, Bool, true, false, ◌&&◌, not, Option, Some, None, is_some, find, map, take, length, zero, suc, refl, ap, subst, ◌∙◌, inl, inr, if◌then◌else◌}
+use Rattle.std.proofs.Common.{◌≡◌, ℕ, ◌+◌, ◌==◌, ◌<◌, ◌∷◌, [], List, ◌++◌, Bool, true, false, ◌&&◌, not, Option, Some, None, is_some, find, map, take, length, zero, suc, refl, sym, ap, subst, ◌∙◌, inl, inr, if◌then◌else◌}
 use Rattle.std.specs.List.{list_any}
-use Rattle.std.proofs.lemmas.Bool.{and_parts, cases_Bool, eqb-true}
+use Rattle.std.proofs.lemmas.Bool.{and_parts, cases_Bool, eqb-true, ne_eqb}
 use Rattle.osd_capability.specs.Layout.{is_format}
 use Rattle.scenario_text.specs.declared.names.TheConstants.{DRIVES}
 use Rattle.world_history.specs.ServerNames.{Server, Kept, File, Drive, Awaited, RawMap, Refusal, JobKind, Work, Making, Creates}
@@ -9,18 +9,20 @@ use Rattle.server_rules.specs.Numbers.{among}
 use Rattle.server_rules.specs.Commands.{Creating, All, is_meant, to_each, to_all}
 use Rattle.server_rules.specs.Going.{Going, rests_or}
 use Rattle.server_rules.specs.Jobs.{is_made, making}
-use Rattle.server_rules.specs.Files.{Step, still, at_file}
+use Rattle.server_rules.specs.Files.{Step, still, at_file, file_at}
 use Rattle.zone_place.specs.Zones.{ask_of}
 use Rattle.zone_place.proofs.Members.{are_there, spread_there}
 use Rattle.zone_place.proofs.Spreading.{spread_again}
 use Rattle.server_rules.specs.Zoning.{and_in_zone, in_zones}
 use Rattle.server_rules.specs.Making.{online, are_of, places, drives_for, components_on, unmade, with_file, makes_file, unless_refused, refusal, create_file}
 use Rattle.server_rules.specs.History.{unless_made}
+use Rattle.server_rules.proofs.FileLaws.{not_there, put_other, add_other}
+use Rattle.server_rules.proofs.Runs.{ran_making}
 use Rattle.history_law.specs.Placed.{AreNamed, IsReadable, placed_by}
 use Rattle.history_law.proofs.Creating.{place_create}
 use Rattle.history_law.proofs.Placing.{placed_of}
 use Rattle.history_law.proofs.Rebuilding.{found_named, named_part}
-use Rattle.history_law.proofs.Stepping.{IsPlaced, placed_always, placed_sent, formats_put, formats_add}
+use Rattle.history_law.proofs.Stepping.{kept_of, IsPlaced, placed_always, placed_sent, formats_put, formats_add}
 
 -- ---- the drives
 
@@ -167,15 +169,39 @@ module _ (s : Server) (number : ℕ) (m : RawMap) (tag : ℕ) (zoned : Bool) (r 
       ∙ ap (placed_of s.drives) (made_sent ns)
       ∙ creates_told s.drives (on ns).kept ns s.next_object 0 s.next_nonce r.format a
 
-  made_placed : (o : Option Refusal) (chosen : List ℕ)
+  -- each other file is as it was
+  made_beside : (ns : List ℕ) (n : ℕ) → (number ≡ n → ⊥) → file_at (makes_on ns).state.files n ≡ file_at s.files n
+  made_beside ns n other =
+      put_other _ number (making (at_file (with_file s (on ns)) [] (on ns))).file
+      (ran_making (at_file (with_file s (on ns)) [] (on ns))).number n (ne_eqb number n other)
+      ∙ add_other s.files (on ns) n (ne_eqb number n other)
+
+  -- no repair ends
+  made_none : (ns : List ℕ) → (makes_on ns).mended ≡ []
+  unfolding making
+  made_none ns =
+      let g : Going = at_file (with_file s (on ns)) [] (on ns) in
+      either g (to_all (on ns).kept All Creating s.next_nonce) refl
+    where
+      either : (g : Going) (cs : List Awaited) → g.effects.mended ≡ []
+          → (rests_or cs g Making Creates (is_made g)).effects.mended ≡ []
+      either g [] e = e
+      either g (c ∷ cs) e = e
+
+  made_placed : (o : Option Refusal) (chosen : List ℕ) → refusal s number m zoned ≡ o
       → IsPlaced s (unless_made s (unless_refused o (makes_on (drives_for zoned s.drives m chosen))))
       (λ x. unless_made s (unless_refused o (makes_on (drives_for zoned s.drives m x))))
-  made_placed (Some e) chosen = placed_always s (still s) r (λ d. refl)
-  made_placed None chosen =
+  made_placed (Some e) chosen is = placed_always s (still s) r (λ d. refl)
+  made_placed None chosen is =
       let ns = drives_for zoned s.drives m chosen in record {
         same = λ n. ap (λ (x : List ℕ). makes_on (drives_for zoned s.drives m x))
             (told_on ns (for_named zoned s.drives m chosen r.drives) n)
             ∙ ap makes_on (for_again zoned s.drives m chosen);
+        keeps = λ x n y at.
+            let other : number ≡ n → ⊥ = λ (e : number ≡ n). cc (sym (not_there s number m zoned is)
+            ∙ ap (file_at s.files) e ∙ at) in
+            ap kept_of (made_beside (drives_for zoned s.drives m x) n other ∙ sym (made_beside ns n other));
+        mends = λ x. made_none (drives_for zoned s.drives m x) ∙ sym (made_none ns);
         readable = record {
           drives = r.drives;
           format = r.format;
@@ -188,4 +214,4 @@ module _ (s : Server) (number : ℕ) (m : RawMap) (tag : ℕ) (zoned : Bool) (r 
       → IsPlaced s (unless_made s (create_file s number m tag zoned chosen))
       (λ x. unless_made s (create_file s number m tag zoned x))
   unfolding create_file
-  file_placed chosen = made_placed (refusal s number m zoned) chosen
+  file_placed chosen = made_placed (refusal s number m zoned) chosen refl

@@ -9,7 +9,7 @@ use Rattle.layout_types.specs.declared.err.LayoutErr.{LayoutErr}
 use Rattle.layout_types.specs.Grammar.{lifted, u32_part, u64_part, count_part, named, enum_part, whole}
 use Rattle.layout_types.proofs.Steps.{count_law}
 use Rattle.layout_ops.specs.declared.err.OpErr.{OpErr}
-use Rattle.layout_ops.specs.Grammar.{carried, u32_field, u64_field, opaque_field, bool_field}
+use Rattle.layout_ops.specs.Grammar.{carried, u32_field, u64_field, opaque_field}
 use Rattle.layout_ops.specs.Grammar as message
 use Rattle.layout_ops.proofs.Fields.{body_law, lifted_ok as message_ok}
 use Rattle.history_law.proofs.Fronts.{Gets, Any, codec_gets, number_32, number_64, count_in_gets, long_leaves, ended}

@@ -15,7 +15,7 @@ use Rattle.server_rules.specs.Rebuild.{or_first, picked, target_on, target_for, 
 use Rattle.server_rules.specs.Repair.{after_repair, mended, is_left, repair_reads, repairs, storing, stored, repair_begins}
 use Rattle.history_law.specs.Placed.{AreNamed}
 use Rattle.history_law.proofs.Creating.{place_create}
-use Rattle.history_law.proofs.Placing.{choosing, Fit, placed_of, Placed, placed_here, placed_rests, placed_or, none_beside, none_each, none_one}
+use Rattle.history_law.proofs.Placing.{Given, given, choosing, Fit, placed_of, Placed, placed_here, placed_rests, placed_or, none_beside, none_each, none_one}
 
 -- ---- an audit
 
@@ -90,7 +90,7 @@ target_of g b k free = if b then target_on g k (picked g.chosen free) else None
 makes_placed : (g : Going) (k : ℕ) (d : Drive) (ds : List Drive) → Fit g → AreNamed (d ∷ ds)
     → Placed g.drives g.effects.sent
     (makes g (record { component = k; drive = or_first g.chosen d ds; object = g.effects.object }))
-    (λ x. makes (choosing g x) (record { component = k; drive = or_first x d ds; object = g.effects.object }))
+    (λ x. makes (choosing g x) (record { component = k; drive = or_first x.chosen d ds; object = g.effects.object }))
 makes_placed g k d ds h named =
     let drive = or_first g.chosen d ds in
     let create = sent_to g.file.kept Creating k drive g.effects.object g.effects.nonce in
@@ -100,15 +100,16 @@ makes_placed g k d ds h named =
     record {
       more = create ∷ [];
       sends = refl;
-      same = λ rest. ap (λ (ns : List ℕ). makes (choosing g (ns ++ rest))
+      same = λ rest. ap (λ (ns : List ℕ). makes (choosing g (given g.effects.sent (ns ++ rest)))
           (record { component = k; drive = or_first (ns ++ rest) d ds; object = g.effects.object })) places
-          ∙ ap (λ (n : ℕ). makes (choosing g (drive ∷ rest))
+          ∙ ap (λ (n : ℕ). makes (choosing g (given g.effects.sent (drive ∷ rest)))
           (record { component = k; drive = n; object = g.effects.object }))
           (first_again g.chosen d ds rest);
+      alike = λ x. record { kept = refl; runs = refl; effects = refl };
       format = h.format;
     }
 
-made_or : (g : Going) (b : Bool) (k : ℕ) (free : List Drive) (later : Going) (f : List ℕ → Going) → Fit g
+made_or : (g : Going) (b : Bool) (k : ℕ) (free : List Drive) (later : Going) (f : Given → Going) → Fit g
     → AreNamed free
     → Placed g.drives g.effects.sent later f
     → Placed g.drives g.effects.sent (makes_or g (target_of g b k free) later)

@@ -108,7 +108,7 @@ object_part : (c : Command) → slice_range (spelling c) 16 24 ≡ to_be_bytes w
 unfolding spelling head fields
 object_part c = refl
 
-nonce_part : (c : Command) → slice_range (spelling c) 40 48 ≡ to_be_bytes w64 c.nonce
+pub nonce_part : (c : Command) → slice_range (spelling c) 40 48 ≡ to_be_bytes w64 c.nonce
 unfolding spelling head fields
 nonce_part c = refl
 

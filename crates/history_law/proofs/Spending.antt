@@ -123,7 +123,7 @@ created_grows s k v none c spent = elim (cases_eq c.object k) [
       subst (λ (o : Option StoredObject). IsSpentOn o c) (sym (lookup_beside s.objects k c.object v other)) spent
 ]
 
-absent : (o : Option StoredObject) → is_some (option_map state_of o) ≡ false → o ≡ None
+pub absent : (o : Option StoredObject) → is_some (option_map state_of o) ≡ false → o ≡ None
 absent None e = refl
 absent (Some x) e = absurd (cc e)
 
@@ -133,14 +133,17 @@ effect_grows action.Create d c is f =
     created_grows d.store c.object _ (absent (object_at d.store c.object) (rw is at f.finds))
 effect_grows action.Read d c is f = same_store d.store
 effect_grows action.Write d c is f =
-    changed_grows d.store c.object _ (object_at d.store c.object) refl (λ x there. grows x (after_write c.offset c.payload (lane_for c 0) x) (omega arith)
+    changed_grows d.store c.object _ (object_at d.store c.object) refl
+    (λ x there. grows x (after_write c.offset c.payload (lane_for c 0) x) (omega arith)
     (lane_grows c.action d c 0 x (ap is_mutating is) f.stale there))
 effect_grows action.GetAttr d c is f = same_store d.store
 effect_grows action.SetAttr d c is f =
-    changed_grows d.store c.object _ (object_at d.store c.object) refl (λ x there. grows x (after_set_attr c.attribute c.payload (lane_for c 0) x) (omega arith)
+    changed_grows d.store c.object _ (object_at d.store c.object) refl
+    (λ x there. grows x (after_set_attr c.attribute c.payload (lane_for c 0) x) (omega arith)
     (lane_grows c.action d c 0 x (ap is_mutating is) f.stale there))
 effect_grows action.SetTag d c is f =
-    changed_grows d.store c.object _ (object_at d.store c.object) refl (λ x there. grows x (after_set_tag (lane_for c (next_tag (object_at d.store c.object))) x) (omega arith)
+    changed_grows d.store c.object _ (object_at d.store c.object) refl
+    (λ x there. grows x (after_set_tag (lane_for c (next_tag (object_at d.store c.object))) x) (omega arith)
     (lane_grows c.action d c (next_tag (object_at d.store c.object)) x (ap is_mutating is) f.stale there))
 
 -- ---- a drive at which more is spent

@@ -10,7 +10,7 @@ use Rattle.world_history.specs.Sending.{Move, move}
 use Rattle.world_history.specs.Plans.{due}
 use Rattle.world_history.specs.History.{StandsFor, OneEventMore}
 use Rattle.history_law.specs.BookMoments.{IsMoment, plan_at, lines_in}
-use Rattle.history_law.specs.StepEnds.{BehindStep, AtStepEnds}
+use Rattle.history_law.specs.StepEnds.{AtStepEnds}
 use Rattle.history_law.proofs.Behind.{none_behind}
 use Rattle.history_law.proofs.Moments.{stands_kept}
 

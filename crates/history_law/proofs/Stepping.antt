@@ -1,9 +1,9 @@
 -- What a step sends tells the drives that a placer named.
-use Rattle.std.proofs.Common.{◌≡◌, ℕ, ◌+◌, ◌==◌, ◌∷◌, [], List, ◌++◌, Bool, true, false, nat_lt, Some, map, filter, refl, ap, subst, ◌∙◌, if◌then◌else◌}
+use Rattle.std.proofs.Common.{◌≡◌, ℕ, ◌+◌, ◌==◌, ◌∷◌, [], List, ◌++◌, Bool, true, false, nat_lt, Option, Some, None, map, filter, refl, sym, ap, subst, ◌∙◌, if◌then◌else◌}
 use Rattle.osd_capability.specs.Layout.{is_format}
 use Rattle.osd_commands.specs.Commands.{reading, spelling}
 use Rattle.scenario_text.specs.declared.names.TheConstants.{DRIVES}
-use Rattle.world_history.specs.ServerNames.{Server, File, Drive, Grant, Awaited, Outgoing, ToDrive, Recalls, Answers, AnswersOrder}
+use Rattle.world_history.specs.ServerNames.{Server, Kept, File, Drive, Effects, Grant, Awaited, Outgoing, ToDrive, Recalls, Answers, AnswersOrder}
 use Rattle.server_rules.specs.Commands.{sealed}
 use Rattle.server_rules.specs.Going.{Going}
 use Rattle.server_rules.specs.Answers.{recalls_from}
@@ -80,16 +80,34 @@ recalls_to_others n (g ∷ gs) ends h = recalls_to_others (n + 1) gs ends h
 
 -- ---- a step
 
--- With the drives of the CREATEs that a step sends it is the same step. What it leaves can be told and read, and it
--- knows the same drives.
+-- what is kept of a file
+abbrev pub kept_of : Option File → Option Kept
+kept_of None = None
+kept_of (Some f) = Some f.kept
+
+-- and of each file
+abbrev pub all_kept : List File → List Kept
+all_kept fs = map (λ f. f.kept) fs
+
+-- With the drives of the CREATEs that a step sends it is the same step, and with any drives it keeps the same of each file
+-- that was there, and ends the same repairs. What it leaves can be told and read, and it knows the same drives.
 pub record IsPlaced (s : Server) (t : Step) (f : List ℕ → Step) : Type 0 where
   pub same : (n : ℕ) → f (placed_by n t.sends) ≡ t
+  pub keeps : (x : List ℕ) (n : ℕ) (y : File) → file_at s.files n ≡ Some y
+      → kept_of (file_at (f x).state.files n) ≡ kept_of (file_at t.state.files n)
+  pub mends : (x : List ℕ) → (f x).mended ≡ t.mended
   pub readable : IsReadable t.state
   pub knows : (d : ℕ) → knows_drive t.state d ≡ knows_drive s d
 
 pub placed_always : (s : Server) (t : Step) → IsReadable t.state → ((d : ℕ) → knows_drive t.state d ≡ knows_drive s d)
     → IsPlaced s t (λ x. t)
-placed_always s t r knows = record { same = λ n. refl; readable = r; knows = knows }
+placed_always s t r knows = record {
+  same = λ n. refl;
+  keeps = λ x n y at. refl;
+  mends = λ x. refl;
+  readable = r;
+  knows = knows;
+}
 
 pub placed_either : (b : Bool) (s : Server) (t u : Step) (f k : List ℕ → Step) → IsPlaced s t f → IsPlaced s u k
     → IsPlaced s (if b then t else u) (λ x. if b then f x else k x)
@@ -132,6 +150,38 @@ formats_add (x ∷ fs) g h e = either (nat_lt x.kept.number g.kept.number) (form
     either true rest = (h.0, rest)
     either false rest = (e, h)
 
+-- ---- what is kept of files
+
+abbrev kept_among : List Kept → (number : ℕ) → Option Kept
+kept_among [] n = None
+kept_among (k ∷ ks) n = if k.number == n then Some k else kept_among ks n
+
+found_kept : (fs : List File) (n : ℕ) → kept_of (file_at fs n) ≡ kept_among (all_kept fs) n
+unfolding file_at
+found_kept [] n = refl
+found_kept (f ∷ fs) n = either (f.kept.number == n) (found_kept fs n)
+  where
+    either : (b : Bool) → kept_of (file_at fs n) ≡ kept_among (all_kept fs) n
+        → kept_of (if b then Some f else file_at fs n) ≡ (if b then Some f.kept else kept_among (all_kept fs) n)
+    either true rest = refl
+    either false rest = rest
+
+-- where the same is kept of all, so it is of the file of each number
+pub kept_alike : (fs gs : List File) (n : ℕ) → all_kept fs ≡ all_kept gs
+    → kept_of (file_at fs n) ≡ kept_of (file_at gs n)
+kept_alike fs gs n e = found_kept fs n ∙ ap (λ (ks : List Kept). kept_among ks n) e ∙ sym (found_kept gs n)
+
+pub put_alike : (fs : List File) (n : ℕ) (g h : File) → g.kept ≡ h.kept
+    → all_kept (put_file fs n g) ≡ all_kept (put_file fs n h)
+unfolding put_file
+put_alike [] n g h e = refl
+put_alike (f ∷ fs) n g h e = either (f.kept.number == n) (put_alike fs n g h e)
+  where
+    either : (b : Bool) → all_kept (put_file fs n g) ≡ all_kept (put_file fs n h)
+        → all_kept (if b then g ∷ fs else f ∷ put_file fs n g) ≡ all_kept (if b then h ∷ fs else f ∷ put_file fs n h)
+    either true rest = ap (λ (k : Kept). k ∷ all_kept fs) e
+    either false rest = ap (λ (ks : List Kept). f.kept ∷ ks) rest
+
 -- ---- a step at a file
 
 pub step_placed : (s : Server) (number : ℕ) (h : Going) (f : List ℕ → Going) → IsReadable s → Ends s.drives [] h f
@@ -140,6 +190,8 @@ step_placed s number h f r e = record {
   same = λ n. ap (λ (ns : List ℕ). step_at s number (f ns))
       (placed_sent s.drives h.effects.sent n ∙ ap (placed_of s.drives) e.sends)
       ∙ ap (step_at s number) e.same;
+  keeps = λ x n y at. kept_alike _ _ n (put_alike s.files number (f x).file h.file (e.alike x).kept);
+  mends = λ x. ap (λ (m : Effects). m.mended) (e.alike x).effects;
   readable = record {
     drives = r.drives;
     format = r.format;

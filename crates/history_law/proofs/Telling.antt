@@ -47,7 +47,7 @@ counts f a r is e =
 
 -- ---- the nonce of a reply
 
-result_nonce : (a : Action) (s : StoreState) (c : Command) → (result_of a s c).nonce ≡ c.nonce
+pub result_nonce : (a : Action) (s : StoreState) (c : Command) → (result_of a s c).nonce ≡ c.nonce
 result_nonce Create s c = refl
 result_nonce Read s c = refl
 result_nonce Write s c = refl

@@ -1,8 +1,9 @@
 -- The drives that a placer named are those of the CREATEs that are sent.
-use Rattle.std.specs.Prelude.{◌≡◌, ℕ, ◌<◌, true, List, [], ◌∷◌, map, filter}
+use Rattle.std.specs.Prelude.{◌≡◌, ℕ, ◌<◌, true, List, [], ◌∷◌, map, filter, Some}
 use Rattle.osd_capability.specs.Layout.{is_format}
 use Rattle.scenario_text.specs.declared.names.TheConstants.{DRIVES}
 use Rattle.world_history.specs.ServerNames.{Server, Drive, File, Outgoing}
+use Rattle.server_rules.specs.Files.{file_at}
 use Rattle.server_rules.specs.History.{Input, step}
 use Rattle.world_history.specs.Handed.{is_addressed, server_post}
 use Rattle.world_history.specs.Sending.{sent_lines}
@@ -35,3 +36,15 @@ abbrev pub PlacedIsChosen : Type 0
 PlacedIsChosen =
     (s : Server) (chosen : List ℕ) (i : Input) (n : ℕ) → IsReadable s
     → step s (placed_by n (step s chosen i).sends) i ≡ step s chosen i
+
+-- Whatever drives a placer names, a step keeps the same of each file that was there: they decide only where its job makes a
+-- component anew.
+abbrev pub PlacerLeavesKept : Type 0
+PlacerLeavesKept =
+    (s : Server) (chosen placed : List ℕ) (i : Input) (n : ℕ) (f g x : File) → IsReadable s → file_at s.files n ≡ Some f →
+    file_at (step s chosen i).state.files n ≡ Some g → file_at (step s placed i).state.files n ≡ Some x → x.kept ≡ g.kept
+
+-- And it ends the same repairs.
+abbrev pub PlacerLeavesRepairs : Type 0
+PlacerLeavesRepairs =
+    (s : Server) (chosen placed : List ℕ) (i : Input) → IsReadable s → (step s placed i).mended ≡ (step s chosen i).mended

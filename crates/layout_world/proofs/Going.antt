@@ -19,7 +19,7 @@ use Rattle.world_watch.specs.Sighted.{Table}
 use Rattle.world_watch.specs.Guessing.{GuessState}
 use Rattle.world_calm.specs.Seeing.{CalmState}
 use Rattle.world_watch.specs.State.{WatchState}
-use Rattle.component_law.specs.Moving.{sees_one, sees_moves}
+use Rattle.calm_law.specs.Moving.{sees_one, sees_moves}
 use Rattle.layout_world.specs.Going.{Sees, HasSeenAll, MovesBy, Far, Broken, Comes}
 
 -- ---- one more move

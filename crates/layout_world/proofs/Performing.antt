@@ -20,7 +20,7 @@ use Rattle.world_network.specs.Moving.{act_of, Performs, ActsAreMoves}
 use Rattle.layout_world.specs.declared.parties.Parties.{Parties}
 use Rattle.world_watch.specs.State.{WatchState}
 use Rattle.world_watch.specs.Steps.{sees_move}
-use Rattle.component_law.specs.Moving.{kept_at}
+use Rattle.calm_law.specs.Moving.{kept_at}
 use Rattle.layout_world.specs.State.{Settled, ShowsWith, Shows}
 use Rattle.layout_world.specs.Acting.{Grows}
 use Rattle.layout_world.specs.Going.{Performed, SeesAct, SeesBehind}

@@ -22,8 +22,8 @@ use Rattle.world_watch.specs.State.{WatchState}
 use Rattle.world_watch.specs.Watching.{HasSeen, Watches, sees_all}
 use Rattle.world_watch.specs.Laws.{Tells, EventsTell, WatchGoesOn}
 use Rattle.history_law.specs.Read.{is_written}
-use Rattle.component_law.specs.Moving.{sees_moves}
-use Rattle.component_law.specs.Watching.{WatchesAll, WatchesEvent}
+use Rattle.calm_law.specs.Moving.{sees_moves}
+use Rattle.calm_law.specs.Watching.{WatchesAll, WatchesEvent}
 use Rattle.layout_world.specs.State.{WorldState}
 use Rattle.layout_world.specs.Steps.{StepsAs}
 use Rattle.layout_world.specs.Watching.{LeavesTold, WatchesOn}

@@ -18,7 +18,7 @@ use Rattle.world_history.specs.Laws.{shown}
 use Rattle.world_network.specs.Network.{IsLowestPending}
 use Rattle.world_watch.specs.State.{WatchState}
 use Rattle.world_watch.specs.Steps.{sees_move}
-use Rattle.component_law.specs.Moving.{kept_at, kept_by, sees_one, sees_moves}
+use Rattle.calm_law.specs.Moving.{kept_at, kept_by, sees_one, sees_moves}
 use Rattle.layout_world.specs.declared.parties.Parties.{Parties}
 use Rattle.layout_world.specs.State.{Settled, Shows}
 

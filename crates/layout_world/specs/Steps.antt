@@ -7,7 +7,7 @@ use Rattle.world_history.specs.declared.err.WorldErr.TheVariants.{KeptFull, Memo
 use Rattle.world_history.specs.State.{World}
 use Rattle.world_history.specs.Refusals.{refusal}
 use Rattle.world_history.specs.History.{Goes, Stops, BreaksOff}
-use Rattle.component_law.specs.Moving.{sees_moves}
+use Rattle.calm_law.specs.Moving.{sees_moves}
 use Rattle.layout_world.specs.State.{WorldState, Shows}
 
 -- An event was carried out: the code shows the world behind it. Whatever history the old world stands for, the new

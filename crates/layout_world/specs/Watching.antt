@@ -6,7 +6,7 @@ use Rattle.world_history.specs.State.{World}
 use Rattle.world_history.specs.History.{StandsFor, Appended}
 use Rattle.world_watch.specs.State.{WatchState}
 use Rattle.history_law.specs.Read.{is_written}
-use Rattle.component_law.specs.Watching.{WatchesAll}
+use Rattle.calm_law.specs.Watching.{WatchesAll}
 use Rattle.layout_world.specs.State.{WorldState, Shows}
 
 -- a move leaves guesses and summary as they were: they see an event's lines when all of them are told

@@ -1,8 +1,8 @@
-mod Lists
+pub mod Lists
 mod Columns
 mod Cut
 mod Plans
 mod Asking
 mod Probes
 mod Writes
-mod Runs
+pub mod Runs

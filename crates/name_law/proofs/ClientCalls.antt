@@ -7,8 +7,8 @@ use Rattle.history_law.specs.BookMoments.{lines_in}
 use Rattle.exchange_law.specs.Text.{AreOfText}
 use Rattle.exchange_law.proofs.CountGrowing.{text_front}
 use Rattle.exchange_law.proofs.SlotMoments.{always}
-use Rattle.relation_law.proofs.PendingCalls.{Agree}
-use Rattle.relation_law.proofs.PendingMoves.{move_agrees}
+use Rattle.exchange_law.proofs.PendingCalls.{Agree}
+use Rattle.exchange_law.proofs.PendingMoves.{move_agrees}
 use Rattle.name_law.specs.ClientTells.{OutcomesOfTextAreTold, CallsOfTextArePending}
 
 -- at each moment of a history of a scenario's text the calls that are pending by the lines are those of the clients

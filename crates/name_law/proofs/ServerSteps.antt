@@ -33,7 +33,8 @@ use Rattle.history_law.proofs.HistorySteps.{offline_named}
 use Rattle.component_law.specs.Naming.{IsNamedInput}
 use Rattle.history_law.specs.Steps.{answered_file, IsOrdered, Refuses, WhileBusy, OnGreatest, with_added, with_zoned, new_file, StepCases, RequestCases}
 use Rattle.history_law.proofs.Steps.{each_step, each_request}
-use Rattle.history_law.proofs.Files.{in_at, in_put, in_add}
+use Rattle.history_law.proofs.Files.{in_at}
+use Rattle.history_law.proofs.JobFiles.{in_add, in_put}
 use Rattle.name_law.specs.ServerNamed.{AreOnNamed, AreOfNamed, AreForNamed, IsNamedFile, IsNamedServer, SendsToNamed, EachServerStepIsNamed}
 use Rattle.name_law.proofs.ServerAwaited.{none_for}
 use Rattle.name_law.proofs.ServerJobs.{AreTold, Ends, owns_noting, ends_making, ends_fence, ends_hears, ends_declares, ends_opens}

@@ -11,7 +11,7 @@ use Rattle.world_history.specs.Plans.{due}
 use Rattle.history_law.specs.Moves.{IsForClient}
 use Rattle.history_law.specs.BookMoments.{IsMoment, plan_at}
 use Rattle.exchange_law.specs.Text.{AreOfText}
-use Rattle.relation_law.specs.Pending.{IsPendingAt}
+use Rattle.exchange_law.specs.Pending.{IsPendingAt}
 
 -- A line can tell each outcome of a call. That the history is of a text is asked for injected bytes alone: greater numbers
 -- than bytes have could spell a capability whose tag has more than 32 bits.

@@ -11,7 +11,7 @@ use Rattle.world_history.specs.State.{empty_world}
 use Rattle.world_history.specs.declared.summary.Summary.{Summary}
 use Rattle.scenario_text.specs.Spelling.{Fits}
 use Rattle.scenario_text.proofs.Histories.{lines_text_more}
-use Rattle.component_law.specs.Watching.{WatchesAll}
+use Rattle.calm_law.specs.Watching.{WatchesAll}
 use Rattle.layout_world.specs.State.{WorldState, Shows}
 use Rattle.history_claims.specs.Sound.{HistoriesAreSound}
 use Rattle.osd_replay.specs.Ends.{Ends, PutsError}

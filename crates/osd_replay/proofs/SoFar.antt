@@ -10,7 +10,7 @@ use Rattle.scenario_text.specs.declared.line.Line.{Line}
 use Rattle.scenario_text.specs.LineSpelling.{line_text, lines_text}
 use Rattle.scenario_text.proofs.Histories.{lines_text_more}
 use Rattle.world_history.specs.State.{World, empty_world}
-use Rattle.component_law.specs.Watching.{WatchesAll}
+use Rattle.calm_law.specs.Watching.{WatchesAll}
 use Rattle.layout_world.specs.State.{WorldState, Shows}
 use Rattle.history_claims.specs.Sound.{HistoriesAreSound}
 use Rattle.osd_replay.specs.Transcript.{Tells}

@@ -9,7 +9,7 @@ use Rattle.world_history.specs.Runs.{Carries}
 use Rattle.world_history.specs.History.{Step, AreCarried, end_of, lines_of_steps}
 use Rattle.world_history.specs.History.Begins.{Nothing}
 use Rattle.world_history.specs.Calm.{calm}
-use Rattle.component_law.specs.Watching.{WatchesAll}
+use Rattle.calm_law.specs.Watching.{WatchesAll}
 use Rattle.layout_world.specs.State.{WorldState}
 use Rattle.history_claims.specs.Sound.{IsSound, HistoriesAreSound}
 use Rattle.osd_replay.specs.Transcript.{Tells, EndsWith}

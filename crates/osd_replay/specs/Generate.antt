@@ -19,7 +19,7 @@ use Rattle.world_watch.specs.Capping.{capped_summary}
 use Rattle.scenario_text.specs.Spelling.{Fits}
 use Rattle.history_law.specs.Read.{AreWritten}
 use Rattle.exchange_law.specs.Text.{AreOfText, AreFew}
-use Rattle.component_law.specs.Watching.{WatchesAll}
+use Rattle.calm_law.specs.Watching.{WatchesAll}
 use Rattle.layout_world.specs.State.{Shows}
 use Rattle.history_claims.specs.Sound.{IsSound}
 use Rattle.osd_replay.specs.Ends.{Ends, PutsError}

@@ -15,7 +15,7 @@ use Rattle.world_history.specs.Refusals.{refusal}
 use Rattle.world_history.specs.Runs.{Carries, FillsUp}
 use Rattle.world_history.specs.History.{StandsFor, Lawful}
 use Rattle.history_law.specs.Read.{is_written}
-use Rattle.component_law.specs.Watching.{WatchesAll}
+use Rattle.calm_law.specs.Watching.{WatchesAll}
 use Rattle.layout_world.specs.State.{WorldState, Shows}
 use Rattle.osd_replay.specs.declared.carry_out.Carried.{Carried}
 use Rattle.osd_replay.specs.declared.status.ScenarioKind.{ScenarioKind}

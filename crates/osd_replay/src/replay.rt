@@ -2,7 +2,7 @@
 ghost use Rattle.std.specs.Prelude.{◌≡◌, []};
 ghost use Rattle.scenario_text.specs.declared.line.Line.TheVariants.{Last};
 ghost use Rattle.world_history.specs.State.{empty_world};
-ghost use Rattle.component_law.specs.Watching.{WatchesAll};
+ghost use Rattle.calm_law.specs.Watching.{WatchesAll};
 ghost use Rattle.layout_world.specs.State.{Shows};
 ghost use Rattle.osd_replay.specs.Ends.{ends};
 ghost use Rattle.osd_replay.specs.Finish.{Finishes};

@@ -60,7 +60,8 @@ place m s b p c bl group =
     ∙ ap (λ r. stripe_in m (group_of m s) r) row ∙ stripe_again m s c in
     (stripe, ap (λ x. unit_in m x (p % group_width m)) stripe, mod-mul-add (row_of m s) m.unit b bl)
 
-pub word_there : (m : RawMap) (s b k : ℕ) (e : ℕ → ℕ) → IsChecked m → b < m.unit → (k / replicas m) / group_width m ≡ group_of m s →
+pub word_there : (m : RawMap) (s b k : ℕ) (e : ℕ → ℕ) → IsChecked m → b < m.unit →
+    (k / replicas m) / group_width m ≡ group_of m s →
     word_in m k (offset_of m s b) e ≡ word_of m e s b (unit_with m s k)
 word_there m s b k e c bl group =
     let p : ℕ = k / replicas m in

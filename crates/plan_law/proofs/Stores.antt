@@ -428,7 +428,7 @@ each_carried m r bytes got out k z c below there e =
     (rw (position_again m p z c inside) (omega (arith, whole)))
     (rw (position_again m p z c inside) (omega (arith, whole, rest))) there means.1)
 
-no_asks : (m : RawMap) (r : Span) (out : List ℕ) → asks Scatters m r out [] [] ≡ []
+pub no_asks : (m : RawMap) (r : Span) (out : List ℕ) → asks Scatters m r out [] [] ≡ []
 unfolding asks
 no_asks m r out = refl
 

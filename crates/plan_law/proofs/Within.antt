@@ -1,15 +1,14 @@
 -- What can be written over a range can be over each range in it.
-use Rattle.std.proofs.Common.{◌≡◌, ℕ, zero, suc, ◌+◌, ◌-◌, ◌<◌, ◌≤◌, Bool, true, false, List, [], refl, sym, ap, ◌∙◌, arith, inl}
-use Rattle.std.proofs.Common.{inr, eq-eqb}
-use Rattle.std.specs.Prelude.{if◌then◌else◌, Option, Some, None}
+use Rattle.std.proofs.Common.{◌≡◌, ℕ, zero, suc, ◌+◌, ◌-◌, ◌<◌, ◌≤◌, false, List, [], refl, ap, ◌∙◌, arith, inl}
+use Rattle.std.proofs.Common.{inr}
+use Rattle.std.specs.Prelude.{None}
 use Rattle.std.specs.List.{range_with_len}
-use Rattle.std.proofs.lemmas.Bool.{cases_eq, cases_lt}
+use Rattle.std.proofs.lemmas.Bool.{cases_lt}
 use Rattle.data_map.specs.declared.check.RawMap.{RawMap}
 use Rattle.data_map.specs.Striping.{stripe_of, stripe_length}
 use Rattle.data_map.proofs.Covering.{div_mono}
 use Rattle.data_map.proofs.Shape.{some_stripe}
-use Rattle.stripe_plan.specs.declared.plan.Span.{Span}
-use Rattle.stripe_plan.specs.Touched.{end_of, stripes}
+use Rattle.stripe_plan.specs.Touched.{end_of}
 use Rattle.stripe_plan.specs.Lost.{is_short, unwritable}
 use Rattle.stripe_plan.proofs.ReadLaws.{stripes_are}
 use Rattle.stripe_plan.proofs.WriteFollows.{no_stripes}

@@ -4,8 +4,8 @@ use crate::usage::PROGRAM;
 use advice::{Asker, failed_disk, failed_links, refused_cluster, refused_store, refused_words};
 use cluster_text::Reader;
 use osd_links::{FileCause, LinkFault};
-use osd_replay::Quantity;
 use pnfs_run::Status;
+use pnfs_run::replay::Quantity;
 use std::alloc::{AllocError, Global};
 use std::io::Eprint;
 

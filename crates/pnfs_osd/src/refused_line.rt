@@ -1,7 +1,7 @@
 // What a person is told of a line of the input that was refused.
 use advice::line_of;
 use osd_links::Printable;
-use osd_replay::ScenarioKind;
+use pnfs_run::replay::ScenarioKind;
 use scenario_text::EventErr;
 use std::alloc::{AllocError, Global};
 

@@ -8,5 +8,7 @@ mod status;
 mod stored;
 mod top_call;
 
+/// Scenarios and their transcripts, by which those who call `run` choose how components are placed, and tell how a run stopped.
+pub use osd_replay as replay;
 pub use status::Status;
 pub use top_call::run;

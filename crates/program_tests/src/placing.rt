@@ -8,7 +8,7 @@ use crate::ends::copied;
 use crate::runs::strings;
 use osd_bytes::{MemSink, MemSource, Sink, Source};
 use osd_lists::{Memory, Numbers};
-use osd_replay::{Status, fewest_first, run};
+use pnfs_run::replay::{Status, fewest_first, run};
 use std::alloc::Global;
 use stripe_repair::{DriveLoad, Place};
 

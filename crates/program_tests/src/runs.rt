@@ -7,7 +7,7 @@ use crate::ends::{copied, lists, numbers};
 use osd_bytes::{Clock, Links, MemClock, MemLinks, MemSink, MemSource, Sink, Source};
 use osd_disk::MemDisk;
 use osd_lists::{Bytes, Memory, Numbers, Times};
-use osd_replay::fewest_first;
+use pnfs_run::replay::fewest_first;
 use pnfs_run::{Status, run};
 use std::alloc::Global;
 use std::process::Abort;

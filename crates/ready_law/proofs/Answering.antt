@@ -1,5 +1,5 @@
 -- Each ready call whose event is over ended in ok, within its bound of messages.
-use Rattle.std.proofs.Common.{◌≡◌, ◌≤◌, ◌+◌, ◌*◌, ◌&&◌, ◌||◌, max, ℕ, Bool, true, false, List, [], ◌∷◌, ◌++◌, length, map, fold, slice_get, Option, Some, None, Result, Ok, Err, is_err, is_some, refl, sym, ap, subst, ◌∙◌, append_assoc, inl, inr, arith, if◌then◌else◌}
+use Rattle.std.proofs.Common.{◌≡◌, ◌≤◌, ◌+◌, ◌*◌, ◌&&◌, max, ℕ, Bool, true, false, List, [], ◌∷◌, ◌++◌, length, map, fold, slice_get, Option, Some, None, is_err, refl, sym, ap, subst, ◌∙◌, append_assoc, arith}
 use Rattle.std.specs.List.{list_any, sum_by}
 use Rattle.std.proofs.Math.Nat.{mul-le-mul_left}
 use Rattle.std.proofs.lemmas.Bool.{or_parts}
@@ -15,7 +15,7 @@ use Rattle.scenario_text.specs.declared.line.Line.TheVariants as line
 use Rattle.client_rules.specs.declared.limits.TheConstants.{GREATEST_SEQUENCE}
 use Rattle.client_rules.specs.Steps.{calls, is_spent, is_bad_range}
 use Rattle.client_rules.specs.Calls.{span_of}
-use Rattle.world_history.specs.ClientNames.{CallOp, Call}
+use Rattle.world_history.specs.ClientNames.{CallOp}
 use Rattle.world_history.specs.declared.limits.TheConstants.{MAX_KEPT}
 use Rattle.world_history.specs.declared.messages.Sent.{Sent}
 use Rattle.world_history.specs.declared.messages.Message.{Message}
@@ -23,15 +23,14 @@ use Rattle.world_history.specs.State.{World, ClientAt, at_number}
 use Rattle.world_history.specs.Moves.{Action, Opens, op_of, acts}
 use Rattle.world_history.specs.Sending.{Move, move, sends_all}
 use Rattle.world_history.specs.Reading.{arrived, left_out, changed_by, changed_at, sent_after_event, sent_after, sent_in}
-use Rattle.world_history.specs.Plans.{Plan, Rule, Prompt, due, went_on, plan_of, rule_of, is_refused}
-use Rattle.world_history.specs.Refusals.{refusal}
+use Rattle.world_history.specs.Plans.{Plan, Rule, went_on, plan_of, is_refused}
 use Rattle.world_history.specs.Runs.{world_after, lines_of, AreDue, plan_after, IsOver, Carries}
 use Rattle.world_history.specs.History.{Lawful, StandsFor, OneEventMore}
 use Rattle.world_history.specs.Guesses.{Guarded, guards, unguessed}
 use Rattle.world_history.specs.Laws.{shown, MessagesAreRead}
 use Rattle.history_law.specs.Read.{AreWritten}
 use Rattle.history_law.proofs.Staying.{written_front}
-use Rattle.history_law.specs.Moments.{IsReached, IsMoment, with_event, lines_in, plan_at}
+use Rattle.history_law.specs.Moments.{IsReached, IsMoment, with_event, lines_in}
 use Rattle.exchange_law.specs.Counters.{ClientsAreCounted, ClientCounts}
 use Rattle.exchange_law.specs.Text.{AreOfText, AreFew}
 use Rattle.exchange_law.proofs.HeldWorlds.{next_moment}
@@ -41,13 +40,12 @@ use Rattle.cause_law.proofs.Files.{few_there}
 use Rattle.cause_law.proofs.PendingMoves.{taken_rule}
 use Rattle.cause_law.proofs.Eventless.{NoEvent, opens_plain}
 use Rattle.cause_law.proofs.Queue.{queue_is_due}
-use Rattle.ready_law.specs.Answered.{scene_in, EndsOk, ends_call, messages_at, message_bound, EachReadyIsAnswered, ReadyIsAnswered}
+use Rattle.ready_law.specs.Answered.{scene_in, EndsOk, ends_call, messages_at, message_bound, ReadyIsAnswered}
 use Rattle.ready_law.specs.Events.{IsOver as IsOverIn, StandsApart, EventsStandApart}
-use Rattle.ready_law.specs.Fair.{IsFair}
 use Rattle.ready_law.specs.Ready.{Scene, scene_of, IsReady, touched}
 use Rattle.ready_law.specs.Worlds.{ScenesAreRead}
 use Rattle.ready_law.proofs.Calls.{ReadyCall, op_at, kept_at, opposed_at, first_at, queue_at, IsIn}
-use Rattle.ready_law.proofs.Stages.{Stage, GoesOn, Further, Over, IsDone, HasSent, asking_at, work_at}
+use Rattle.ready_law.proofs.Stages.{GoesOn, Further, Over, asking_at, work_at}
 use Rattle.ready_law.proofs.Going.{StagesGoOn, OpensCall}
 use Rattle.ready_law.proofs.Walking.{Whole, IsFrontOf, fair_at, clean_behind, prompt_plan, counted, IsSilent, ends_behind, IsAt, EndsWithin, goes, nothing_due}
 

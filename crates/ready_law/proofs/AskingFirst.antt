@@ -16,7 +16,7 @@ use Rattle.ready_law.proofs.Going.{GoesOnBy}
 use Rattle.ready_law.proofs.Stages.{Asking, Recalls, GoesOn, Further}
 use Rattle.ready_law.proofs.ServingForms.{recall_messages}
 use Rattle.ready_law.proofs.ServingGets.{held_off}
-use Rattle.ready_law.proofs.ServingGrants.{no_grant}
+use Rattle.component_law.proofs.Without.{no_grant}
 use Rattle.ready_law.proofs.AskingForms.{AskingLaws}
 use Rattle.ready_law.proofs.AskingFrames.{against_others, opposed_yields, caller_stays, sent_more}
 use Rattle.ready_law.proofs.AskingGives.{caller_named, are_recalls_of, its_arrival, sent, file, gives_goes_on, refused}

@@ -21,7 +21,7 @@ use Rattle.ready_law.proofs.Calls.{ReadyCall, op_at, file_at_call, kept_at, oppo
 use Rattle.ready_law.proofs.Going.{GoesOnBy}
 use Rattle.ready_law.proofs.Stages.{Recalling, AreRecalls, AreReturns, Recalls, AsksAgain, GoesOn, Further}
 use Rattle.ready_law.proofs.ServingForms.{recall_message}
-use Rattle.ready_law.proofs.ServingGrants.{no_grant}
+use Rattle.component_law.proofs.Without.{no_grant}
 use Rattle.ready_law.proofs.Stepping.{answers_step}
 use Rattle.ready_law.proofs.AskingAsks.{AsksNext, asks_next, in_step_there, its_answer, answer_steps, asks_new}
 use Rattle.ready_law.proofs.AskingForms.{AskingLaws}

@@ -1,6 +1,5 @@
 -- The call's second LAYOUTGET is behind the returns of the conflicting grants.
-use Rattle.std.proofs.Common.{◌≡◌, ◌≢◌, ◌<◌, ◌+◌, ◌==◌, ℕ, not, List, [], ◌∷◌, ◌++◌, length, Option, Some, refl, sym, ap, subst, ◌∙◌, append_assoc, eq-eqb, ne_eqb, inl, inr, arith}
-use Rattle.std.proofs.lemmas.Bool.{cases_eq}
+use Rattle.std.proofs.Common.{◌≡◌, ◌≢◌, ◌<◌, ◌+◌, ◌==◌, ℕ, not, List, [], ◌∷◌, ◌++◌, length, Option, refl, sym, ap, subst, ◌∙◌, append_assoc, inl, arith}
 use Rattle.std.proofs.lemmas.List.{append-nil, length-append}
 use Rattle.scenario_text.specs.declared.names.TheConstants.{CLIENTS}
 use Rattle.scenario_text.specs.declared.line.Line.{Line}
@@ -25,7 +24,8 @@ use Rattle.ready_law.proofs.Calls.{ReadyCall, file_at_call, kept_at, wanted_at, 
 use Rattle.ready_law.proofs.Going.{GoesOnBy}
 use Rattle.ready_law.proofs.Stages.{IsReturning, IsRecallAnswer, AreHalves, AreReturns, AskingAgain, AsksAgain, GoesOn, Further}
 use Rattle.ready_law.proofs.ServingForms.{IsNothing}
-use Rattle.ready_law.proofs.ServingGrants.{others_left, other_grant}
+use Rattle.component_law.proofs.Without.{other_grant}
+use Rattle.ready_law.proofs.ServingGrants.{others_left}
 use Rattle.ready_law.proofs.ServingReturns.{given_back, recall_answer_is_nothing}
 use Rattle.ready_law.proofs.AskingForms.{AskingLaws}
 use Rattle.ready_law.proofs.AskingFrames.{HaveOwnClients, own_behind, own_opposed, opposed_in, serves_stays, caller_stays, IsKept, asked_stays, returning_stays, returns_stay, quiet_stays, taken_stay, taken_more, sent_more, delivery_silent}

@@ -1,7 +1,6 @@
 -- A ready call, the moments of its event, and the next move there.
-use Rattle.std.proofs.Common.{◌≡◌, ◌+◌, ℕ, List, [], ◌∷◌, ◌++◌, length, slice_get, Option, Some, None}
+use Rattle.std.proofs.Common.{◌≡◌, ◌+◌, ℕ, List, ◌++◌, length, slice_get, Option, Some}
 use Rattle.osd_lists.specs.declared.node.Node.TheVariants as node
-use Rattle.data_map.specs.Striping.{group_of}
 use Rattle.layout_ops.specs.declared.envelope.Envelope.TheVariants as envelope
 use Rattle.scenario_text.specs.declared.event.Call.{Call as EventCall}
 use Rattle.scenario_text.specs.declared.event.Event.TheVariants as event

@@ -8,7 +8,6 @@ use Rattle.std.specs.Map.{lookup, set_value}
 use Rattle.std.proofs.lemmas.Map.Entries.{sum_by-set_value}
 use Rattle.osd_lists.proofs.Tests.{and_false}
 use Rattle.osd_commands.specs.declared.actions.Action.{Action}
-use Rattle.osd_commands.specs.declared.actions.Action.TheVariants.{Create, Read, Write, GetAttr, SetAttr, SetTag}
 use Rattle.osd_commands.specs.declared.commands.Command.{Command}
 use Rattle.osd_objects.specs.declared.lanes.LaneEntry.{LaneEntry}
 use Rattle.osd_objects.specs.declared.object.StoredObject.{StoredObject}
@@ -24,9 +23,10 @@ use Rattle.osd_drive.specs.declared.verdict.Verdict.{Verdict}
 use Rattle.osd_drive.specs.declared.verdict.Verdict.TheVariants as verdict
 use Rattle.osd_drive.specs.State.{DriveState, view_of}
 use Rattle.osd_drive.specs.Table.{is_create, is_write, is_set_attr, is_set_tag, has_range, has_value, of_object, of_lane, has_old_format, has_no_key, fails_check, has_wrong_check, is_expired, has_no_right, is_elsewhere, is_out_of_range, lacks_object, finds_object, has_other_tag, passes_limit, lacks_space, lacks_lane, is_stale, lacks_attribute, is_repeated, is_mutating, tag_of, nonce_of, Row, first_row, NoneApplies, first_fault}
-use Rattle.osd_drive.specs.Effects.{lane_for, effect_of, result_of, kept_reply, reply_by}
+use Rattle.osd_drive.specs.Effects.{lane_for, effect_of, kept_reply, reply_by}
 use Rattle.world_history.specs.Told.{told_verdict}
 use Rattle.history_law.proofs.HistoryTelling.{result_done}
+use Rattle.history_law.proofs.Telling.{result_nonce}
 use Rattle.exchange_law.specs.LaneTaken.{is_of_lanes}
 use Rattle.ready_law.specs.Clear.{ReadsOrWrites, IsClear, ClearCommandsAreCarriedOut, HasRoomTo, RoomStays}
 
@@ -215,14 +215,6 @@ module _ (d : DriveState) (now : ℕ) (c : Command) (x : IsClear d now c) where
 
 -- ---- replies
 
-nonce_performed : (a : Action) (s : StoreState) (c : Command) → (result_of a s c).nonce ≡ c.nonce
-nonce_performed Create s c = refl
-nonce_performed Read s c = refl
-nonce_performed Write s c = refl
-nonce_performed GetAttr s c = refl
-nonce_performed SetAttr s c = refl
-nonce_performed SetTag s c = refl
-
 told_kept : (c : Command) (m : Bool) (o : Option LaneEntry) → (m && of_lane (λ l. nat_eq l.nonce c.nonce) o) ≡ true
     → ((kept_reply c o).verdict ≡ 0) × ((kept_reply c o).nonce ≡ c.nonce)
 told_kept c m None e = absurd (true≢false (sym e ∙ and_false m))
@@ -246,7 +238,7 @@ clear_commands_are_carried_out d now c x = elim (cases_Bool (is_repeated (view_o
       record {
         verdict = inl performs;
         told = ap (λ (v : Verdict). (reply_by v d c).verdict) performs ∙ result_done c.action d.store c;
-        nonce = ap (λ (v : Verdict). (reply_by v d c).nonce) performs ∙ nonce_performed c.action d.store c;
+        nonce = ap (λ (v : Verdict). (reply_by v d c).nonce) performs ∙ result_nonce c.action d.store c;
       }
 ]
 

@@ -30,7 +30,7 @@ use Rattle.history_law.specs.BookMoments.{IsMoment}
 use Rattle.history_law.specs.Unforged.{UnguessedAreUnforged}
 use Rattle.history_law.proofs.DriveLines.{drive_read}
 use Rattle.history_law.proofs.Files.{in_at}
-use Rattle.component_law.proofs.MoveFacts.{are_named}
+use Rattle.component_law.proofs.NamedLines.{are_named}
 use Rattle.exchange_law.specs.Calls.{CallFine, IsCall}
 use Rattle.exchange_law.specs.Counters.{CountersStayLow}
 use Rattle.exchange_law.specs.Files.{KeptFits, GrantFits, AllFilesFit}
@@ -55,12 +55,12 @@ use Rattle.component_law.specs.Listed.{IsCredentialFor, ListsComponent, ListsCom
 use Rattle.ready_law.specs.Carried.{WorksUnder, CanServe}
 use Rattle.ready_law.specs.Clear.{IsClear}
 use Rattle.ready_law.specs.Fair.{IsFair}
-use Rattle.ready_law.specs.Offline.{OfflineHaveFailed}
+use Rattle.component_law.specs.Offline.{OfflineHaveFailed}
 use Rattle.ready_law.proofs.ClearChecked.{made_checked, version_found, HasCredential, with_right}
 use Rattle.ready_law.proofs.RangeEnds.{range_end}
-use Rattle.ready_law.proofs.MadeCommands.{IsMade}
+use Rattle.cause_law.proofs.MadeCommands.{IsMade}
 use Rattle.ready_law.proofs.ReadCommands.{made_under, may_be_sent, components}
-use Rattle.ready_law.proofs.ClearStill.{is_shut}
+use Rattle.component_law.proofs.Shut.{is_shut}
 use Rattle.ready_law.proofs.ClearTagged.{HasTag, has_own_tag}
 
 -- the laws that it takes

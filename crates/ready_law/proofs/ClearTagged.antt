@@ -22,7 +22,7 @@ use Rattle.component_law.specs.Tagged.{is_fence}
 use Rattle.component_law.specs.Least.{NoTagIsBehind}
 use Rattle.component_law.specs.TagWithin.{NoTagIsAhead}
 use Rattle.component_law.specs.Within.{IsWithin}
-use Rattle.ready_law.proofs.ClearStill.{IsShut}
+use Rattle.component_law.proofs.Shut.{IsShut}
 
 -- the object is there with this tag
 pub record HasTag (a : DriveAt) (object tag : ℕ) : Type 0 where

@@ -4,8 +4,6 @@ pub mod Lacking
 pub mod Events
 pub mod ExamplesUnready
 pub mod Examples
-pub mod OfflineServer
-pub mod Offline
 pub mod Worlds
 pub mod Calls
 pub mod Stages
@@ -47,11 +45,6 @@ pub mod WorkingReports
 pub mod Turning
 pub mod ReactingGood
 pub mod Losses
-pub mod EachAt
-pub mod KeyedGrants
-pub mod ClearShort
-pub mod MadeCommands
-pub mod MadeSteps
 pub mod NamedLanes
 pub mod RangeEnds
 pub mod ReadCommands
@@ -73,7 +66,6 @@ pub mod WorkingDrives
 pub mod WorkingCommands
 pub mod WorkingBegins
 pub mod WorkingApart
-pub mod ClearStill
 pub mod ClearTagged
 pub mod ClearChecked
 pub mod ClearAwaited

@@ -1,5 +1,5 @@
 -- Each lane that an object of a drive has keeps the number of an action.
-use Rattle.std.proofs.Common.{◌≡◌, ◌≤◌, ℕ, zero, suc, List, [], ◌∷◌, Option, Some, None, Result, Ok, Err, slice_get, refl, sym, subst, inl, inr, arith}
+use Rattle.std.proofs.Common.{◌≡◌, ◌≤◌, ℕ, List, [], Option, Some, None, Result, Ok, Err, refl, sym, subst, inl, inr, arith}
 use Rattle.osd_commands.specs.declared.actions.Action.{Action}
 use Rattle.osd_commands.specs.declared.actions.Action.TheVariants.{Create, Read, Write, GetAttr, SetAttr, SetTag}
 use Rattle.osd_commands.specs.declared.commands.Command.{Command}
@@ -23,7 +23,8 @@ use Rattle.history_law.specs.Moments.{IsReached}
 use Rattle.history_law.specs.Moves.{Turns, Raised, Timed, Falls, Crashed, Reopened}
 use Rattle.history_law.proofs.Reached.{always_by}
 use Rattle.exchange_law.proofs.LaneLists.{in_with}
-use Rattle.ready_law.proofs.EachAt.{EachAt, put_each, come_each}
+use Rattle.exchange_law.proofs.LaneRows.{in_lanes}
+use Rattle.cause_law.proofs.EachAt.{EachAt, put_each, come_each}
 
 -- the greatest number of an action
 abbrev pub last_action : ℕ
@@ -132,14 +133,9 @@ drives_named w r = always_by (λ (v : World). EachAt DriveNamed v.drives) (recor
 
 -- ---- the lane of a holder
 
-lane_in : (ls : List LaneEntry) (n : ℕ) (l : LaneEntry) → slice_get ls n ≡ Some l → In l ls
-lane_in [] n l e = absurd (cc e)
-lane_in (x ∷ ls) zero l e = let same : x ≡ l = cc e in inl (sym same)
-lane_in (x ∷ ls) (suc n) l e = inr (lane_in ls n l e)
-
 found_named : (x : StoredObject) (o : Option ℕ) (l : LaneEntry) → AreNamed x → lane_at x.lanes o ≡ Some l → IsNamed l
 found_named x None l k e = absurd (cc e)
-found_named x (Some n) l k e = k l (lane_in x.lanes n l e)
+found_named x (Some n) l k e = k l (in_lanes x.lanes n l e)
 
 object_named : (s : StoreState) (object holder : ℕ) (o : Option StoredObject) (l : LaneEntry) → StoreNamed s
     → object_at s object ≡ o → lane_or_none o holder ≡ Some l → IsNamed l

@@ -1,5 +1,5 @@
 -- The client of a ready call takes the answer to its commit, or to its report.
-use Rattle.std.proofs.Common.{◌≡◌, ◌+◌, ◌==◌, ℕ, Bool, true, false, true≢false, List, [], ◌∷◌, ◌++◌, length, filter, Option, Some, option_map, if◌then◌else◌, refl, sym, ap, subst, ◌∙◌, inl, arith}
+use Rattle.std.proofs.Common.{◌≡◌, ◌+◌, ◌==◌, ℕ, Bool, true, true≢false, List, [], ◌∷◌, ◌++◌, length, filter, Option, Some, option_map, if◌then◌else◌, refl, sym, ap, subst, ◌∙◌, inl, arith}
 use Rattle.std.proofs.lemmas.Bool.{and_parts, eqb-true}
 use Rattle.osd_lists.specs.declared.node.Node.TheVariants as node
 use Rattle.layout_ops.specs.declared.statuses.TheConstants.{NFS4_OK}

@@ -1,7 +1,7 @@
--- Which grants conflict with the one that a call asks for, and which are left when clients give theirs back.
-use Rattle.std.proofs.Common.{◌≡◌, ◌≢◌, ◌==◌, ℕ, Bool, true, false, not, List, [], ◌∷◌, filter, None, refl, sym, ap, subst, ◌∙◌, inl, inr, eq-eqb, ne_eqb, arith, if◌then◌else◌}
+-- Which grants conflict with the one that a call asks for, and which of them are left when clients give theirs back.
+use Rattle.std.proofs.Common.{◌≡◌, ◌≢◌, ◌==◌, ℕ, Bool, true, false, not, List, [], ◌∷◌, filter, refl, sym, ap, subst, ◌∙◌, inl, inr, eq-eqb, ne_eqb, arith, if◌then◌else◌}
 use Rattle.std.proofs.lemmas.Bool.{cases_Bool, cases_eq}
-use Rattle.server_rules.specs.Grants.{overlaps, conflicts, grant_of, without, against, asked}
+use Rattle.server_rules.specs.Grants.{overlaps, conflicts, without, against, asked}
 use Rattle.server_rules.specs.Laws.{In, Apart}
 use Rattle.server_rules.proofs.GrantLaws.{in_filter}
 use Rattle.world_history.specs.ClientNames.{CallOp}
@@ -72,28 +72,6 @@ against_own (x ∷ gs) g = elim (cases_eq x.client g.client) [
         ≡ (if b then x ∷ against gs g else against gs g)
     kept true e = ap (λ (xs : List Grant). x ∷ xs) e
     kept false e = e
-
--- ---- what is left
-
--- without a client's grants another client has those that it had
-pub other_grant : (gs : List Grant) (c d : ℕ) → c ≢ d → grant_of (without gs d) c ≡ grant_of gs c
-other_grant [] c d other = refl
-other_grant (g ∷ gs) c d other = elim (cases_eq g.client d) [
-  | inl is ↦
-      rw (eq-eqb g.client d is, ne_eqb g.client c (λ e. other (sym e ∙ is))) (other_grant gs c d other)
-  | inr not_its ↦ rw (ne_eqb g.client d not_its) (elim (cases_Bool (g.client == c)) [
-    | inl t ↦ rw t refl
-    | inr z ↦ rw z (other_grant gs c d other)
-  ])
-]
-
--- and that client has none
-pub no_grant : (gs : List Grant) (c : ℕ) → grant_of (without gs c) c ≡ None
-no_grant [] c = refl
-no_grant (g ∷ gs) c = elim (cases_Bool (g.client == c)) [
-  | inl t ↦ rw t (no_grant gs c)
-  | inr z ↦ rw (z, z) (no_grant gs c)
-]
 
 -- ---- a client has one grant alone
 

@@ -33,7 +33,7 @@ use Rattle.world_history.specs.State.{World, ClientAt, at_number}
 use Rattle.world_history.specs.Moves.{Delivers, acts}
 use Rattle.history_law.specs.BookMoments.{IsMoment}
 use Rattle.history_law.specs.Granted.{NumbersFit}
-use Rattle.component_law.proofs.MoveFacts.{are_named}
+use Rattle.component_law.proofs.NamedLines.{are_named}
 use Rattle.component_law.specs.Objects.{objects_of, NoneIs, AllDiffer, EachObjectIsOwned}
 use Rattle.component_law.specs.Sent.{ServerSentItsRun}
 use Rattle.exchange_law.proofs.ClientMoves.{clients_always}

@@ -9,7 +9,7 @@ use Rattle.server_rules.specs.Files.{file_at}
 use Rattle.server_rules.specs.Grants.{against, grant_of, without}
 use Rattle.server_rules.specs.Laws.{In}
 use Rattle.server_rules.specs.Layouts.{object_of}
-use Rattle.server_rules.specs.Slots.{Admit, New, admit, slot_of}
+use Rattle.server_rules.specs.Slots.{New, admit, slot_of}
 use Rattle.stripe_plan.specs.Lost.{among}
 use Rattle.client_rules.specs.Answers.{is_loss_taken}
 use Rattle.client_rules.specs.Calls.{is_write}
@@ -21,7 +21,7 @@ use Rattle.client_rules.specs.Requests.{get_args, commit_args, return_args, repo
 use Rattle.client_rules.specs.Results.{status_of}
 use Rattle.client_rules.specs.Writes.{is_past_size}
 use Rattle.world_history.specs.ClientNames.{RecallAnswer, Held, Phase, Waits, Reads, Probes, Gathers, Scatters, First, Get, Commit, Report, Request, Answer, Awaited, TimedOut}
-use Rattle.world_history.specs.ServerNames.{File, Kept, Component, Grant, Slot}
+use Rattle.world_history.specs.ServerNames.{Kept, Component, Grant, Slot}
 use Rattle.world_history.specs.declared.messages.Body.TheVariants.{Command as OfCommand, Envelope as OfEnvelope}
 use Rattle.world_history.specs.declared.messages.Message.{Message}
 use Rattle.world_history.specs.State.{World, DriveAt, ClientAt, at_number}
@@ -127,7 +127,8 @@ AreReturns s w gs ms = ⊥
 -- an answer to each client of these grants, who is quiet
 abbrev pub AreTaken : World → List Grant → List Message → Type 0
 AreTaken w [] [] = Unit {0}
-AreTaken w (g ∷ gs) (m ∷ ms) = IsQuiet w g.client × ((a : Answer) × (a.client ≡ g.client) × (m ≡ answer_message a)) × AreTaken w gs ms
+AreTaken w (g ∷ gs) (m ∷ ms) =
+    IsQuiet w g.client × ((a : Answer) × (a.client ≡ g.client) × (m ≡ answer_message a)) × AreTaken w gs ms
 AreTaken w gs ms = ⊥
 
 -- the return of the one grant, if there is one: the answer to its recall is gone

@@ -5,37 +5,19 @@ use Rattle.osd_commands.specs.Commands.{spelling, reading}
 use Rattle.scenario_text.specs.declared.line.Line.{Line}
 use Rattle.world_history.specs.ClientNames.{Awaited}
 use Rattle.world_history.specs.State.{World}
-use Rattle.world_history.specs.History.{OneEventMore}
 use Rattle.world_history.specs.Laws.{MessagesAreRead}
-use Rattle.history_law.specs.Grants.{GrantsAreSafe}
 use Rattle.history_law.specs.Read.{BookIsRead}
-use Rattle.history_law.specs.Unforged.{UnguessedAreUnforged}
 use Rattle.component_law.specs.OnDrives.{StandApart, ComponentsStandApart}
-use Rattle.exchange_law.specs.Counters.{CountersStayLow, ServerIsCounted, ClientsAreCounted}
-use Rattle.exchange_law.specs.Files.{AllFilesFit}
-use Rattle.exchange_law.specs.InStep.{ClientsAreInStep}
-use Rattle.exchange_law.specs.LaneTaken.{AwaitedAreTaken}
-use Rattle.exchange_law.specs.Meeting.{ClientsAgree}
-use Rattle.exchange_law.specs.Shapes.{FilesHaveShape}
-use Rattle.component_law.specs.Keys.{KeysAreKnown}
-use Rattle.component_law.specs.Listed.{ComponentsAgree}
-use Rattle.component_law.specs.Order.{GrantsAreInOrder}
-use Rattle.component_law.specs.Rests.{NothingDueRests}
-use Rattle.component_law.specs.Sizes.{SizesAgree}
 use Rattle.component_law.specs.Objects.{EachObjectIsOwned}
 use Rattle.component_law.specs.Sent.{ServerSentItsRun}
-use Rattle.component_law.specs.TagWithin.{NoTagIsAhead}
-use Rattle.component_law.specs.Least.{NoTagIsBehind}
-use Rattle.cause_law.specs.Fresh.{GrantsAreFresh}
-use Rattle.cause_law.specs.Readable.{AnswersAreFit, PlacesAreEnough, FilesAndAnswersAreReadable}
-use Rattle.load_law.specs.Load.{EachCallSendsFew}
+use Rattle.cause_law.specs.Readable.{FilesAndAnswersAreReadable}
+use Rattle.load_law.proofs.Runs.{each_call_sends_few}
 use Rattle.ready_law.specs.Answered.{ReadyIsAnswered}
-use Rattle.ready_law.specs.Carried.{WorksUnder, CanServe, IsServedBy, AwaitedAreServed, RepliesAreRead}
+use Rattle.ready_law.specs.Carried.{WorksUnder, IsServedBy, AwaitedAreServed, RepliesAreRead}
 use Rattle.ready_law.specs.Clear.{ClearCommandsAreCarriedOut, RoomStays}
 use Rattle.ready_law.specs.Enough.{LostAreListed}
 use Rattle.ready_law.specs.Events.{EventsStandApart}
 use Rattle.ready_law.specs.Fair.{IsFair}
-use Rattle.ready_law.specs.Offline.{OfflineHaveFailed}
 use Rattle.ready_law.specs.Worlds.{ScenesAreRead}
 use Rattle.ready_law.proofs.Going.{StagesGoOn}
 use Rattle.ready_law.proofs.Answering.{ready_is_answered}
@@ -66,7 +48,6 @@ pub record ReadyLaws : Type 0 where
   pub messages : MessagesAreRead
   pub apart : ComponentsStandApart
   pub readable : FilesAndAnswersAreReadable
-  pub few : EachCallSendsFew
   pub owned : EachObjectIsOwned
   pub sent : ServerSentItsRun
   pub lost : LostAreListed
@@ -108,7 +89,7 @@ module _ (laws : ReadyLaws) where
     asking = laws.asking;
     served = served;
     read = replies;
-    few = laws.few;
+    few = each_call_sends_few;
     lost = laws.lost;
     offline = laws.clear.offline;
     room = laws.room;
@@ -121,7 +102,7 @@ module _ (laws : ReadyLaws) where
   begins : BeginsToWork
   begins = begins_to_work laws.asking
 
-  stages : StagesGoOn
+  pub stages : StagesGoOn
   stages = record {
     opens = opens_call laws.asking begins;
     returning = returning_goes_on laws.asking;

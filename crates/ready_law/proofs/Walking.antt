@@ -1,5 +1,5 @@
 -- From stage to stage: a ready call's event goes on until the call has ended in ok.
-use Rattle.std.proofs.Common.{◌≡◌, ◌≤◌, ◌+◌, ◌&&◌, ◌||◌, ℕ, suc, Bool, true, false, not, List, [], ◌∷◌, ◌++◌, length, map, fold, Option, Some, None, is_some, if◌then◌else◌, refl, sym, ap, subst, ◌∙◌, append_assoc, inl, inr, arith}
+use Rattle.std.proofs.Common.{◌≡◌, ◌≤◌, ◌+◌, ◌&&◌, ℕ, suc, Bool, true, false, not, List, [], ◌∷◌, ◌++◌, length, map, fold, Option, Some, None, is_some, if◌then◌else◌, refl, sym, ap, subst, ◌∙◌, append_assoc, arith}
 use Rattle.std.specs.List.{list_any}
 use Rattle.std.proofs.lemmas.Bool.{or_from}
 use Rattle.std.proofs.lemmas.List.{append-nil, length-append}
@@ -12,14 +12,13 @@ use Rattle.scenario_text.specs.declared.line.Line.TheVariants as line
 use Rattle.client_rules.specs.Messages.{awaited_of}
 use Rattle.client_rules.specs.Steps.{awaits_by, awaits}
 use Rattle.world_history.specs.declared.messages.Message.{Message}
-use Rattle.world_history.specs.declared.messages.Posted.{Posted}
 use Rattle.world_history.specs.State.{World, ClientAt, at_number}
 use Rattle.world_history.specs.Moves.{Act, Action, Opens, Delivers, TimesOut, Pends, acts}
 use Rattle.world_history.specs.Sending.{Move, move, fresh}
 use Rattle.world_history.specs.ClientNames.{Client, Call, Request}
-use Rattle.world_history.specs.Plans.{Plan, Rule, Prompt, next_pending, due_pending, due_by, due, when_quiet, quiet_at, went_on, plan_of}
+use Rattle.world_history.specs.Plans.{Plan, Prompt, next_pending, due_pending, due, when_quiet, quiet_at, went_on, plan_of}
 use Rattle.world_history.specs.Runs.{world_after, lines_of, AreDue, plan_after, IsOver}
-use Rattle.world_history.specs.History.{Lawful, OneEventMore}
+use Rattle.world_history.specs.History.{Lawful}
 use Rattle.world_history.specs.Guesses.{Guarded, guards, guarded, guessed_at, unguessed}
 use Rattle.world_history.proofs.ReadMessages.{never_opens}
 use Rattle.world_history.proofs.Runs.{plan_more}
@@ -36,12 +35,12 @@ use Rattle.cause_law.specs.Readable.{FilesAndAnswersAreReadable}
 use Rattle.cause_law.specs.Lines.{is_event}
 use Rattle.cause_law.specs.Queue.{queue, IsHead}
 use Rattle.cause_law.proofs.Eventless.{NoEvent, first_plain, later_plain}
-use Rattle.cause_law.proofs.Queue.{queue_is_due}
+use Rattle.cause_law.proofs.Queue.{queue_is_due, said_length}
 use Rattle.ready_law.specs.Answered.{EndsOk, ends_call}
 use Rattle.ready_law.specs.Fair.{IsFair}
 use Rattle.ready_law.proofs.Calls.{ReadyCall, op_at, first_at, queue_at, IsIn, DeliversHead, TellsTimeout, request_message, answer_message}
 use Rattle.ready_law.proofs.Stages.{Stage, Returning, Returned, Asking, Recalling, AskingAgain, Getting, Committing, Committed, Reporting, Reported, Returns, WasReturned, AsksFirst, Recalls, AsksAgain, Gets, Works, Commits, WasCommitted, Reports, WasReported, Working, IsDone, GoesOn, Further, Over, HasSent, asking_at, work_at}
-use Rattle.ready_law.proofs.Going.{StagesGoOn, GoesOnBy, AwaitsDrive, OpensCall}
+use Rattle.ready_law.proofs.Going.{StagesGoOn, GoesOnBy, AwaitsDrive}
 
 -- ---- the whole history
 
@@ -103,10 +102,6 @@ prompt_plan s = record { opening = None; rule = Prompt (first_at s) (Some s.clie
 first_of : (xs ys : List Message) (y : Message) → (x : Message) × (rest : List Message) × (xs ++ y ∷ ys ≡ x ∷ rest)
 first_of [] ys y = (y, ys, refl)
 first_of (x ∷ xs) ys y = (x, xs ++ y ∷ ys, refl)
-
-said_length : (ps : List Posted) → length (said ps) ≡ length ps
-said_length [] = refl
-said_length (p ∷ ps) = ap (λ (k : ℕ). suc k) (said_length ps)
 
 fresh_length : (ps : List _) → length (map fresh ps) ≡ length ps
 fresh_length [] = refl

@@ -9,7 +9,7 @@ use Rattle.world_history.specs.History.{Lawful}
 use Rattle.history_law.specs.Read.{BookIsRead}
 use Rattle.component_law.specs.Apart.{AreApart}
 use Rattle.component_law.specs.Naming.{AreNamed}
-use Rattle.component_law.proofs.MoveFacts.{are_named}
+use Rattle.component_law.proofs.NamedLines.{are_named}
 use Rattle.ready_law.specs.Losses.{StandApart}
 use Rattle.ready_law.proofs.Losses.{elsewhere}
 use Rattle.ready_law.proofs.WorkingForms.{FilesStandApart}

@@ -31,7 +31,7 @@ use Rattle.ready_law.specs.Carried.{WorksUnder, CanServe, IsServedBy, reply_mess
 use Rattle.ready_law.specs.Clear.{HasRoomTo}
 use Rattle.ready_law.specs.Ready.{is_lost, IsTouched, IsInTime, write_end}
 use Rattle.ready_law.specs.Reacting.{IsPhaseOf, IsAwaitedWell, timed_in, is_writing}
-use Rattle.ready_law.proofs.MadeCommands.{IsMade}
+use Rattle.cause_law.proofs.MadeCommands.{IsMade}
 use Rattle.ready_law.proofs.ReadCommands.{made_under}
 use Rattle.ready_law.proofs.ReactingGood.{reached_there, same_end}
 use Rattle.ready_law.proofs.AskingMoves.{IsUnread}

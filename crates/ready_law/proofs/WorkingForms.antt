@@ -24,7 +24,7 @@ use Rattle.ready_law.specs.Clear.{RoomStays}
 use Rattle.ready_law.specs.Enough.{LostAreListed}
 use Rattle.ready_law.specs.Fair.{IsFair}
 use Rattle.ready_law.specs.Load.{Runs}
-use Rattle.ready_law.specs.Offline.{OfflineHaveFailed}
+use Rattle.component_law.specs.Offline.{OfflineHaveFailed}
 use Rattle.ready_law.specs.Ready.{is_listed, is_lost}
 use Rattle.ready_law.specs.Reacting.{IsGood}
 use Rattle.ready_law.proofs.AskingForms.{AskingLaws, Steps}

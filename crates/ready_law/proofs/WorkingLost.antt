@@ -1,6 +1,6 @@
 -- The drives of a working call's components: that of a lost one is deaf, and any other one serves.
 use Rattle.std.proofs.Common.{◌≡◌, ◌≢◌, ◌⊎◌, ◌+◌, ◌||◌, ℕ, zero, suc, Bool, true, false, List, [], ◌∷◌, slice_get, Option, Some, None, true≢false, refl, sym, ap, subst, ◌∙◌, inl, inr, arith, ne_eqb}
-use Rattle.std.proofs.lemmas.Bool.{cases_Bool}
+use Rattle.std.proofs.lemmas.Bool.{cases_Bool, or_parts}
 use Rattle.stripe_plan.specs.Lost.{among}
 use Rattle.scenario_text.specs.declared.line.Line.{Line}
 use Rattle.world_history.specs.ServerNames.{Component}
@@ -9,7 +9,7 @@ use Rattle.world_history.specs.Drives.{is_deaf}
 use Rattle.component_law.specs.Listed.{IsOffline}
 use Rattle.ready_law.specs.Enough.{LostAreListed}
 use Rattle.ready_law.specs.Fair.{IsFair}
-use Rattle.ready_law.specs.Offline.{OfflineHaveFailed}
+use Rattle.component_law.specs.Offline.{OfflineHaveFailed}
 use Rattle.ready_law.specs.Ready.{Scene, has_failed, is_lost, lost_from}
 use Rattle.ready_law.proofs.Losses.{not_before}
 use Rattle.ready_law.proofs.Calls.{ReadyCall, scene_at, kept_at, lost_at}
@@ -39,10 +39,6 @@ lost_back s (c ∷ cs) j (suc i) at e l =
 either_or : (a b : Bool) → (a || b) ≡ true → (a ≡ true) ⊎ (b ≡ true)
 either_or true b e = inl refl
 either_or false b e = inr e
-
-neither : (a b : Bool) → (a || b) ≡ false → (a ≡ false) × (b ≡ false)
-neither true b e = absurd (cc e)
-neither false b e = (refl, e)
 
 -- ---- deaf drives
 
@@ -107,5 +103,5 @@ module _ (s : ReadyCall) (w : World) (go : DrivesGoOn s w) (k : ℕ) (at : Compo
   -- that of any other stands
   pub other_stands : is_lost (scene_at s) at ≡ false → IsThere s w at.drive
   other_stands is =
-      let n = neither at.missing (has_failed (at_number s.world.drives at.drive)) is in
+      let n = or_parts at.missing (has_failed (at_number s.world.drives at.drive)) is in
       stands_still s w at.drive (at_number s.world.drives at.drive) refl (go.each at.drive) n.1

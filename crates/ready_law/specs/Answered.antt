@@ -1,5 +1,5 @@
--- What becomes of ready calls: each whose event is over ends in ok, within a bound of messages. What a ready read is to give is
--- stated here, and no law has it yet.
+-- What becomes of ready calls: each whose event is over ends in ok, within a bound of messages. What a ready read gives where its
+-- event is calm is stated here too, and proved where the headline is known (`history_claims`).
 use Rattle.std.specs.Prelude.{◌≡◌, ℕ, ◌+◌, ◌*◌, ◌≤◌, Bool, false, true, ◌==◌, max, List, [], ◌∷◌, ◌++◌, length}
 use Rattle.std.specs.List.{list_any, sum_by}
 use Rattle.file_log.specs.Judge.{IsRange}

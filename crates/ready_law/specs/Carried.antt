@@ -1,5 +1,5 @@
 -- What a call awaits of a drive is carried out there, and the client hears so.
-use Rattle.std.specs.Prelude.{◌≡◌, ◌≤◌, ◌+◌, ℕ, Bool, false, List, slice_get, Some, None, Ok}
+use Rattle.std.specs.Prelude.{◌≡◌, ◌≤◌, ◌+◌, ℕ, false, List, slice_get, Some, None, Ok}
 use Rattle.osd_lists.specs.declared.node.Node.TheVariants as node
 use Rattle.osd_commands.specs.declared.actions.Action.TheVariants.{Write}
 use Rattle.osd_commands.specs.Commands.{spelling, reading}
@@ -10,7 +10,7 @@ use Rattle.client_rules.specs.declared.limits.TheConstants.{PERFORMED}
 use Rattle.client_rules.specs.Calls.{file_of}
 use Rattle.client_rules.specs.Grants.{held_of}
 use Rattle.client_rules.specs.Io.{awaited_in}
-use Rattle.client_rules.specs.Messages.{Message as ClientMessage, Replies}
+use Rattle.client_rules.specs.Messages.{Replies}
 use Rattle.scenario_text.specs.declared.line.Line.{Line}
 use Rattle.world_history.specs.ClientNames.{Awaited, Call, Held, Reply}
 use Rattle.world_history.specs.ServerNames.{File, Component, Grant}

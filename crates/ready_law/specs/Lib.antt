@@ -4,7 +4,6 @@ pub mod Clear
 pub mod Enough
 pub mod Answered
 pub mod Examples
-pub mod Offline
 pub mod Worlds
 pub mod Fair
 pub mod Carried

@@ -144,7 +144,8 @@ write_end f op k = greatest_end k (asks aim.Scatters f.map (span_of op) [] [] (t
 
 -- ---- drives
 
--- The drive isn't down, its clock isn't past the client's grant, nor past one that would be given, and it takes the file's format.
+-- The drive isn't down, its clock isn't past the client's grant, nor past one that would be given, and it takes the file's
+-- format.
 pub record IsInTime (s : Scene) (f : Kept) (client : ℕ) (d : DriveAt) : Type 0 where
   pub up : d.down ≡ false
   pub lease : d.clock ≤ min (s.clock + LEASE) NO_EXPIRY

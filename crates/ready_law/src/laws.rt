@@ -3,7 +3,6 @@ ghost use Rattle.ready_law.specs.Answered.{ReadyIsAnswered};
 ghost use Rattle.ready_law.specs.Clear.{ClearCommandsAreCarriedOut, RoomStays};
 ghost use Rattle.ready_law.specs.Events.{EventsStandApart};
 ghost use Rattle.ready_law.specs.Enough.{EnoughIsLeft, LostAreListed, NoneIsLacked};
-ghost use Rattle.ready_law.specs.Offline.{OfflineHaveFailed};
 ghost use Rattle.ready_law.specs.Examples.{ExamplesAreMet};
 ghost use Rattle.ready_law.specs.Worlds.{ScenesAreRead};
 ghost use Rattle.ready_law.specs.Losses.{BorneIsEnough, LossesAreBorne};
@@ -14,15 +13,14 @@ use cause_law::{
 };
 use component_law::{
     components_agree, components_stand_apart, each_object_is_owned, grants_are_in_order,
-    keys_are_known, no_tag_is_ahead, no_tag_is_behind, nothing_due_rests, server_sent_its_run,
-    server_writes_to_others, sizes_agree,
+    keys_are_known, no_tag_is_ahead, no_tag_is_behind, nothing_due_rests, offline_have_failed,
+    server_sent_its_run, sizes_agree,
 };
 use exchange_law::{
     all_files_fit, awaited_are_taken, clients_agree, clients_are_counted, clients_are_in_step,
     counters_stay_low, files_have_shape, server_is_counted,
 };
 use history_law::{book_is_read, drives_are_read, grants_are_safe, unguessed_are_unforged};
-use load_law::each_call_sends_few;
 use world_history::{messages_are_read, one_event_more};
 
 /// A READ or a WRITE to which no row of a drive's table of verdicts applies, but perhaps that of a repeat, is performed
@@ -68,14 +66,6 @@ pub fn lost_are_listed()
 pub fn none_is_lacked()
     ensures { NoneIsLacked }
 {}
-
-/// At each moment of a history a drive that the server has offline has failed.
-pub fn offline_have_failed()
-    ensures { OfflineHaveFailed }
-{
-    one_event_more();
-    server_writes_to_others();
-}
 
 /// The parties that are read off a history are those of each world that stands for it: a call is ready by the lines
 /// exactly if it is by the world.
@@ -130,7 +120,6 @@ pub fn ready_calls_end_in_ok()
     messages_are_read();
     components_stand_apart();
     files_and_answers_are_readable();
-    each_call_sends_few();
     each_object_is_owned();
     server_sent_its_run();
     clear_commands_are_carried_out();

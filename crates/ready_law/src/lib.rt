@@ -10,6 +10,6 @@ mod laws;
 
 pub use laws::{
     borne_is_enough, clear_commands_are_carried_out, enough_is_left, events_stand_apart,
-    examples_are_met, losses_are_borne, lost_are_listed, none_is_lacked, offline_have_failed,
-    ready_calls_end_in_ok, room_stays, scenes_are_read,
+    examples_are_met, losses_are_borne, lost_are_listed, none_is_lacked, ready_calls_end_in_ok,
+    room_stays, scenes_are_read,
 };

@@ -24,8 +24,7 @@ use Rattle.client_rules.specs.Grants.{held_of}
 use Rattle.client_rules.specs.Answers.{is_loss_taken}
 use Rattle.client_rules.specs.Results.{status_of}
 use Rattle.world_history.specs.ServerNames.{File, Server, Slot, ClientRequest, RequestArgs, Get as Gets, Commit as Commits, Return as Returns}
-use Rattle.exchange_law.specs.Calls.{Has}
-use Rattle.world_history.specs.ClientNames.{Client, Call, CallOp, Held, Need, First, Get, Commit, Report, Close, Phase, Starts, Needs, Waits, Reads, Probes, Gathers, Scatters, Request, TimedOut}
+use Rattle.world_history.specs.ClientNames.{Client, Call, CallOp, Need, First, Get, Commit, Report, Close, Phase, Starts, Needs, Waits, Reads, Probes, Gathers, Scatters, Request, TimedOut}
 use Rattle.world_history.specs.State.{World}
 use Rattle.world_history.specs.Sending.{Move, move}
 use Rattle.history_law.specs.Doing.{input_in}
@@ -37,14 +36,11 @@ use Rattle.fence_law.specs.Law.{IsCode}
 use Rattle.fence_law.specs.State.{State, Event, Grant}
 use Rattle.fence_law.specs.State.{Event as event}
 use Rattle.fence_law.specs.State.Call.{Writes as AtWrite}
-use Rattle.fence_law.specs.State.Commit.{CommitDone}
 use Rattle.fence_law.specs.State.{RequestKind as kind}
 use Rattle.fence_law.specs.Machine.{Lawful, after, after_all}
-use Rattle.fence_law.proofs.EveryRun.{keep_sized}
-use Rattle.fence_law.proofs.Safe.{Safe, keep_safe}
-use Rattle.fence_law.proofs.Words.{updated_same}
+use Rattle.fence_law.proofs.Safe.{Safe}
 use Rattle.plan_law.proofs.Codes.{layouts_are_codes}
-use Rattle.file_simulation.specs.Calls.{IsClient, IsHolding, HeldIs, HoldsNone, reports_on, is_taken}
+use Rattle.file_simulation.specs.Calls.{IsClient, HeldIs, HoldsNone, reports_on, is_taken}
 use Rattle.file_simulation.specs.EventLists.{where_so, entry_in, entry_of, of_grant}
 use Rattle.file_simulation.specs.Events.{joined}
 use Rattle.file_simulation.specs.Relation.{client_of}
@@ -59,7 +55,6 @@ use Rattle.relation_law.specs.Steps.{FollowsWhole, KeptGoesOn, whole_behind}
 use Rattle.relation_law.proofs.CallsCarried.{IsEvenCall, client_even, client_granted, client_committed, client_uncommitted, client_untaken, client_taken, waits_is, reporting_is, still_held}
 use Rattle.relation_law.proofs.CallsFrames.{spared_more}
 use Rattle.relation_law.proofs.CallsSpared.{client_spared}
-use Rattle.relation_law.proofs.ComponentsMachine.{right_run}
 use Rattle.relation_law.proofs.FramesParties as parties
 use Rattle.relation_law.proofs.FramesStay.{all_more}
 use Rattle.relation_law.proofs.KeptGoing.{safe_of}
@@ -71,7 +66,7 @@ use Rattle.relation_law.proofs.RequestsOwn.{lines_are, server_is}
 use Rattle.relation_law.proofs.RequestsReturns.{HeldLaws}
 use Rattle.relation_law.proofs.AskedCalls.{get_no_commit, get_no_return, commit_no_get, commit_no_return, return_no_commit, is_returning, returns_by, WaitsFor, even_by, reports_so, quiet_report}
 use Rattle.relation_law.proofs.AskedEvents.{IsQuiet, IsAsked, answer_is, quiet_spares, fences_quiet, asked_goes}
-use Rattle.relation_law.proofs.AskedCommit.{committed_under}
+use Rattle.relation_law.proofs.AskedCommit.{committed_under, size_committed, held_some}
 
 -- ---- a move
 
@@ -386,17 +381,6 @@ module _ (laws : HeldLaws) (keeps : KeptGoesOn) (w : World) (h : List Line) (m :
 
     -- ---- a commit
 
-    held_some : (op : CallOp) (timed : List TimedOut) → x.call ≡ Some (record { op = op; phase = Waits (Commit timed) }) →
-        (file_of op == file) ≡ true → (y : Grant) × (s.held c ≡ Some y)
-    held_some op timed call on =
-        by_held (held_of x.held file) refl
-        (subst (λ (n : ℕ). Has (held_of x.held n)) (eqb-true (file_of op) file on) (asks.commits op (Commit timed) call tt))
-      where
-        by_held : (o : Option Held) → held_of x.held file ≡ o → Has (held_of x.held file) → (y : Grant) × (s.held c ≡ Some y)
-        by_held None e has = absurd (subst Has e has)
-        by_held (Some hh) e has =
-            let z : IsHolding f.kept.map s c hh = subst (HeldIs file f.kept.map s c x None) e before.held in (z.grant, z.held)
-
     commits : (last : Option ℕ) → q.args ≡ Commits last → Goal (whole_behind k)
     commits last args_are = by_call x.call refl
       where
@@ -447,24 +431,9 @@ module _ (laws : HeldLaws) (keeps : KeptGoesOn) (w : World) (h : List Line) (m :
             ∙ ap (λ (n : ℕ). event.ServesOther c ∷ (event.Commits c n out0.0 ∷ [])) (ap entry_in at_) in
             let l = first_lawful (event.ServesOther c ∷ (event.Commits c j out0.0 ∷ [])) first in
             let s1 : State = after s (event.ServesOther c) in
-            let c1 : State = after (after s (event.ServesOther c)) (event.Commits c j out0.0) in
-            let safe1 : Safe s1 = keep_safe s (event.ServesOther c) l.0 safe_ in
-            let safe2 : Safe c1 = keep_safe s1 (event.Commits c j out0.0) l.1.0 safe1 in
-            let sized =
-            keep_sized s1 (event.Commits c j out0.0) l.1.0 safe1
-            (keep_sized s (event.ServesOther c) l.0 safe_ (right_run s code k.follows.run).sized) in
-            let has = held_some op timed call on in
-            let tag : has.0.tag ≡ c1.tag = elim ((safe2.holds.has c has.0 has.1).1) [
-              | inl live ↦ live.0
-              | inr older ↦ absurd (cc (sym older.1 ∙ out))
-            ] in
-            let done : c1.commit c ≡ CommitDone j = updated_same s1.commit c (CommitDone j) in
-            let size : c1.size ≡ max (c1.known_size c) (c1.start j).end_ = elim (sized.knows.held c has.0 has.1 tag) [
-              | inl plain ↦ absurd (plain.1 j done)
-              | inr over ↦
-                  let same : over.0 ≡ j = cc (sym over.1 ∙ done) in
-                  subst (λ (n : ℕ). c1.size ≡ max (c1.known_size c) (c1.start n).end_) same over.2
-            ] in
+            let c1 : State = after s1 (event.Commits c j out0.0) in
+            let has = held_some file f.kept.map s c x before asks op timed call on in
+            let size = size_committed s code k.follows.run safe_ c j out0.0 out has.0 has.1 l in
             let whole : whole_behind k ≡ u = whole_is ∙ ap (after_all u) none_last in
             let a_size : a.size ≡ max (s1.known_size c) (s1.start j).end_ =
             sym size_is ∙ ap (λ (t : State). t.size) whole ∙ seq.size

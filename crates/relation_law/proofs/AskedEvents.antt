@@ -19,9 +19,9 @@ use Rattle.relation_law.specs.CallsFrames.{IsBeside, AreBeside, IsSpared}
 use Rattle.relation_law.specs.Frames.{AreAll}
 use Rattle.relation_law.proofs.CallsFrames.{spared_same, spared_more, spares_all}
 use Rattle.relation_law.proofs.ComponentsGoOn.{lawful_front, lawful_behind}
-use Rattle.relation_law.proofs.FramesGrow.{after_more}
 use Rattle.relation_law.proofs.FramesClient.{where_all}
 use Rattle.relation_law.proofs.RequestsLines.{answer_last, steady_stays, noted_plain}
+use Rattle.relation_law.proofs.KeptNotes.{after_both}
 
 -- ---- events that leave a client
 
@@ -131,7 +131,7 @@ module _ (w : World) (f g : File) (i : Input) (c : ℕ) where
         behind = r.behind;
         spared = spared_more s t r.behind c (quiet_spares c s (table.noted s w f i n) (noted_quiet s w f i n)) r.spared;
         size = r.size ∙ (steady_stays s (table.noted s w f i n) (noted_plain s w f i n)).size;
-        goes = after_more s (table.noted s w f i n) (joined (table.notes_all t w f g i os ns)) ∙ r.goes;
+        goes = after_both s (table.noted s w f i n) (joined (table.notes_all t w f g i os ns)) ∙ r.goes;
         lawful = λ l. r.lawful (lawful_behind s (table.noted s w f i n) (joined (table.notes_all t w f g i os ns)) l);
       }
 
@@ -170,7 +170,7 @@ module _ (w : World) (f g : File) (i : Input) (c : ℕ) where
         spared = r.spared;
         size = r.size;
         goes =
-            after_more s first rest ∙ r.goes
+            after_both s first rest ∙ r.goes
             ∙ ap (λ (l : List Outgoing). after_all r.behind (joined (table.sends_all r.behind w.server g i l))) is
             ∙ answer_last w f g i r.behind os a none;
         first = λ l. lawful_front s first rest l;

@@ -33,7 +33,8 @@ module _ (w : World) (h : List Line) (k : IsMoment w h) (text : AreOfText h) (s 
   works_at c None e = tt
   works_at c (Some a) e = clients_always (λ n y. ClientWorks y) works_kept w (reached w h k) c a e
 
-  pub low_at : (c : ℕ) (call : Call) (o : Option ClientAt) → at_number w.clients c ≡ o → (state_of c o).call ≡ Some call → c < CLIENTS
+  pub low_at : (c : ℕ) (call : Call) (o : Option ClientAt) → at_number w.clients c ≡ o →
+      (state_of c o).call ≡ Some call → c < CLIENTS
   low_at c call None e is = absurd (cc is)
   low_at c call (Some a) e is = client_low w h k text c a e
 

@@ -17,6 +17,7 @@ use Rattle.client_rules.specs.Laws.{Awaiting}
 use Rattle.client_rules.specs.Reads.{reads_on, reads_unless, reads, reads_due, probes_on, probes_sent, probes_by, probes}
 use Rattle.client_rules.specs.Turns.{ended}
 use Rattle.client_rules.specs.Writes.{accounted, is_past_size, written, firsts, laters, scatters_on, scatters, gathers_on, gathers, gathers_due}
+use Rattle.client_rules.proofs.Asked.{front_none}
 use Rattle.world_history.specs.ClientNames.{CallOp, Held, Awaited, TimedOut, Store, Column, Span, Commit, Needs, ReadOk, Lost, Goes, Ends}
 use Rattle.fence_law.specs.State.{State}
 use Rattle.fence_law.specs.State.Commit.{NoCommit}
@@ -36,10 +37,6 @@ counted_is h sent = record { same = refl; more = omega arith }
 pub none_in : {A : Type 0} (xs : List A) → ((x : A) → In x xs → ⊥) → xs ≡ []
 none_in [] none = refl
 none_in (x ∷ xs) none = absurd (none x (inl refl))
-
-pub none_front : {A : Type 0} (xs ys : List A) → xs ++ ys ≡ [] → xs ≡ []
-none_front [] ys e = refl
-none_front (x ∷ xs) ys e = absurd (cc e)
 
 pub none_behind : {A : Type 0} (xs ys : List A) → xs ++ ys ≡ [] → ys ≡ []
 none_behind [] ys e = e
@@ -202,7 +199,7 @@ module _ (m : RawMap) (s : State) (c : ℕ) (op : CallOp) (o : Option Answer) (h
       queue ≡ [] → IsSending s c op (record { awaited = []; got = got; timed = timed }) queue sent →
       (j : ℕ) × IsWriting s c op NoCommit j × ((s.start j).clip ≡ s.known_size c) × AreOut s c j [] [] timed
   over timed got queue sent size none k =
-      let a : k.before ≡ [] = none_front k.before sent (sym k.awaited) in
+      let a : k.before ≡ [] = front_none k.before sent (sym k.awaited) in
       let b : sent ≡ [] = none_behind k.before sent (sym k.awaited) in
       let all : stores_of sent ++ queue ≡ [] = rw (b, none) refl in (
         k.entry,

@@ -172,7 +172,8 @@ module _ (file : ℕ) (m : RawMap) (c : ℕ) (s : State) (x : Client) (slot : Op
     pub timed : (n : ℕ) (call : Call) (h : Held) (a : Awaited) (xs : List Awaited) → IsTimed x i n call h a xs →
         (file_of call.op == file) ≡ true → TimeFits h call.op call.phase a xs
     pub ends : (es : List Event) → table.at_first s file c x i ≡ es → (d : Done) → step x i ≡ finished d →
-        IsTurn file s c x i es d → (w : IsMid file m (after_all s es) c (kept_for slot d.client.outstanding) (op_in x i) d) → EndsWell es d w
+        IsTurn file s c x i es d → (w : IsMid file m (after_all s es) c (kept_for slot d.client.outstanding) (op_in x i) d) →
+        EndsWell es d w
 
   module _ (fits : OwnFits) where
     -- behind the turn
@@ -302,7 +303,8 @@ module _ (file : ℕ) (m : RawMap) (c : ℕ) (s : State) (x : Client) (slot : Op
       replied = reply_goes;
       unheld = λ u es t. absurd (fits.unheld u);
       recalled = λ q is. finish [] (obeys x q) (Stays refl refl refl refl refl refl refl)
-          (as_out [] (pending_op x) (obeys x q) o refl (heard_op _ _ is) (as_it_is fits.has (obeys x q) refl refl refl refl refl refl));
+          (as_out [] (pending_op x) (obeys x q) o refl (heard_op _ _ is)
+          (as_it_is fits.has (obeys x q) refl refl refl refl refl refl));
       unmatched = λ q is. finish [] (no_match x q) (Stays refl refl refl refl refl refl refl)
           (as_out [] (pending_op x) (no_match x q) o refl (heard_op _ _ is)
           (as_it_is fits.has (no_match x q) refl refl refl refl refl refl));

@@ -23,9 +23,9 @@ use Rattle.file_simulation.specs.Calls.{IsClient}
 use Rattle.file_simulation.specs.Relation.{client_of}
 use Rattle.relation_law.specs.Steps.{FollowsWhole, whole_behind}
 use Rattle.relation_law.specs.Frames.{ByClient}
-use Rattle.relation_law.proofs.FramesGrow.{after_more}
 use Rattle.relation_law.proofs.FramesParties.{client_goes, client_before, client_behind, client_alone, server_rests}
 use Rattle.relation_law.proofs.CallsOwn.{OwnFits, own_turn}
+use Rattle.relation_law.proofs.KeptNotes.{after_both}
 
 either_joined : (b : Bool) (lines : Lines) → joined (if b then [] ∷ lines else lines) ≡ joined lines
 either_joined true lines = refl
@@ -48,13 +48,13 @@ goes_as : (s : State) (file c : ℕ) (x : Client) (i : Input) → (i ≡ Resends
     ≡ after_all (after_all s (table.at_first s file c x i))
     (joined (table.at_end (after_all s (table.at_first s file c x i)) file c (op_in x i) (step x i)))
 goes_as s file c x (Calls op) none =
-    after_more s (table.at_first s file c x (Calls op)) (end_events s file c x (Calls op))
+    after_both s (table.at_first s file c x (Calls op)) (end_events s file c x (Calls op))
 goes_as s file c x (Hears from b) none =
-    after_more s (table.at_first s file c x (Hears from b)) (end_events s file c x (Hears from b))
+    after_both s (table.at_first s file c x (Hears from b)) (end_events s file c x (Hears from b))
 goes_as s file c x (TimesOut k) none =
-    after_more s (table.at_first s file c x (TimesOut k)) (end_events s file c x (TimesOut k))
+    after_both s (table.at_first s file c x (TimesOut k)) (end_events s file c x (TimesOut k))
 goes_as s file c x Leaves none =
-    after_more s (table.at_first s file c x Leaves) (end_events s file c x Leaves)
+    after_both s (table.at_first s file c x Leaves) (end_events s file c x Leaves)
 goes_as s file c x Resends none = absurd (none refl)
 
 module _ (w : World) (h : List Line) (m : Move) (f g : File) (s : State) (k : FollowsWhole w h m f g s)

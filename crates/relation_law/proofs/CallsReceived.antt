@@ -75,6 +75,17 @@ clean_return (Gathers io) u = refl
 clean_return (Scatters io queue) u = refl
 clean_return (Waits n) u = absurd u
 
+-- a call on the file that waits for an answer waits so in the machine
+pub wait_on : (file : ℕ) (m : RawMap) (s : machine.State) (c : ℕ) (x : Client) (a : Answer) (op : CallOp) (n : Need) →
+    (file_of op == file) ≡ true → x.call ≡ Some (record { op = op; phase = Waits n }) → CallAt file m s c (Some a) x.call →
+    WaitIs s c op (Some a) n
+wait_on file m s c x a op n here is at_call =
+    at_here (file_of op == file) here (subst (λ z. CallAt file m s c (Some a) z) is at_call)
+  where
+    at_here : (b : Bool) → b ≡ true → CallOn b m s c (record { op = op; phase = Waits n }) (Some a) → WaitIs s c op (Some a) n
+    at_here true e w = w
+    at_here false e w = absurd (true≢false (sym e))
+
 module _ (file : ℕ) (m : RawMap) (c : ℕ) (s : State) (slots : Slots s) (holding : Holds s) (calls : Calls s) (x : Client)
     (slot : Option Slot) (a : Answer) (r : Request) (kept : kept_by slot r ≡ Some a) (k : IsClient file m s c x (Some a))
     (agree : IsOutstanding file m s slot c x r) (slot_same : s.slot c ≡ last_of slot) (fits : AnswerFits file x a r) where
@@ -134,12 +145,7 @@ module _ (file : ℕ) (m : RawMap) (c : ℕ) (s : State) (slots : Slots s) (hold
       on_file = ap (λ (f : ℕ). f == file) (sym (fits.waits op n is).0) ∙ here
 
       wait_is : WaitIs s c op (Some a) n
-      wait_is = at_here (file_of op == file) on_file (subst (λ z. CallAt file m s c (Some a) z) is k.call)
-        where
-          at_here : (b : Bool) → b ≡ true → CallOn b m s c (record { op = op; phase = Waits n }) (Some a) →
-              WaitIs s c op (Some a) n
-          at_here true e w = w
-          at_here false e w = absurd (true≢false (sym e))
+      wait_is = wait_on file m s c x a op n on_file is k.call
 
       -- what comes of it
       abbrev Goal : machine.State → Type 0

@@ -20,6 +20,7 @@ use Rattle.client_rules.specs.Replies.{refusal, refused_report, refused, perform
 use Rattle.client_rules.specs.Requests.{report_of}
 use Rattle.client_rules.specs.Turns.{turned, ended, closing}
 use Rattle.client_rules.specs.Writes.{scatters_on, scatters_next, next_to, without_next, without_component, is_too_short, gathers_on, gathers, scatters, accounted, written, is_past_size}
+use Rattle.client_rules.proofs.Asked.{front_none}
 use Rattle.world_history.specs.ClientNames.{CallOp, Held, Awaited, TimedOut, IoErr, Store, Column, Span, Io, Phase, Reads, Probes, Gathers, Scatters, Lost, Silent, Forgets, Moved}
 use Rattle.fence_law.specs.State.{State}
 use Rattle.fence_law.specs.State.{Event as event}
@@ -30,7 +31,7 @@ use Rattle.file_simulation.specs.ClientEvents as table
 use Rattle.file_simulation.specs.Calls.{IsReading, IsGathering, IsScattering, IsTimedOut, CallIs}
 use Rattle.relation_law.specs.CallsTurns.{IsSending, MovedIs, WritesSome, IsQueueBehind, IsWorking, ReplyFits, TimeFits, stores_of}
 use Rattle.relation_law.proofs.CallsFirst.{ends_idle, breaks_broken, forgets_idle, forgets_none}
-use Rattle.relation_law.proofs.CallsMoved.{counted_same, counted_is, none_front, none_behind, reads_on_is, probes_on_is, gathers_on_is, scatters_on_is, scatters_begin, first_sent}
+use Rattle.relation_law.proofs.CallsMoved.{counted_same, counted_is, none_behind, reads_on_is, probes_on_is, gathers_on_is, scatters_on_is, scatters_begin, first_sent}
 use Rattle.relation_law.proofs.CallsDone.{write_performed, write_timed}
 use Rattle.relation_law.proofs.CallsQueue.{stores_are, scattering_queue, next_there, next_from, next_differ, none_queued_performed, none_queued_timed}
 
@@ -106,7 +107,7 @@ module _ (m : RawMap) (c : ℕ) (op : CallOp) (o : Option Answer) (h : Held) whe
       let cs : List Awaited = write_commands h (next_to a.ask.component queue) in
       scatters_on_is m t c op o h io.timed (without_next a.ask.component queue) cs
       (others io.awaited a.command.nonce ++ cs) size
-      (λ e. none_queued_performed io.awaited queue a differ behind (none_front (others io.awaited a.command.nonce) cs e)
+      (λ e. none_queued_performed io.awaited queue a differ behind (front_none (others io.awaited a.command.nonce) cs e)
       (none_sent (next_to a.ask.component queue) (none_behind (others io.awaited a.command.nonce) cs e)))
       (next_sending s io queue a j n there differ k)
     where

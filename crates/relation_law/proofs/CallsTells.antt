@@ -24,10 +24,10 @@ use Rattle.file_simulation.specs.Events.{joined}
 use Rattle.file_simulation.specs.ClientEvents as table
 use Rattle.file_simulation.specs.Calls.{IsReading, IsGathering, IsScattering}
 use Rattle.relation_law.specs.CallsTurns.{PendsRead, PendsGather, IsSending, store_of, stores_of}
-use Rattle.relation_law.proofs.FramesGrow.{after_more}
 use Rattle.relation_law.proofs.CallsEnded.{IsUnmoved}
 use Rattle.relation_law.proofs.CallsSends.{read_starts, gather_starts}
 use Rattle.relation_law.proofs.CallsOut.{write_sent}
+use Rattle.relation_law.proofs.KeptNotes.{after_both}
 
 -- ---- messages, one behind the other
 
@@ -40,7 +40,7 @@ pub told_is : (s : State) (file c : ℕ) (x : Client) (os : List Outgoing) →
 unfolding told table.sends_all
 told_is s file c x [] = refl
 told_is s file c x (o ∷ os) =
-    after_more s (table.sends s file c x o) (joined (table.sends_all (after_all s (table.sends s file c x o)) file c x os))
+    after_both s (table.sends s file c x o) (joined (table.sends_all (after_all s (table.sends s file c x o)) file c x os))
     ∙ told_is (after_all s (table.sends s file c x o)) file c x os
 
 pub told_more : (s : State) (file c : ℕ) (x : Client) (os ps : List Outgoing) →

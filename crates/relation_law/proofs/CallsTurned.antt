@@ -54,6 +54,15 @@ after_other hs f n (args.LayoutGet a) ne = refl
 after_other hs f n (args.LayoutCommit a) ne = refl
 after_other hs f n (args.LayoutReturn a) ne = without_other hs f n ne
 
+-- the client behind the return of this grant
+abbrev pub returned : Client → Due → Client
+returned y u = record y {
+  due = due_behind y.held y.due;
+  next = after_number y.next;
+  outstanding = Some (request_of y u.file (return_args u.number []));
+  held = without_held y.held u.file;
+}
+
 module _ (file : ℕ) (m : RawMap) (c : ℕ) (s : State) (holding : Holds s) (slots : Slots s) (op : Option CallOp)
     (slot : Option Slot) (d : Done) (k : IsMid file m s c (kept_for slot d.client.outstanding) op d)
     (over : d.outcome ≡ None) where
@@ -169,22 +178,13 @@ module _ (file : ℕ) (m : RawMap) (c : ℕ) (s : State) (holding : Holds s) (sl
       quiet_call : reports_on file y.call ≡ false
       quiet_call = ap (reports_on file) none
 
-      -- the client behind the return of this grant
-      abbrev returned : Due → Client
-      returned u = record y {
-        due = due_behind y.held y.due;
-        next = after_number y.next;
-        outstanding = Some (request_of y u.file (return_args u.number []));
-        held = without_held y.held u.file;
-      }
-
       none_now : (t : State) (x : Client) (cs : List Awaited) → x.call ≡ None → told t file c x (map to_drive cs) ≡ t
       none_now t x cs e = commands_quiet t file c x cs (λ v z. rw e refl)
 
       due_other : (u : Due) → (u.file == file) ≡ false → IsBehind (returns d (Some u))
       unfolding requests
       due_other u off =
-          let x : Client = returned u in
+          let x : Client = returned y u in
           let r : Request = request_of y u.file (return_args u.number []) in
           let t : State = after s (event.AsksOther c) in
           let w : IsClient file m t c x (kept_for slot (Some r)) =
@@ -202,7 +202,7 @@ module _ (file : ℕ) (m : RawMap) (c : ℕ) (s : State) (holding : Holds s) (sl
 
       -- behind the return the machine's client holds nothing
       due_events : (u : Due) → (u.file == file) ≡ true → (q : Option Held) → held_of y.held file ≡ q →
-          IsClient file m (after_all s (of_grant (s.held c) (λ g. event.GivesBack c g ∷ []))) c (returned u) None
+          IsClient file m (after_all s (of_grant (s.held c) (λ g. event.GivesBack c g ∷ []))) c (returned y u) None
       due_events u here q e = by_held q e
         where
           gone : held_of (without_held y.held u.file) file ≡ None
@@ -217,7 +217,7 @@ module _ (file : ℕ) (m : RawMap) (c : ℕ) (s : State) (holding : Holds s) (sl
               held_plain file m s c y (record y { call = None }) (kept_for slot y.outstanding) None None quiet_call refl w
 
           by_held : (z : Option Held) → held_of y.held file ≡ z →
-              IsClient file m (after_all s (of_grant (s.held c) (λ g. event.GivesBack c g ∷ []))) c (returned u) None
+              IsClient file m (after_all s (of_grant (s.held c) (λ g. event.GivesBack c g ∷ []))) c (returned y u) None
           by_held None f = rw (plain_none (holds None f)) (record {
             held = rw (gone, none) (plain_none (holds None f));
             call = rw none idle;
@@ -226,18 +226,18 @@ module _ (file : ℕ) (m : RawMap) (c : ℕ) (s : State) (holding : Holds s) (sl
           })
           by_held (Some h) f =
               let z : IsHolding m s c h = holds (Some h) f in
-              rw z.held (gives_back file m c s slots k.used (returned u) None z.grant gone quiet_call
+              rw z.held (gives_back file m c s slots k.used (returned y u) None z.grant gone quiet_call
               (rw none (gives_back_idle s c z.grant idle)))
 
       due_asked : (u : Due) → (u.file == file) ≡ true →
-          table.asks s file c (returned u) (request_of y u.file (return_args u.number []))
+          table.asks s file c (returned y u) (request_of y u.file (return_args u.number []))
           ≡ of_grant (s.held c) (λ g. event.GivesBack c g ∷ [])
       due_asked u here = rw (here, none) refl
 
       due_here : (u : Due) → (u.file == file) ≡ true → IsBehind (returns d (Some u))
       unfolding requests
       due_here u here =
-          let x : Client = returned u in
+          let x : Client = returned y u in
           let r : Request = request_of y u.file (return_args u.number []) in
           let w = due_events u here (held_of y.held file) refl in
           subst (λ o. IsClient file m (told s file c x (sends_of (returns d (Some u)))) c x o) (sym (fits.unanswered r refl))

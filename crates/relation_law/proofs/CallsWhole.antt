@@ -19,11 +19,11 @@ use Rattle.file_simulation.specs.ClientEvents as table
 use Rattle.file_simulation.specs.Requests.{kept_for}
 use Rattle.file_simulation.specs.Calls.{IsClient}
 use Rattle.relation_law.specs.CallsTurns.{IsMid}
-use Rattle.relation_law.proofs.FramesGrow.{after_more}
 use Rattle.relation_law.proofs.CallsMid.{AsksOfBegin, begun_mid}
 use Rattle.relation_law.proofs.CallsEnded.{ended_mid}
 use Rattle.relation_law.proofs.CallsTells.{told, told_is}
 use Rattle.relation_law.proofs.CallsTurned.{EndFits, turn_ends}
+use Rattle.relation_law.proofs.KeptNotes.{after_both}
 
 -- ---- the outcome stands beside what goes to the server
 
@@ -147,7 +147,7 @@ module _ (file : ℕ) (m : RawMap) (c : ℕ) (slot : Option Slot) (s : State) (o
       rw (outcome_stays e ∙ is) (told_is s file c (progressed e).client (sends_of (progressed e)))
   lines_by (Some u) is =
       rw (outcome_stays e ∙ is)
-      (after_more s (table.ended s file c op (Some u))
+      (after_both s (table.ended s file c op (Some u))
       (joined
       (table.sends_all (after_all s (table.ended s file c op (Some u))) file c (progressed e).client
       (sends_of (progressed e))))

@@ -13,9 +13,9 @@ use Rattle.fence_law.proofs.Judge.{is_whole}
 use Rattle.fence_law.proofs.Words.{updated_at, updated_other}
 use Rattle.file_simulation.specs.Showing.{IsRun}
 use Rattle.relation_law.specs.Frames.{AreAll, IsOfClient}
-use Rattle.relation_law.proofs.FramesGrow.{after_more}
 use Rattle.relation_law.proofs.FramesStay.{server_stays_all}
 use Rattle.relation_law.proofs.RequestsLawful.{lawful_more}
+use Rattle.relation_law.proofs.KeptNotes.{after_both}
 
 -- ---- one event
 
@@ -127,7 +127,7 @@ client_run c s run es owned lawful =
     let calms_there : Calms (reached s.layout run.events) es =
     subst (λ (z : State). Calms z es) run.state (client_calms c s es owned (calm_now s run)) in
     let there : after_all (new_file_state s.layout) (run.events ++ es) ≡ after_all s es =
-    after_more (new_file_state s.layout) run.events es ∙ ap (λ (z : State). after_all z es) (sym run.state) in
+    after_both (new_file_state s.layout) run.events es ∙ ap (λ (z : State). after_all z es) (sym run.state) in
     record {
       events = run.events ++ es;
       lawful = subst (λ (l : Layout). Lawful (new_file_state l) (run.events ++ es)) (sym layout)

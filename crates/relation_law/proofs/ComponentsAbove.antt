@@ -41,6 +41,7 @@ use Rattle.history_law.specs.Turns.{IsAnswered}
 use Rattle.component_law.specs.Objects.{AreOwned}
 use Rattle.component_law.specs.Sent.{IsSentByRun}
 use Rattle.component_law.proofs.ObjectRuns.{each_object_is_owned}
+use Rattle.component_law.proofs.Given.{taken_gives}
 use Rattle.exchange_law.specs.Awaited.{AreFew}
 use Rattle.exchange_law.specs.Calls.{IsAsking, CallFine, PhaseFine as CallPhaseFine}
 use Rattle.exchange_law.specs.Given.{CanTake}
@@ -57,7 +58,7 @@ use Rattle.exchange_law.proofs.Turns.{messages_behind}
 use Rattle.cause_law.specs.Fresh.{GrantsAreFresh}
 use Rattle.cause_law.specs.Readable.{AnswersAreFit}
 use Rattle.cause_law.proofs.Fresh.{owner_is, new_held}
-use Rattle.cause_law.proofs.Moments.{Stands, stands, taken_gives}
+use Rattle.cause_law.proofs.Moments.{Stands, stands}
 use Rattle.cause_law.proofs.Objects.{placed_there}
 use Rattle.fence_law.specs.State.{State}
 use Rattle.fence_law.specs.State.RequestKind.{Get as AskedGet}
@@ -90,6 +91,14 @@ phase_of_call S hs (Some x) call e k =
 -- a grant that is to be given is above all that was used
 new_low : (used number g count : ℕ) → used < g * NONCES → g ≡ number → used ≤ number * NONCES + count
 new_low used number g count less same = omega (arith, less, same)
+
+-- what a client sent is backed by a capability
+pub backed_there : AnswersAreFit → (w : World) (h : List Line) → IsMoment w h → IsOfScenario h → (d e : ℕ) (y : Command) →
+    HasSent w d e y → IsBacked y
+backed_there answers w h moment scenario d e y i none =
+    let fit = answers h (lawful_at w h moment) scenario.text scenario.few in
+    let may : MaySend e y = placed_there w h moment fit (message_of d e y) i in
+    cc (sym (ap (λ q. nat_eq (bit_and q.rights (right_of y.action)) 0) none ∙ nothing_allowed y.action) ∙ may.placed.right)
 
 module _ (laws : HeldLaws) (given : GrantsAreFresh) (answers : AnswersAreFit) (w : World) (h : List Line) (m : Move) (f g : File)
     (s : State) (k : FollowsWhole w h m f g s) (next : IsMoment (move w m).world (h ++ lines_in w m))
@@ -237,19 +246,18 @@ module _ (laws : HeldLaws) (given : GrantsAreFresh) (answers : AnswersAreFit) (w
 
   -- each client's command is backed
   pub backed : (d e : ℕ) (y : Command) → HasSent (move w m).world d e y → IsBacked y
-  backed d e y i none =
-      let fit = answers (h ++ lines_in w m) (lawful_at (move w m).world (h ++ lines_in w m) next) later.text later.few in
-      let may : MaySend e y = placed_there (move w m).world (h ++ lines_in w m) next fit (message_of d e y) i in
-      cc (sym (ap (λ q. nat_eq (bit_and q.rights (right_of y.action)) 0) none ∙ nothing_allowed y.action) ∙ may.placed.right)
+  backed = backed_there answers (move w m).world (h ++ lines_in w m) next later
 
   -- the object is the file's
   is_its : (i : ℕ) (at : Component) → slice_get f.kept.components i ≡ Some at → owns.0 at.object ≡ file
   is_its i at found =
       let mine = owns.1 its_run.run [] (sym (append-nil its_run.run)) f
       (subst (λ (y : Server). In f y.files) its_run.is (in_at w.server.files file f there)) in
-      (mine.components at.object (in_map (λ (y : Component). y.object) at f.kept.components (got_in f.kept.components i at found))).1
+      (mine.components at.object
+      (in_map (λ (y : Component). y.object) at f.kept.components (got_in f.kept.components i at found))).1
 
-  pub sends_above : AreComponents s w f → ((a : Awaited) → In a (awaited_of j.state.call) → HasSent w j.client a.drive a.command) →
+  pub sends_above : AreComponents s w f →
+      ((a : Awaited) → In a (awaited_of j.state.call) → HasSent w j.client a.drive a.command) →
       OfClients s w (move w m).world f
   sends_above components awaits i at found stands d e y below has write object =
       elim (sent_either d e y has) [

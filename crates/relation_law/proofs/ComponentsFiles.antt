@@ -11,9 +11,10 @@ use Rattle.world_history.specs.Sending.{Move, move}
 use Rattle.world_history.specs.Plans.{due}
 use Rattle.history_law.specs.BookMoments.{IsMoment, plan_at}
 use Rattle.history_law.specs.Doing.{input_in}
-use Rattle.component_law.specs.Sound.{IsSound, IsAimed, IsAim, target_of, target_in}
+use Rattle.component_law.specs.Sound.{IsSound, IsAimed, IsAim}
 use Rattle.component_law.specs.Tags.{EachStepRaisesTags}
 use Rattle.component_law.specs.Words.{Each}
+use Rattle.component_law.specs.Objects.{target_of, target_in}
 use Rattle.exchange_law.proofs.CountMoments.{reached}
 use Rattle.relation_law.specs.ComponentsBehind.{AreUnready}
 use Rattle.relation_law.specs.ComponentsFacts.{IsFair, OfServer}
@@ -29,7 +30,7 @@ module _ (w : World) (h : List Line) (k : IsMoment w h) (m : Move) (d : due (pla
     (there : file_at w.server.files f.kept.number ≡ Some f)
     (goes : file_at (move w m).world.server.files f.kept.number ≡ Some g) (i : Input) (is : input_in w m.action ≡ Some i)
     (sound : IsSound w.server) (raises : EachStepRaisesTags) where
-  aimed : (x : File) → In x w.server.files → (j : Job) (t : Target) → x.job ≡ Some j → target_in j.work ≡ Some t →
+  pub aimed : (x : File) → In x w.server.files → (j : Job) (t : Target) → x.job ≡ Some j → target_in j.work ≡ Some t →
       IsAim x.kept.components (Some t)
   aimed x inn j t job target =
       subst (IsAim x.kept.components) (ap target_of job ∙ target) (of_each IsAimed w.server.files x sound.aimed inn)

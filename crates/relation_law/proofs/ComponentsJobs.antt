@@ -14,7 +14,7 @@ use Rattle.server_rules.specs.Repair.{after_repair, mended, repairs, storing, st
 use Rattle.server_rules.specs.Replies.{fills_up, hears, Hearing, Older, Full, Done, Nothing, others}
 use Rattle.server_rules.specs.Standing.{lose_from, lose_on, any_on}
 use Rattle.component_law.specs.Components.{is_lacking}
-use Rattle.component_law.specs.Sound.{target_in}
+use Rattle.component_law.specs.Objects.{target_in}
 use Rattle.world_history.specs.ServerNames.{Kept, Note, NoteKind, Ready, Fenced, Repaired, NoDrive, NoSpace, Spent, Job, JobKind, Making, Revoking, Rebuilding, Auditing, Work, Creates, Fences, Fetches, Stores, Targets, Gathers, Fills, Lengths, Checks, Awaited, Heard, Piece, Target, Tally, Component, Reply}
 use Rattle.relation_law.specs.ComponentsWalk.{is_silent, IsWalked}
 

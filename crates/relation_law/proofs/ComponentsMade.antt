@@ -19,7 +19,7 @@ use Rattle.history_law.specs.BookMoments.{IsMoment}
 use Rattle.history_law.specs.Unforged.{AreUnforged}
 use Rattle.history_law.specs.Holder.{UnforgedHolderIsServer}
 use Rattle.history_law.specs.Reaching.{has_reached, has_tag, reached_in}
-use Rattle.component_law.proofs.MoveFacts.{are_named}
+use Rattle.component_law.proofs.NamedLines.{are_named}
 use Rattle.exchange_law.specs.Counters.{ServerIsCounted}
 use Rattle.exchange_law.specs.Files.{AllFilesFit}
 use Rattle.component_law.specs.First.{CreatesAreFirst}
@@ -72,7 +72,9 @@ module _ (w : World) (run : IsSentByRun w) (room : counters_have_room w.server �
 unreached : (o : Option DriveAt) (object tag : ℕ) → has_failed o ≡ false → object_on o object ≡ None →
     has_reached object tag o ≡ true → ⊥
 unreached None object tag lives none e = cc e
-unreached (Some a) object tag lives none e = by (object_at a.state.store object) none (sym (ap (λ (b : Bool). b || has_tag tag (object_at a.state.store object)) lives) ∙ e)
+unreached (Some a) object tag lives none e =
+    by (object_at a.state.store object) none
+    (sym (ap (λ (b : Bool). b || has_tag tag (object_at a.state.store object)) lives) ∙ e)
   where
     by : (q : Option StoredObject) → q ≡ None → has_tag tag q ≡ true → ⊥
     by None is x = cc x

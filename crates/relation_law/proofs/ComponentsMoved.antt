@@ -13,13 +13,11 @@ use Rattle.world_history.specs.Sending.{Move, move}
 use Rattle.history_law.specs.BookMoments.{IsMoment, lines_in}
 use Rattle.history_law.specs.Doing.{input_in}
 use Rattle.history_law.specs.Unforged.{AreUnforged, UnguessedAreUnforged}
-use Rattle.history_law.proofs.Staying.{written_front}
 use Rattle.component_law.specs.Moments.{ServerWritesToOthers}
 use Rattle.component_law.specs.Sound.{IsSound, EachStepIsSound}
 use Rattle.component_law.specs.Tags.{EachStepRaisesTags}
-use Rattle.component_law.proofs.MoveFacts.{are_named}
+use Rattle.component_law.proofs.NamedLines.{are_named}
 use Rattle.exchange_law.specs.Counters.{CountersStayLow}
-use Rattle.exchange_law.proofs.CountGrowing.{fewer, text_front}
 use Rattle.exchange_law.proofs.HeldWorlds.{next_moment}
 use Rattle.exchange_law.proofs.Knowing.{lawful_at}
 use Rattle.exchange_law.proofs.RefusalClients.{Known}
@@ -38,6 +36,7 @@ use Rattle.fence_law.proofs.Safe.{Safe}
 use Rattle.plan_law.proofs.Codes.{layouts_are_codes}
 use Rattle.file_simulation.specs.Claim.{IsOfScenario}
 use Rattle.file_simulation.specs.ClientEvents.{Going, going_in}
+use Rattle.file_simulation.proofs.Fronts.{scenario_before}
 use Rattle.relation_law.specs.ComponentsFacts.{OfServer}
 use Rattle.relation_law.specs.ComponentsFollow.{EachRebuiltStands, EachWriteHasItsPlace, ComponentsFollow}
 use Rattle.relation_law.specs.ComponentsMove.{OfMove}
@@ -93,11 +92,7 @@ module _ (laws : MovedLaws) (w : World) (h : List Line) (m : Move) (f g : File) 
   later = subst (λ (ls : List Line). IsOfScenario (h ++ ls)) (taken_all (lines_in w m)) k.follows.calm.scenario
 
   pub scenario : IsOfScenario h
-  scenario = record {
-    written = written_front h (lines_in w m) later.written;
-    text = text_front h (lines_in w m) later.text;
-    few = fewer h (lines_in w m) later.few;
-  }
+  scenario = scenario_before h (lines_in w m) later
 
   pub clean : unguessed (h ++ lines_in w m) ≡ true
   clean = ap (λ (ls : List Line). unguessed (h ++ ls)) (sym (taken_all (lines_in w m))) ∙ k.follows.calm.is_unguessed
@@ -122,7 +117,8 @@ module _ (laws : MovedLaws) (w : World) (h : List Line) (m : Move) (f g : File) 
   fine : AllFine w
   fine =
       fine_at laws.made.more h
-      (laws.fresh h (laws.held.right.readable h (lawful_at w h k.follows.moment) scenario.text scenario.few) (omega (arith, scenario.few)))
+      (laws.fresh h (laws.held.right.readable h (lawful_at w h k.follows.moment) scenario.text scenario.few)
+      (omega (arith, scenario.few)))
       w
       k.follows.moment
 
@@ -130,7 +126,8 @@ module _ (laws : MovedLaws) (w : World) (h : List Line) (m : Move) (f g : File) 
   pub server_needs : (i : Input) → input_in w m.action ≡ Some i → OfServer w (move w m).world f g i
   server_needs i is =
       let stays = file_stays w h k.follows.moment m k.follows.is_due f.kept.number f g k.follows.there k.follows.goes in
-      of_server w h k.follows.moment m k.follows.is_due f g k.follows.there k.follows.goes i is (sound_there laws.sound w run) laws.raises
+      of_server w h k.follows.moment m k.follows.is_due f g k.follows.there k.follows.goes i is
+      (sound_there laws.sound w run) laws.raises
       (is_fair laws.made.more laws.others w h k.follows.moment m k.follows.is_due f i is)
       (unready_at laws.made (move w m).world (h ++ lines_in w m) behind later unforged g
       (subst (λ n. file_at (move w m).world.server.files n ≡ Some g) (sym stays.same.number) k.follows.goes))

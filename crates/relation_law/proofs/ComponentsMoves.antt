@@ -13,7 +13,7 @@ use Rattle.server_rules.specs.Orders.{offline, ordered}
 use Rattle.world_history.specs.ServerNames.{File, Component, Note, Drive, ToRecall, ToRevoke, ToDeclare, ToRebuild, ToAudit}
 use Rattle.world_history.specs.State.{World}
 use Rattle.world_history.specs.Sending.{sends_all}
-use Rattle.component_law.specs.Performing.{AreDistinct}
+use Rattle.component_law.specs.Distinct.{AreDistinct}
 use Rattle.fence_law.specs.Words.{In as InRun}
 use Rattle.fence_law.specs.State.{State, Event}
 use Rattle.fence_law.specs.State.{Event as event}
@@ -31,12 +31,12 @@ use Rattle.relation_law.proofs.FramesStay.{all_more, all_joined}
 use Rattle.relation_law.proofs.FramesClient.{where_all}
 use Rattle.relation_law.proofs.FramesServer.{at_first, noted_all}
 use Rattle.relation_law.proofs.FramesOthers.{clients_by_server, replies_by_server}
-use Rattle.relation_law.proofs.FramesGrow.{after_more}
 use Rattle.relation_law.proofs.ComponentsFirst.{first_such, sends_such, Spares, spared, such_spares, IssuesNone, unissued, such_issue}
 use Rattle.relation_law.proofs.ComponentsNotes.{Told, AreTold, told_left}
 use Rattle.relation_law.proofs.ComponentsServer.{start_told, declared_told, notes_state, notes_unissued, IsGone, server_components, server_lanes}
 use Rattle.relation_law.proofs.ComponentsSteps.{AreAimed, tells_step, declared}
 use Rattle.relation_law.proofs.DriveStays.{IsAlike}
+use Rattle.relation_law.proofs.KeptNotes.{after_both}
 
 -- ---- lists
 
@@ -156,7 +156,7 @@ module _ (s : State) (w v : World) (f g : File) (i : Input) (chosen : List ℕ) 
 
   state_is : after_all s step_events ≡ after_all t1 (joined (table.sends_all t1 w.server g i did.sends))
   state_is =
-      after_more s (table.at_first s w.server did f g i) (joined (table.notes_all t0 w f g i did.sends did.notes))
+      after_both s (table.at_first s w.server did f g i) (joined (table.notes_all t0 w f g i did.sends did.notes))
       ∙ notes_state t0 w f g i did.sends did.notes
 
   told : AreTold s t0 w f i g.kept did.notes

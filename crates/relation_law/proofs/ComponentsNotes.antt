@@ -185,7 +185,7 @@ set_length (y ∷ cs) (suc n) x = ap suc (set_length cs n x)
 
 -- ---- a silent note
 
-silent_leaves : (t : State) (w : World) (f : File) (i : Input) (kind : NoteKind) (j : ℕ) → is_silent kind ≡ true →
+pub silent_leaves : (t : State) (w : World) (f : File) (i : Input) (kind : NoteKind) (j : ℕ) → is_silent kind ≡ true →
     Leaves t (after_all t (table.noted_here t w f i kind)) j
 silent_leaves t w f i Ready j e = leaves_same t j
 silent_leaves t w f i (FencedNote tag) j e = fence t.repairing

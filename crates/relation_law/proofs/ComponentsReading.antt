@@ -25,6 +25,7 @@ use Rattle.osd_commands.proofs.Writing.{length-fields, check_len-bounds}
 use Rattle.history_law.proofs.Spelled.{command_reads}
 use Rattle.history_law.proofs.Carried.{read_spelled}
 use Rattle.relation_law.specs.DriveHearing.{IsReadAs}
+use Rattle.relation_law.proofs.Hearing.{unreserved}
 
 -- ---- what is read of bytes
 
@@ -168,10 +169,6 @@ offset_read y x e low =
     ∙ ap (from_be_bytes w64) (offset_there y) ∙ from_be_bytes-to_be_bytes_8 y.offset low
 
 -- ---- the format
-
-unreserved : (o : Option ℕ) (x c : Capability) → cap.unless_reserved o x ≡ Ok c → x ≡ c
-unreserved None x c e = cc e
-unreserved (Some at) x c e = absurd (cc e)
 
 format_in : (bytes : List ℕ) (c : Capability) → cap.reading bytes ≡ Ok c → c.format ≡ slice_index bytes 0
 unfolding cap.reading cap.capability_at

@@ -145,7 +145,8 @@ pub record SenderLaws : Type 0 where
   pub answers : AnswersAreFit
   pub places : PlacesAreEnough
 
-module _ (laws : SenderLaws) (w : World) (h : List Line) (k : IsMoment w h) (scenario : IsOfScenario h) (run : IsSentByRun w) where
+module _ (laws : SenderLaws) (w : World) (h : List Line) (k : IsMoment w h) (scenario : IsOfScenario h)
+    (run : IsSentByRun w) where
   known : IsKnown w h
   known = at_moment IsKnown all_known w h k
 

@@ -27,11 +27,11 @@ use Rattle.relation_law.specs.ComponentsBehind.{AreUnready, RebuiltStand}
 use Rattle.relation_law.specs.ComponentsWalk.{noted_after}
 use Rattle.relation_law.specs.Frames.{AreAll, ClientsStay, RepliesStay}
 use Rattle.relation_law.proofs.FramesClient.{where_all}
-use Rattle.relation_law.proofs.FramesGrow.{after_more}
 use Rattle.relation_law.proofs.ComponentsFirst.{spared, IssuesNone, unissued}
 use Rattle.relation_law.proofs.ComponentsKept.{stands_kept}
 use Rattle.relation_law.proofs.ComponentsNotes.{Leaves, Told, WasKept, AreTold}
 use Rattle.relation_law.proofs.DriveStays.{IsAlike}
+use Rattle.relation_law.proofs.KeptNotes.{after_both}
 
 -- ---- where a step begins
 
@@ -225,7 +225,7 @@ pub notes_state : (t : State) (w : World) (f g : File) (i : Input) (os : List Ou
 unfolding table.notes_all noted_after
 notes_state t w f g i os [] = refl
 notes_state t w f g i os (n ∷ ns) =
-    after_more t (table.noted t w f i n) (joined (table.notes_all (after_all t (table.noted t w f i n)) w f g i os ns))
+    after_both t (table.noted t w f i n) (joined (table.notes_all (after_all t (table.noted t w f i n)) w f g i os ns))
     ∙ notes_state (after_all t (table.noted t w f i n)) w f g i os ns
 
 -- notes issue no grant

@@ -24,10 +24,10 @@ use Rattle.server_rules.specs.Requests.{serves, on_request}
 use Rattle.server_rules.specs.Standing.{lose_on, any_on}
 use Rattle.server_rules.proofs.FileLaws.{number_at, put_same, put_other, add_other, not_there}
 use Rattle.component_law.specs.Components.{is_lacking}
-use Rattle.component_law.specs.Performing.{AreDistinct}
-use Rattle.component_law.specs.Sound.{target_in}
+use Rattle.component_law.specs.Distinct.{AreDistinct}
 use Rattle.component_law.specs.Words.{Each}
 use Rattle.component_law.proofs.Components.{none_lost_on}
+use Rattle.component_law.specs.Objects.{target_in}
 use Rattle.history_law.proofs.Steps.{each_request}
 use Rattle.history_law.specs.Steps.{new_file}
 use Rattle.world_history.specs.ServerNames.{Server, File, Kept, Note, NoteKind, Busy, Spent, Drive, Job, JobKind, Revoking, Rebuilding, Auditing, Awaited, Target, Effects, ClientRequest, Reply, OrderKind, IsSpent, HasStarted, ToRecall, ToRevoke, ToDeclare, ToRebuild, ToAudit}

@@ -142,7 +142,8 @@ module _ (file used : ℕ) (owner : ℕ → ℕ) where
   command_of : (n : ℕ) (y : Command) (a : Awaited) → ToDrive n y ≡ to_drive a → (a.drive ≡ n) × (a.command ≡ y)
   command_of n y a e = (cc (sym e), cc (sym e))
 
-  pub in_sends : (e : Done) (n : ℕ) (y : Command) → In (ToDrive n y) (sends_of e) → (a : Awaited) × In a e.commands × (a.command ≡ y)
+  pub in_sends : (e : Done) (n : ℕ) (y : Command) → In (ToDrive n y) (sends_of e) →
+      (a : Awaited) × In a e.commands × (a.command ≡ y)
   in_sends e n y i = elim (in_either (ToDrive n y) (map AnswersRecall e.recalls) _ i) [
     | inl j ↦ let r = in_mapped AnswersRecall (ToDrive n y) e.recalls j in absurd (cc r.2)
     | inr j ↦ elim (in_either (ToDrive n y) (map Asks e.requests) _ j) [

@@ -48,6 +48,7 @@ use Rattle.exchange_law.specs.Sent.{HasSent, message_of}
 use Rattle.exchange_law.proofs.LatestLaw.{sent_split}
 use Rattle.exchange_law.proofs.Replied.{from_server, addressed}
 use Rattle.exchange_law.proofs.RefusalSending.{command_posted, resent_awaited}
+use Rattle.exchange_law.proofs.SlotMoments.{not_there}
 use Rattle.file_simulation.specs.Components.{object_on, has_failed}
 use Rattle.file_simulation.specs.ClientEvents.{Going, going, hearing, opened, leaving, going_in}
 use Rattle.relation_law.specs.DriveHearing.{AwaitedAreSent}
@@ -145,7 +146,7 @@ absent : (w : World) (does : ClientAt → Act) (o : Option ClientAt) → o ≡ N
 absent w does None none = still w
 absent w does (Some a) none = absurd (cc none)
 
-not_going : (c : ℕ) (i : client.Input) (o : Option ClientAt) → going c i o ≡ None → o ≡ None
+pub not_going : (c : ℕ) (i : client.Input) (o : Option ClientAt) → going c i o ≡ None → o ≡ None
 not_going c i None e = refl
 not_going c i (Some a) e = absurd (cc e)
 
@@ -279,10 +280,6 @@ adds w d key capacity stored none =
     (alike w (and_drive w d (made_drive d key capacity stored)) [] (one_more w d key capacity stored none) refl (posts_none w))
     (serves w (record w { drives = and_number w.drives d (made_drive d key capacity stored) }) []
     (server.Adds (world.known_drive d key capacity)) (one_more w d key capacity stored none) refl)
-
-not_there : {X : Type 0} → (o : Option X) → unless_there (is_some o) ≡ None → o ≡ None
-not_there None e = refl
-not_there (Some x) e = absurd (cc e)
 
 new_drive : (w : World) (d : ℕ) → first_of (unless_there (is_some (at_number w.drives d))) (unless_down w) ≡ None →
     at_number w.drives d ≡ None

@@ -1,7 +1,7 @@
 -- What a performed command leaves of its object: the tag, the bytes, and the lanes.
 -- Towards `ComponentsGoOn` (`specs/Steps.antt`).
-use Rattle.std.proofs.Common.{◌≡◌, ◌⊎◌, ℕ, ◌+◌, ◌-◌, ◌<◌, ◌≤◌, ◌&&◌, Bool, true, false, List, [], ◌∷◌, length, Option, Some, None, IsSome, is_some, nat_eq, nat_lt, refl, sym, ap, subst, ◌∙◌, inl, inr, arith}
-use Rattle.std.specs.Prelude.{get_or, slice_index, option_map}
+use Rattle.std.proofs.Common.{◌≡◌, ◌⊎◌, ℕ, ◌+◌, ◌-◌, ◌<◌, ◌≤◌, ◌&&◌, Bool, true, false, List, [], ◌∷◌, length, Option, Some, None, IsSome, nat_eq, nat_lt, refl, sym, ap, subst, ◌∙◌, inl, inr, arith}
+use Rattle.std.specs.Prelude.{get_or, slice_index}
 use Rattle.std.proofs.lemmas.Bool.{cases_lt}
 use Rattle.std.proofs.lemmas.Bool.Decides.{nat_tests}
 use Rattle.osd_lists.proofs.Overwritten.{before_overwritten, inside_overwritten, behind_overwritten}
@@ -10,14 +10,14 @@ use Rattle.osd_commands.specs.declared.actions.Action.TheVariants as action
 use Rattle.osd_commands.specs.declared.commands.Command.{Command}
 use Rattle.osd_objects.specs.declared.lanes.LaneEntry.{LaneEntry}
 use Rattle.osd_objects.specs.declared.object.StoredObject.{StoredObject}
-use Rattle.osd_objects.specs.Objects.{state_of, created, after_write, after_set_attr, after_set_tag}
+use Rattle.osd_objects.specs.Objects.{created, after_write, after_set_attr, after_set_tag}
 use Rattle.osd_objects.specs.Sparse.{Sparse, written}
 use Rattle.osd_objects.specs.Store.{object_at, lane_or_none, changed_if_there}
 use Rattle.osd_objects.proofs.Entries.{lookup_inserted, lookup_set}
 use Rattle.osd_drive.specs.State.{DriveState}
 use Rattle.osd_drive.specs.Table.{is_create, is_mutating, of_lane}
 use Rattle.osd_drive.specs.Effects.{lane_for, next_tag, effect_of, performed}
-use Rattle.history_law.proofs.Spending.{IsFree}
+use Rattle.history_law.proofs.Spending.{IsFree, absent}
 use Rattle.history_law.proofs.Raising.{there_with}
 
 -- ---- the object
@@ -68,10 +68,6 @@ reads d c is free =
       tag = r.2;
       behind = ap (λ (b : Action). object_at (effect_of b d.store c) c.object) is ∙ r.1;
     }
-
-absent : (o : Option StoredObject) → is_some (option_map state_of o) ≡ false → o ≡ None
-absent None e = refl
-absent (Some x) e = absurd (cc e)
 
 -- a CREATE finds none, and makes one
 pub creates_none : (d : DriveState) (c : Command) → c.action ≡ action.Create → IsFree d c →

@@ -143,7 +143,8 @@ module _ (s : State) (w v : World) (f : File) (r : IsReady s w f) (d : ℕ) (a b
         lanes = lanes_idle s w v f d a b x p r.laid g becomes same r.components s (rests a.state x (inl read));
       }
 
-      pub of_client_goes : (x.action ≡ action.Read → ShowsRight s w f c k x) → GoWell s w v f (of_client s w f.kept.number k c x x.action)
+      pub of_client_goes : (x.action ≡ action.Read → ShowsRight s w f c k x) →
+          GoWell s w v f (of_client s w f.kept.number k c x x.action)
       of_client_goes right = elim of.action [
         | inl read ↦
             subst (λ (y : Action). GoWell s w v f (of_client s w f.kept.number k c x y)) (sym read)

@@ -7,12 +7,11 @@ use Rattle.world_history.specs.ServerNames.{File}
 use Rattle.world_history.specs.Sending.{Move, move}
 use Rattle.world_history.specs.State.{World}
 use Rattle.history_law.specs.BookMoments.{IsMoment, lines_in}
-use Rattle.history_law.proofs.Staying.{written_front}
-use Rattle.exchange_law.proofs.CountGrowing.{fewer, text_front}
 use Rattle.history_law.proofs.Ending.{next_moment}
 use Rattle.history_law.proofs.Files.{in_at}
 use Rattle.fence_law.specs.State.{State}
 use Rattle.file_simulation.specs.Claim.{IsOfScenario}
+use Rattle.file_simulation.proofs.Fronts.{scenario_before}
 use Rattle.relation_law.specs.Steps.{FollowsWhole}
 
 pub all_taken : (xs : List Line) → take (length xs) xs ≡ xs
@@ -27,11 +26,7 @@ module _ (w : World) (h : List Line) (m : Move) (f g : File) (s : State) (k : Fo
   later = subst (λ (ls : List Line). IsOfScenario (h ++ ls)) (all_taken (lines_in w m)) k.follows.calm.scenario
 
   pub scenario : IsOfScenario h
-  scenario = record {
-    written = written_front h (lines_in w m) later.written;
-    text = text_front h (lines_in w m) later.text;
-    few = fewer h (lines_in w m) later.few;
-  }
+  scenario = scenario_before h (lines_in w m) later
 
   pub in_before : In f w.server.files
   in_before = in_at w.server.files f.kept.number f k.follows.there

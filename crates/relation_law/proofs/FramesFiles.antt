@@ -26,7 +26,7 @@ use Rattle.history_law.proofs.Files.{in_at}
 use Rattle.history_law.proofs.Reached.{always}
 use Rattle.history_law.proofs.Steps.{each_step, each_request}
 use Rattle.component_law.specs.Words.{Each}
-use Rattle.component_law.specs.Performing.{AreDistinct}
+use Rattle.component_law.specs.Distinct.{AreDistinct}
 use Rattle.component_law.proofs.Making.{none_there, distinct_added}
 use Rattle.exchange_law.specs.Shapes.{FilesHaveShape}
 use Rattle.exchange_law.proofs.CountMoments.{reached}

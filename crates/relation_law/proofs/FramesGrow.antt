@@ -1,5 +1,5 @@
 -- Whatever happens to the machine, its log and what was sent only grow.
-use Rattle.std.proofs.Common.{◌≡◌, List, [], ◌∷◌, ◌++◌, refl, ◌∙◌, inr, arith}
+use Rattle.std.proofs.Common.{List, [], ◌∷◌, refl, ◌∙◌, inr, arith}
 use Rattle.fence_law.specs.State.{State, Event}
 use Rattle.fence_law.specs.State.Event.{Asks, Grants, Refuses, GivesBack, Reports, Frees, StartsWrite, Sends, StartsRead, Repairs, Rebuilds}
 use Rattle.fence_law.specs.Machine.{after, after_all}
@@ -108,8 +108,3 @@ log_after s e = log_same s
 pub log_grows : (s : State) (es : List Event) → LogGrows s (after_all s es)
 log_grows s [] = log_same s
 log_grows s (e ∷ es) = log_more s (after s e) (after_all (after s e) es) (log_after s e) (log_grows (after s e) es)
-
--- the machine behind two lists
-pub after_more : (s : State) (es fs : List Event) → after_all s (es ++ fs) ≡ after_all (after_all s es) fs
-after_more s [] fs = refl
-after_more s (e ∷ es) fs = after_more (after s e) es fs

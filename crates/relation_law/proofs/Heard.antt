@@ -1,19 +1,13 @@
 -- What a client takes of a drive as the reply to a command that it awaits is a reply that the drive sent, and all its bytes.
 -- Towards `CallsGoOn` (`relation_law/specs/Steps.antt`).
 use Rattle.std.proofs.Common.{◌≡◌, ◌<◌, ◌^◌, ◌%◌, ℕ, true, List, length, Option, Some, None, Result, Ok, Err, refl, sym, ap, subst, ◌∙◌, arith}
-use Rattle.std.specs.Prelude.{slice_range, nat_lt, nat_eq, not}
-use Rattle.std.specs.Int.{w32, from_be_bytes}
 use Rattle.std.proofs.lemmas.Bool.{eq-eqb}
-use Rattle.osd_lists.specs.Blocks.{first_nonzero}
-use Rattle.osd_lists.proofs.Options.{guard_ok}
 use Rattle.osd_lists.specs.declared.node.Node.{Node}
 use Rattle.osd_lists.specs.declared.node.Node.TheVariants as node
 use Rattle.osd_commands.specs.declared.commands.Command.{Command}
 use Rattle.osd_commands.specs.declared.commands.CommandErr.{CommandErr}
-use Rattle.osd_commands.specs.declared.commands.CommandErr.TheVariants.{Short, Magic, BadAction, Length}
 use Rattle.osd_commands.specs.declared.replies.Reply.{Reply}
-use Rattle.osd_commands.specs.Replies.{magic, action_at, verdict_at, is_verdict, is_sized, fields, spelling, reply_at, sized, unless_reserved, reading}
-use Rattle.osd_commands.proofs.Passing.{if_ok}
+use Rattle.osd_commands.specs.Replies.{fields, spelling, reply_at, sized, unless_reserved, reading}
 use Rattle.scenario_text.specs.declared.line.Line.{Line}
 use Rattle.server_rules.specs.Laws.{In}
 use Rattle.client_rules.specs.declared.limits.TheConstants.{PERFORMED}
@@ -39,7 +33,7 @@ use Rattle.exchange_law.proofs.CommandRead.{nonce_read}
 use Rattle.exchange_law.proofs.Judging.{answers_drive, drive_says}
 use Rattle.exchange_law.proofs.RefusalClients.{Known}
 use Rattle.exchange_law.proofs.RefusalVerdicts.{judged_agrees}
-use Rattle.exchange_law.proofs.ReplyRead.{ReadsAs, reply_read}
+use Rattle.exchange_law.proofs.ReplyRead.{ReadsAs, reply_read, read_at}
 use Rattle.exchange_law.proofs.Turning.{body_in, sent_by}
 use Rattle.history_law.proofs.Spelled.{reply_reads}
 use Rattle.file_simulation.specs.Messages.{HasReplied}
@@ -52,23 +46,12 @@ reserved_ok : (bytes : List ℕ) (o : Option ℕ) (r : Reply) → unless_reserve
 reserved_ok bytes None r e = e
 reserved_ok bytes (Some at) r e = absurd (cc e)
 
-read_is : (bytes : List ℕ) (r : Reply) → reading bytes ≡ Ok r → reply_at bytes ≡ r
-unfolding reading reply_at
-read_is bytes r e =
-    let one = guard_ok (nat_lt (length bytes) 40) Short _ r e in
-    let two = guard_ok (not (nat_eq (from_be_bytes w32 (slice_range bytes 0 4)) magic)) Magic _ r one.1 in
-    let three = guard_ok (nat_lt 6 (action_at bytes)) (BadAction (action_at bytes)) _ r two.1 in
-    let four = guard_ok (not (is_verdict (verdict_at bytes))) (BadAction (verdict_at bytes)) _ r three.1 in
-    let five = reserved_ok bytes (first_nonzero bytes 36 40) r four.1 in
-    (if_ok (is_sized bytes (action_at bytes) (verdict_at bytes) (length (reply_at bytes).payload))
-    (Length (length (reply_at bytes).payload)) (reply_at bytes) r five).1
-
 payload_there : (r : Reply) → (reply_at (spelling r)).payload ≡ r.payload
 unfolding reply_at spelling fields
 payload_there r = refl
 
 pub payload_read : (r read : Reply) → reading (spelling r) ≡ Ok read → read.payload ≡ r.payload
-payload_read r read e = ap (λ (x : Reply). x.payload) (sym (read_is (spelling r) read e)) ∙ payload_there r
+payload_read r read e = ap (λ (x : Reply). x.payload) (sym (read_at (spelling r) read e)) ∙ payload_there r
 
 -- ---- its nonce
 

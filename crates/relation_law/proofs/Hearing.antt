@@ -5,7 +5,7 @@ use Rattle.std.proofs.lemmas.Bool.Decides.{nat_tests}
 use Rattle.std.proofs.lemmas.Bool.{and_parts, cases_Bool, eqb-true}
 use Rattle.std.proofs.lemmas.List.{append-nil}
 use Rattle.std.proofs.lemmas.Option.{same_Some}
-use Rattle.osd_lists.proofs.Tests.{differ, or_none}
+use Rattle.osd_lists.proofs.Tests.{differ}
 use Rattle.osd_lists.proofs.Options.{guard_ok}
 use Rattle.osd_lists.specs.declared.node.Node.{Node}
 use Rattle.osd_lists.specs.declared.node.Node.TheVariants as node
@@ -26,7 +26,7 @@ use Rattle.osd_objects.specs.Store.{object_at, lane_or_none}
 use Rattle.osd_drive.specs.declared.verdict.Verdict.{Verdict}
 use Rattle.osd_drive.specs.declared.verdict.Verdict.TheVariants as verdict
 use Rattle.osd_drive.specs.State.{DriveState}
-use Rattle.osd_drive.specs.Table.{first_fault, all_rows, is_mutating, of_lane}
+use Rattle.osd_drive.specs.Table.{first_fault, is_mutating, of_lane}
 use Rattle.osd_drive.specs.Effects.{format_reply, reply_by, state_by, lane_for, kept_reply}
 use Rattle.server_rules.specs.declared.limits.TheConstants.{SERVER_HOLDER, PERFORMED, OLD_FORMAT}
 use Rattle.server_rules.specs.History.{Act, state_after, step}
@@ -37,7 +37,6 @@ use Rattle.server_rules.specs.Messages.{Replies as RepliesTo, awaited_by, counte
 use Rattle.server_rules.specs.Replies.{answers}
 use Rattle.server_rules.proofs.Members.{in_map, in_either}
 use Rattle.scenario_text.specs.declared.line.Party.TheVariants as party
-use Rattle.scenario_text.specs.declared.event.Event.{Event}
 use Rattle.scenario_text.specs.declared.line.Line.{Line}
 use Rattle.scenario_text.specs.declared.line.Line.TheVariants as line
 use Rattle.world_history.specs.ServerNames.{Awaited, File, Server}
@@ -51,39 +50,34 @@ use Rattle.world_history.specs.Handed.{for_server}
 use Rattle.world_history.specs.Reading.{sent_in}
 use Rattle.world_history.specs.ReadDrives.{drive_after}
 use Rattle.world_history.specs.Laws.{shown}
-use Rattle.world_history.specs.Plans.{plan_of}
-use Rattle.world_history.specs.Runs.{world_after, AreDue}
-use Rattle.world_history.specs.History.{StandsFor, OneEventMore}
-use Rattle.world_history.specs.Refusals.{refusal}
-use Rattle.world_history.specs.Sending.{Move}
-use Rattle.history_law.specs.BookMoments.{IsMoment, lines_so_far}
-use Rattle.history_law.proofs.Histories.{stands, kept_part}
+use Rattle.world_history.specs.History.{OneEventMore}
+use Rattle.history_law.specs.BookMoments.{IsMoment}
 use Rattle.history_law.specs.Judging.{Replies}
 use Rattle.history_law.specs.Spent.{HasPassed, IsSpent, IsSpentOn, Spends}
 use Rattle.history_law.proofs.Carried.{read_spelled}
 use Rattle.history_law.proofs.DriveLines.{sent_read, shown_get, drive_read}
 use Rattle.history_law.proofs.DriveEvents.{IsRead}
-use Rattle.history_law.proofs.HistoryTelling.{again_row, first_applies, result_done}
+use Rattle.history_law.proofs.HistoryTelling.{again_row, result_done, old_row}
 use Rattle.history_law.proofs.Lanes.{lane_passed}
 use Rattle.history_law.proofs.Spending.{all_spend, free}
-use Rattle.component_law.proofs.MoveFacts.{are_named}
+use Rattle.component_law.proofs.NamedLines.{are_named}
 use Rattle.history_law.specs.Numbered.{Awaits, IsOf}
 use Rattle.history_law.specs.Owned.{AreOwned}
 use Rattle.history_law.proofs.JobSteps.{step_owns}
 use Rattle.history_law.specs.Names.{ToDrive}
 use Rattle.exchange_law.specs.Counters.{CountersStayLow}
-use Rattle.history_law.proofs.Heard.{IsCommand}
+use Rattle.history_law.proofs.Heard.{IsCommand, world_command}
 use Rattle.history_law.proofs.LaneLines.{letter, letters, letters_stay, in_get, SentTo}
 use Rattle.history_law.proofs.FencingMoves.{messages_in}
 use Rattle.history_law.proofs.Letters.{Told, letters_told}
 use Rattle.history_law.proofs.Numbers.{Numbers, to_drive}
-use Rattle.history_law.proofs.Holding.{Holds, holds}
+use Rattle.history_law.proofs.Holding.{Holds}
 use Rattle.history_law.proofs.Spelled.{command_reads, RepliesAs, reply_reads}
 use Rattle.history_law.proofs.Telling.{reply_nonce_is, verdict_low}
+use Rattle.history_law.proofs.Ending.{at_moment}
 use Rattle.component_law.specs.Sent.{IsSentByRun}
 use Rattle.component_law.specs.Tagged.{NoCommandIsAhead, sent_over}
 use Rattle.component_law.proofs.Moments.{server_sent_its_run}
-use Rattle.component_law.proofs.Letters.{world_command}
 use Rattle.relation_law.proofs.DriveObjects.{writes}
 use Rattle.file_simulation.specs.Claim.{IsOfScenario}
 use Rattle.relation_law.specs.Hearing.{TellsOfWrite, HeardTellsOfWrites}
@@ -195,11 +189,6 @@ abbrev is_old : Verdict → Bool
 is_old verdict.OldFormat = true
 is_old v = false
 
-old_row : (d : DriveState) (now : ℕ) (c : Command) → first_fault d now c ≡ verdict.OldFormat
-    → nat_lt c.capability.format d.least ≡ true
-unfolding first_fault
-old_row d now c e = or_none _ (first_applies is_old (all_rows d now c) refl (ap is_old e))
-
 -- one that is refused for its format is of an older one than the drive's least
 older : (a : DriveAt) (c : Command) (v : Verdict) → first_fault a.state a.clock c ≡ v →
     (reply_by v a.state c).verdict ≡ 17 → c.capability.format < a.state.least
@@ -240,7 +229,7 @@ read_nonce w d bytes k c low read =
     (command_reads k.command c (ap reading (sym k.bytes_are) ∙ read)).nonce below in
     (same, omega (arith, same, below))
 
-unreserved : (o : Option ℕ) (x c : Capability) → cap.unless_reserved o x ≡ Ok c → x ≡ c
+pub unreserved : (o : Option ℕ) (x c : Capability) → cap.unless_reserved o x ≡ Ok c → x ≡ c
 unreserved None x c e = cc e
 unreserved (Some at) x c e = absurd (cc e)
 
@@ -447,18 +436,6 @@ module _ (w : World) (h : List Line) (r : IsRead w h) (n : Numbers w) (low : cou
       (ap (λ (b : List Line). drive_after b d) (sym t.lines_are) ∙ drive_read w r.injected h d r.drives) at_end
 
 -- ---- at each moment
-
-at_moves : (v : World) (h : List Line) (e : Event) (ms : List Move) → StandsFor v h → refusal v e ≡ None
-    → AreDue (plan_of v e) v ms → Holds (world_after v ms) (h ++ lines_so_far v e ms)
-at_moves v h e [] s allowed d = subst (Holds v) (sym (append-nil h)) (stands Holds holds v h s)
-at_moves v h e (m ∷ ms) s allowed d = kept_part Holds holds v h e m ms d allowed (stands Holds holds v h s)
-
--- the drives are read off the lines, and nonces don't repeat
-pub at_moment : (w : World) (h : List Line) → IsMoment w h → Holds w h
-at_moment w h k =
-    subst (λ (v : World). Holds v h) (sym k.world_is)
-    (subst (Holds (world_after k.before k.moves)) (sym k.lines_are)
-    (at_moves k.before k.history k.event k.moves k.stands k.allowed k.are_due))
 
 -- so it is of a reply among the messages to the server
 pub tells_at : OneEventMore → CountersStayLow → NoCommandIsAhead → (w : World) (h : List Line) → IsMoment w h →

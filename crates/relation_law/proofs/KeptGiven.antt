@@ -18,7 +18,6 @@ use Rattle.server_rules.specs.Slots.{slot_of}
 use Rattle.world_history.specs.ClientNames.{Client}
 use Rattle.world_history.specs.ServerNames.{File, ClientRequest, Commit as Commits}
 use Rattle.world_history.specs.declared.messages.Posted.{Posted}
-use Rattle.world_history.specs.declared.err.WorldErr.TheVariants.{Running}
 use Rattle.world_history.specs.History.{OneEventMore}
 use Rattle.world_history.specs.State.{World, at_number}
 use Rattle.world_history.specs.Handed.{for_server}
@@ -38,7 +37,7 @@ use Rattle.exchange_law.proofs.CountMoments.{reached}
 use Rattle.exchange_law.proofs.Knowing.{lawful_at}
 use Rattle.cause_law.specs.Readable.{FilesAndAnswersAreReadable}
 use Rattle.component_law.specs.Turns.{in_turn}
-use Rattle.component_law.proofs.Doing.{IsAllowed}
+use Rattle.component_law.proofs.Doing.{IsAllowed, is_opened}
 use Rattle.component_law.proofs.Moments.{allowed_at}
 use Rattle.fence_law.specs.State.{State}
 use Rattle.file_simulation.specs.Relation.{client_of}
@@ -105,10 +104,6 @@ delivered_turn : (w : World) (o : Option Posted) (i : Input) → brought w o ≡
 delivered_turn w None i e = absurd (cc e)
 delivered_turn w (Some p) i e = brought_turn w p p.message.to i e
 
-opened : (down : Bool) → (if down then None else Some Running) ≡ None → down ≡ true
-opened true e = refl
-opened false e = absurd (cc e)
-
 opened_turn : (w : World) (x : Event) (i : Input) → refusal w x ≡ None → input_in w (Opens x) ≡ Some i
     → in_turn w.down i ≡ true
 unfolding refusal
@@ -135,7 +130,7 @@ opened_turn w (event.Resend sender.Server) i ok e = absurd (cc e)
 opened_turn w (event.Resend (sender.Client c)) i ok e = absurd (cc e)
 opened_turn w (event.Crash machine.Server) i ok e = given w _ i e (up w ok)
 opened_turn w (event.Crash (machine.Drive d)) i ok e = absurd (cc e)
-opened_turn w (event.Reopen machine.Server) i ok e = given w _ i e (opened w.down ok)
+opened_turn w (event.Reopen machine.Server) i ok e = given w _ i e (is_opened w.down ok)
 opened_turn w (event.Reopen (machine.Drive d)) i ok e = absurd (cc e)
 opened_turn w x i ok e = absurd (cc e)
 

@@ -1,7 +1,7 @@
 -- The opening of a server: what the machine of one file has behind it.
 -- Towards `KeptGoesOn` (`specs/Steps.antt`).
-use Rattle.std.proofs.Common.{◌≡◌, ◌==◌, ◌&&◌, ◌||◌, ℕ, Bool, true, false, not, List, [], ◌∷◌, Some, refl, sym, ap, subst, ◌∙◌, inl, inr, nat_lt, length}
-use Rattle.std.proofs.lemmas.Bool.{cases_Bool, eqb-true, eq-eqb, eqb-false, true≢false}
+use Rattle.std.proofs.Common.{◌≡◌, ◌==◌, ◌&&◌, ◌||◌, ℕ, Bool, true, false, not, List, [], ◌∷◌, Some, refl, sym, ap, subst, ◌∙◌, inl, inr}
+use Rattle.std.proofs.lemmas.Bool.{cases_Bool, eqb-true, eq-eqb, eqb-false}
 use Rattle.std.proofs.lemmas.List.{append-nil}
 use Rattle.server_rules.specs.declared.limits.TheConstants.{GREATEST_TAG}
 use Rattle.component_law.specs.Tagged.{is_fence, fence_open}
@@ -10,8 +10,8 @@ use Rattle.server_rules.specs.Going.{Going}
 use Rattle.server_rules.specs.History.{Input}
 use Rattle.server_rules.specs.Openings.{is_unsettled, opens_made, opens_fenced, opens, opens_each}
 use Rattle.component_law.specs.Words.{Each}
-use Rattle.component_law.specs.Performing.{AreDistinct}
-use Rattle.world_history.specs.ServerNames.{File, Kept, Still, Note, Effects, Drive, Revoking, Phase, Fencing, Repairing, FencingAgain}
+use Rattle.component_law.specs.Distinct.{AreDistinct}
+use Rattle.world_history.specs.ServerNames.{File, Kept, Still, Note, Effects, Drive, Revoking}
 use Rattle.world_history.specs.State.{World}
 use Rattle.fence_law.specs.State.{State, Event}
 use Rattle.file_simulation.specs.ServerEvents.{begins_fence}
@@ -20,26 +20,7 @@ use Rattle.component_law.specs.KeptWalk.{IsWalked}
 use Rattle.component_law.proofs.KeptJobs.{ends_opened}
 use Rattle.relation_law.proofs.KeptEnds.{fence_shows}
 use Rattle.relation_law.proofs.KeptRounds.{IsFrom, Quiet, quiet_walked, AllOther, HasGone, AddsNone, front_is, behind_is}
-use Rattle.component_law.proofs.KeptOpening.{IsIdle, has_to_fence, ends_opens}
-
--- what has nothing to fence is still
-settled : (k : Kept) (p : Phase) → k.phase ≡ p → is_unsettled k ≡ false → k.phase ≡ Still
-settled k Still is u = is
-settled k Fencing is u = absurd (flag (nat_lt 0 (length k.grants)) (rw is at u))
-  where
-    flag : (b : Bool) → (b || true) ≡ false → ⊥
-    flag true e = true≢false e
-    flag false e = true≢false e
-settled k Repairing is u = absurd (flag (nat_lt 0 (length k.grants)) (rw is at u))
-  where
-    flag : (b : Bool) → (b || true) ≡ false → ⊥
-    flag true e = true≢false e
-    flag false e = true≢false e
-settled k FencingAgain is u = absurd (flag (nat_lt 0 (length k.grants)) (rw is at u))
-  where
-    flag : (b : Bool) → (b || true) ≡ false → ⊥
-    flag true e = true≢false e
-    flag false e = true≢false e
+use Rattle.component_law.proofs.KeptOpening.{IsIdle, has_to_fence, ends_opens, settled}
 
 module _ (w : World) (f : File) (i : Input) where
   module _ (t : State) (base : List Note) (es : List Event) (format : ℕ) (ds : List Drive) where

@@ -18,7 +18,7 @@ use Rattle.history_law.specs.Fencing.{Reached}
 use Rattle.history_law.specs.Moments.{IsReached}
 use Rattle.history_law.specs.Said.{IsHeardByServer}
 use Rattle.component_law.specs.Naming.{AreNamed}
-use Rattle.component_law.specs.Performing.{AreDistinct}
+use Rattle.component_law.specs.Distinct.{AreDistinct}
 use Rattle.component_law.specs.Words.{Each}
 use Rattle.exchange_law.specs.Counters.{CountersStayLow}
 use Rattle.exchange_law.specs.Text.{AreOfText, AreFew}

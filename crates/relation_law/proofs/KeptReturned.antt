@@ -31,6 +31,7 @@ use Rattle.file_simulation.specs.ServerEvents.{fences, returned, answered_here, 
 use Rattle.relation_law.specs.KeptAsked.{AsksAs, ReturnIs, IsClean, IsNothing, IsBroken, IsReport}
 use Rattle.relation_law.specs.KeptSteps.{AllLight, notes_events, behind_notes, IsSoFar, IsKeptAt, IsDone}
 use Rattle.component_law.specs.KeptWalk.{AreAlike, is_plain, noted_of}
+use Rattle.component_law.proofs.KeptJobs.{same_but_components}
 use Rattle.component_law.proofs.KeptJobs.{ends_fence}
 use Rattle.relation_law.proofs.KeptHigh.{high_after}
 use Rattle.relation_law.proofs.KeptLight.{so_far_light}
@@ -92,18 +93,7 @@ module _ (Q : Kept → List Note → Type 0)
   loss_walked go ks h =
       all_reported (with_components go (lose_from ks go.file.kept.components 0)) ks go.file.kept.components 0
       (alike go.file.kept (record go.file.kept { components = lose_from ks go.file.kept.components 0 }) go.effects.notes
-      (record {
-        number = refl;
-        map = refl;
-        first_tag = refl;
-        tag = refl;
-        size = refl;
-        high = refl;
-        phase = refl;
-        grants = refl;
-        ended = refl;
-        ready = λ e. e;
-      }) h)
+      (same_but_components go.file.kept (lose_from ks go.file.kept.components 0)) h)
 
 -- nothing else of the file changes, and a client's grant of the machine stays
 job_reported : (go : Going) (ks : List ℕ) (cs : List Component) (k : ℕ) → (reports_from go ks cs k).file.job ≡ go.file.job

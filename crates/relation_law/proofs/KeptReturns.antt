@@ -1,9 +1,9 @@
 -- Grants that are given back, and commits: the machine behind them has what is kept.
 -- Towards `KeptGoesOn` (`specs/Steps.antt`).
-use Rattle.std.proofs.Common.{◌≡◌, ◌==◌, ℕ, ◌+◌, max, List, [], ◌∷◌, Option, Some, None, refl, sym, ap, subst, ◌∙◌, arith, inl, inr}
-use Rattle.std.proofs.lemmas.Bool.{cases_Bool, eqb-true, ne_eqb}
+use Rattle.std.proofs.Common.{◌≡◌, ℕ, ◌+◌, max, List, Option, Some, None, refl, sym, ap, subst, ◌∙◌, arith, inl, inr}
 use Rattle.server_rules.specs.Grants.{grant_of, without}
 use Rattle.world_history.specs.ServerNames.{File, Grant, Phase, Still, Fencing, Repairing, FencingAgain}
+use Rattle.component_law.proofs.Without.{no_grant, other_grant}
 use Rattle.fence_law.specs.State as machine
 use Rattle.fence_law.specs.State.{State}
 use Rattle.fence_law.specs.State.Event.{Frees, Leaves, Commits}
@@ -15,27 +15,6 @@ use Rattle.file_simulation.specs.Phases.{OutstandingIs, IsStill, PhaseIs, AreBel
 use Rattle.relation_law.specs.KeptSteps.{IsKeptAt}
 use Rattle.relation_law.proofs.KeptHigh.{high_after}
 use Rattle.relation_law.proofs.KeptEnds.{low_of}
-
--- ---- the grants of the others
-
-none_without : (gs : List Grant) (c : ℕ) → grant_of (without gs c) c ≡ None
-none_without [] c = refl
-none_without (g ∷ gs) c = elim (cases_Bool (g.client == c)) [
-  | inl t ↦ rw t (none_without gs c)
-  | inr z ↦ rw z (rw z (none_without gs c))
-]
-
-other_without : (gs : List Grant) (c d : ℕ) → (d ≡ c → ⊥) → grant_of (without gs c) d ≡ grant_of gs d
-other_without [] c d ne = refl
-other_without (g ∷ gs) c d ne = elim (cases_Bool (g.client == c)) [
-  | inl t ↦
-      let here : g.client ≡ c = eqb-true g.client c t in
-      rw (t, ne_eqb g.client d (λ e. ne (sym e ∙ here))) (other_without gs c d ne)
-  | inr z ↦ rw z (elim (cases_Bool (g.client == d)) [
-    | inl x ↦ rw x refl
-    | inr y ↦ rw y (other_without gs c d ne)
-  ])
-]
 
 -- ---- a client's grant goes
 
@@ -147,8 +126,8 @@ left_kept next s t f c e p low h =
         fencing = e.fencing ∙ st.fencing;
         repairing = e.repairing ∙ st.repairing;
         outstanding = λ d. elim (updated_read s.outstanding c None d).1 [
-          | inl w ↦ rw (e.outstanding d, w.1, w.0, none_without f.kept.grants c) tt
-          | inr w ↦ rw (e.outstanding d, w.1, other_without f.kept.grants c d w.0) (st.outstanding d)
+          | inl w ↦ rw (e.outstanding d, w.1, w.0, no_grant f.kept.grants c) tt
+          | inr w ↦ rw (e.outstanding d, w.1, other_grant f.kept.grants d c w.0) (st.outstanding d)
         ];
         ended = st.ended;
         unused = λ u. e.granted_since ∙ st.unused u;

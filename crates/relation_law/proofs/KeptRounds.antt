@@ -9,7 +9,7 @@ use Rattle.server_rules.specs.History.{Input}
 use Rattle.server_rules.specs.Jobs.{declares}
 use Rattle.server_rules.specs.Orders.{declares_each}
 use Rattle.component_law.specs.Words.{Each}
-use Rattle.component_law.specs.Performing.{AreDistinct}
+use Rattle.component_law.specs.Distinct.{AreDistinct}
 use Rattle.world_history.specs.ServerNames.{File, Kept, Still, Repairing, Note, NoteKind, Fenced, Repaired, Effects, Drive}
 use Rattle.world_history.specs.State.{World}
 use Rattle.fence_law.specs.State.{State, Event}

@@ -19,7 +19,7 @@ use Rattle.history_law.specs.Steps.{IsAnswering, answered_file, Answering}
 use Rattle.history_law.proofs.Files.{put_gives}
 use Rattle.component_law.proofs.Rounds.{each_at}
 use Rattle.component_law.specs.Words.{Each}
-use Rattle.component_law.specs.Performing.{AreDistinct}
+use Rattle.component_law.specs.Distinct.{AreDistinct}
 use Rattle.world_history.specs.ServerNames.{File, Kept, Note, NoteKind, Busy, Spent, Effects, Drive, Job, JobKind, Awaited, Reply, ToRecall, ToRevoke, ToDeclare, ToRebuild, ToAudit, Component}
 use Rattle.world_history.specs.State.{World}
 use Rattle.fence_law.specs.State.{State, Event}

@@ -61,7 +61,8 @@ piece_of m group high s some low is =
     )
 
 -- the stripe of a cell stands in its component's group
-pub group_here : (m : RawMap) (k z : ℕ) → IsChecked m → k < m.comps → group_of m (stripe_at m (position_in m k) z) ≡ group_with m k
+pub group_here : (m : RawMap) (k z : ℕ) → IsChecked m → k < m.comps
+    → group_of m (stripe_at m (position_in m k) z) ≡ group_with m k
 group_here m k z c below =
     group_again m (position_in m k / group_width m) (z / m.unit) c
     (group_there m (position_in m k) c (stands_at m k c below))

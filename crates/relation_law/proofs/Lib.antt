@@ -12,11 +12,6 @@ pub mod FramesOthers
 pub mod BirthsMachine
 pub mod BirthsClients
 pub mod BirthsShaped
-pub mod PendingEntries
-pub mod PendingLines
-pub mod PendingTurns
-pub mod PendingCalls
-pub mod PendingMoves
 pub mod RequestsRuns
 pub mod RequestsAgree
 pub mod RequestsGuards
@@ -165,6 +160,7 @@ pub mod ReturnsNamed
 pub mod ReturnsMoves
 pub mod ReturnsRun
 pub mod ReturnsServer
+pub mod ClientsWalk
 pub mod ReturnsStands
 pub mod ReturnsRead
 pub mod ReturnsRight

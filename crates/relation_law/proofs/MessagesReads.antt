@@ -17,22 +17,15 @@ use Rattle.client_rules.specs.Io.{outs, had, had_positions, got_of}
 use Rattle.client_rules.specs.Requests.{object_of}
 use Rattle.client_rules.specs.Reads.{reads_on, reads_due, reads_unless, reads, probes_on, probes_due, is_probe_lost, probes_sent, probes_by, probes, first_present}
 use Rattle.client_rules.specs.Replies.{performed}
-use Rattle.client_rules.proofs.Apart.{IsIn}
 use Rattle.client_rules.proofs.Asked.{front_none, rest_none}
 use Rattle.client_rules.proofs.Probed.{no_commands, due_some}
 use Rattle.world_history.specs.ClientNames.{CallOp, Held, Awaited, TimedOut, Io, Column, Reply, Reads, Probes}
 use Rattle.gather_law.proofs.Gathered as gather
+use Rattle.gather_law.proofs.Gathered.{in_to}
 use Rattle.exchange_law.proofs.Had.{AreBelow, others_below, sent_below}
 use Rattle.exchange_law.proofs.RightMoves.{IsReady as IsReadReady, counted_outs, fetched, ready_sent, asked_some, ready_replied, grown}
 use Rattle.relation_law.proofs.MessagesClients.{AreReadsUnder, ReadsSome, ReadsNone, IsSameGrant, MovedFits}
 use Rattle.relation_law.proofs.MessagesMoves.{plan_placed, probes_placed, commands_under, more_under, others_under}
-
--- ---- lists
-
-in_old : (a : Awaited) (xs : List Awaited) → In a xs → IsIn a xs
-in_old a [] i = absurd i
-in_old a (x ∷ xs) (inl e) = inl e
-in_old a (x ∷ xs) (inr i) = inr (in_old a xs i)
 
 -- ---- one grant
 
@@ -174,7 +167,7 @@ read_replied h op io a r ch i g =
     (record { checked = ch; is = g.is; covers = g.covers }) g.some (λ e. grown (got_of a r) io.got)
     (others_under h io.awaited a.command.nonce g.reads) (nonce_at h h.count) (omega arith)
     (ready_replied h.map (clipped h.size (span_of op)) (outs h io.timed) io.got io.awaited a r (nonce_at h h.count)
-    (in_old a io.awaited i) g.ready)
+    (in_to a io.awaited i) g.ready)
 
 pub probe_replied : (h : Held) (op : CallOp) (io : Io) (a : Awaited) (r : Reply) → IsChecked h.map → ReadsNone h op io →
     MovedFits h op (io.got ++ got_of a r ∷ []) (performed h op (Probes io) a r)

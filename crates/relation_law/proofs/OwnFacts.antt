@@ -129,7 +129,7 @@ module _ (x : Client) (i : Input) (fine : IsFine x) (works : ClientWorks x) wher
 -- ---- events
 
 -- what holds of all holds of the first
-all_front : (P : Event → Type 0) (xs ys : List Event) → AreAll P (xs ++ ys) → AreAll P xs
+pub all_front : (P : Event → Type 0) (xs ys : List Event) → AreAll P (xs ++ ys) → AreAll P xs
 all_front P [] ys all = tt
 all_front P (x ∷ xs) ys all = (all.0, all_front P xs ys all.1)
 

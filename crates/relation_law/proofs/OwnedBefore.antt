@@ -24,11 +24,12 @@ use Rattle.world_history.specs.History.{OneEventMore}
 use Rattle.world_history.specs.State.{World, DriveAt, at_number}
 use Rattle.history_law.specs.BookMoments.{IsMoment}
 use Rattle.history_law.specs.Spent.{IsSpent, IsSpentOn}
-use Rattle.component_law.proofs.MoveFacts.{are_named}
+use Rattle.component_law.proofs.NamedLines.{are_named}
 use Rattle.exchange_law.specs.Counters.{CountersStayLow}
 use Rattle.history_law.proofs.Holding.{Holds}
 use Rattle.history_law.proofs.FencingMoves.{IsSent}
 use Rattle.history_law.proofs.Files.{in_at}
+use Rattle.history_law.proofs.Ending.{at_moment}
 use Rattle.component_law.specs.Objects.{NoneIs, objects_of, IsOwned}
 use Rattle.component_law.specs.Sent.{IsSentByRun}
 use Rattle.component_law.specs.Tagged.{NoCommandIsAhead}
@@ -46,7 +47,7 @@ use Rattle.relation_law.specs.Awaiting.{FitsIn}
 use Rattle.relation_law.specs.Hearing.{TellsOfWrite}
 use Rattle.relation_law.specs.Owning.{Coming, AreOfPhase, AreTold, IsReady}
 use Rattle.relation_law.proofs.FittingSteps.{jobs_ask}
-use Rattle.relation_law.proofs.Hearing.{at_moment, tells_at}
+use Rattle.relation_law.proofs.Hearing.{tells_at}
 
 -- ---- what may still come
 

@@ -1,6 +1,6 @@
 -- Behind a whole move what may still come to a component is of the file's repair.
 -- Towards `JobsGoOn` (`relation_law`).
-use Rattle.std.proofs.Common.{◌≡◌, ◌⊎◌, ◌||◌, ◌&&◌, ◌++◌, ℕ, ◌+◌, ◌<◌, ◌^◌, Bool, true, false, not, nat_lt, length, map, List, [], ◌∷◌, slice_get, Option, Some, None, refl, sym, ap, subst, ◌∙◌, append_assoc, inl, inr, arith}
+use Rattle.std.proofs.Common.{◌≡◌, ◌⊎◌, ◌||◌, ◌&&◌, ◌++◌, ℕ, ◌+◌, ◌<◌, ◌^◌, Bool, true, false, not, nat_lt, length, map, List, [], ◌∷◌, slice_get, Option, Some, None, refl, sym, ap, subst, ◌∙◌, inl, inr, arith}
 use Rattle.std.specs.Prelude.{take}
 use Rattle.std.proofs.lemmas.Bool.{cases_eq}
 use Rattle.std.proofs.lemmas.Bool.Decides.{nat_tests}
@@ -32,7 +32,7 @@ use Rattle.history_law.specs.Unforged.{UnguessedAreUnforged}
 use Rattle.history_law.proofs.Coming.{clean_front}
 use Rattle.history_law.proofs.DriveLines.{drive_read}
 use Rattle.history_law.proofs.Each.{EachBehind}
-use Rattle.component_law.specs.Performing.{AreDistinct}
+use Rattle.component_law.specs.Distinct.{AreDistinct}
 use Rattle.component_law.specs.Sound.{IsSound}
 use Rattle.component_law.proofs.Making.{each_step_is_sound}
 use Rattle.component_law.specs.Tags.{EachStepRaisesTags}
@@ -46,6 +46,7 @@ use Rattle.history_law.proofs.Heard.{heard_reached}
 use Rattle.history_law.proofs.FencingMoves.{messages_in, IsSent, Acts, Others, Serves, each_acts}
 use Rattle.history_law.proofs.Numbers.{to_drive, sent_anew, none_anew, messages_sent}
 use Rattle.history_law.proofs.Reaching.{reached_spent}
+use Rattle.history_law.proofs.Ending.{own_each}
 use Rattle.component_law.specs.Objects.{target_in, target_of, IsOwned}
 use Rattle.component_law.specs.Tagged.{AreNamedActs}
 use Rattle.fence_law.specs.State as machine
@@ -82,16 +83,6 @@ old_or_new f n at = by_place (slice_get f.kept.components n) refl
       | inr other ↦ inr (λ old.
           other (ap (λ (y : Component). y.object) (same_Some b old.0 (sym there ∙ old.1)) ∙ old.2))
     ]
-
-pub own_each : (first lines : List Line)
-    → ((before : List Line) (l : Line) (after : List Line) → first ++ lines ≡ before ++ l ∷ after → OwnAt before l)
-    → EachBehind OwnAt first lines
-own_each first [] own = tt
-own_each first (l ∷ lines) own = (
-  own first l lines refl,
-  own_each (first ++ l ∷ []) lines (λ before m after is. own before m after (sym (append_assoc first (l ∷ []) lines)
-      ∙ is)),
-)
 
 sound_over : (s : Server) (acts : List ServerAct) → AreNamedActs acts → IsSound s → IsSound (state_after s acts)
 sound_over s [] named sound = sound

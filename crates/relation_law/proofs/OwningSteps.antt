@@ -19,7 +19,7 @@ use Rattle.server_rules.specs.Standing.{any_on, lose_on, lose_from}
 use Rattle.server_rules.specs.Numbers.{among}
 use Rattle.server_rules.proofs.FileLaws.{number_at}
 use Rattle.server_rules.proofs.Runs.{ran_making}
-use Rattle.server_rules.proofs.Members.{in_front, in_map, in_filter}
+use Rattle.server_rules.proofs.Members.{in_map, in_filter}
 use Rattle.history_law.specs.Names.{Server, File, Still, Repairing, Component, Awaited, Piece, Target, Job, Work, Creates, Fences, Fetches, Stores, Targets, Gathers, Fills, Lengths, Checks, Fenced, NoSpace, Reply}
 use Rattle.history_law.proofs.Asking.{in_lost_on}
 use Rattle.history_law.proofs.Hearing.{found_in}
@@ -30,8 +30,7 @@ use Rattle.file_simulation.specs.Jobs.{IsInPiece, IsOfWork, IsOfPhase}
 use Rattle.relation_law.specs.Awaiting.{IsStore, IsAskedIn, FitsIn}
 use Rattle.relation_law.specs.Owning.{Coming, AreOfPhase, IsReady, OwnedGoOn}
 use Rattle.relation_law.proofs.Walk.{AtFill, walk_full}
-use Rattle.relation_law.proofs.Places.{keep_from, keep_on}
-use Rattle.relation_law.proofs.Ways.{IsAlike, alike_here, FileWays}
+use Rattle.relation_law.proofs.Ways.{IsAlike, alike_here, FileWays, alike_lacks, alike_lost}
 use Rattle.relation_law.proofs.WaysSteps.{files_go}
 use Rattle.relation_law.proofs.OwningPlaces.{Clear, PlaceOwns, Owns, own_cases}
 use Rattle.relation_law.proofs.Owning.{lost_at, among_one, IsOf, of_alike, IsStored, comes_to, AreLeft, loses_owns, answered_owns, here_owns, kept_owns, quiet_clear, fence_owns, opens_owns, crash_owns}
@@ -118,14 +117,7 @@ module _ (C : Coming) (i : Input) (f : File) (ready : IsReady C i f) where
     lacks = noting (with_components g (lose_from (a.component ∷ []) g.file.kept.components 0)) (NoSpace a.component)
 
     lacks_alike : IsAlike g lacks
-    lacks_alike = record {
-      job = refl;
-      number = refl;
-      map = refl;
-      phase = refl;
-      places = keep_from (a.component ∷ []) g.file.kept.components 0;
-      notes = λ x q. in_front x g.effects.notes _ q;
-    }
+    lacks_alike = alike_lacks g a.component
 
     lacks_of : IsOf C i f ready lacks
     lacks_of = of_alike C i f ready g lacks same lacks_alike
@@ -199,14 +191,7 @@ module _ (C : Coming) (i : Input) (f : File) (ready : IsReady C i f) where
       h = with_components g (lose_on drive g.file.kept.components)
 
       lost : IsAlike g h
-      lost = record {
-        job = refl;
-        number = refl;
-        map = refl;
-        phase = refl;
-        places = keep_on drive g.file.kept.components;
-        notes = λ x q. q;
-      }
+      lost = alike_lost g drive
 
       left : (j : Job) (runs : f.job ≡ Some j) →
           AreLeft C i f ready h j runs (of_alike C i f ready g h same lost) (others_than drive j.awaited)

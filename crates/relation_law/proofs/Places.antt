@@ -21,7 +21,7 @@ pub record KeepPlaces (cs ds : List Component) : Type 0 where
 placed_here : (a : Component) → IsPlaced a a
 placed_here a = record { drive = refl; object = refl; missing = λ e. e }
 
-placed_then : (a b c : Component) → IsPlaced a b → IsPlaced b c → IsPlaced a c
+pub placed_then : (a b c : Component) → IsPlaced a b → IsPlaced b c → IsPlaced a c
 placed_then a b c x y = record {
   drive = y.drive ∙ x.drive;
   object = y.object ∙ x.object;

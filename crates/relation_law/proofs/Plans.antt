@@ -68,6 +68,26 @@ use Rattle.relation_law.proofs.TurnEnds.{PlansFit}
 
 module _ (m : RawMap) (tag c : ℕ) (h : Held) (op : CallOp) (got : List Column) (io : Io) (queue : List Store) (cs : List Awaited)
     (scat : Scattered h op got io queue cs) (long : length h.components ≡ m.comps)
+    (small : All (λ v. v < 256) (bytes_of op)) where
+  -- a machine in which the call has gathered what its write needs
+  abbrev pub begins_at : (z : State) (j : ℕ) → z.layout ≡ layout_of m tag → IsHolding m z c h → IsGathering m z c op j →
+      AllShown z j got → IsWholeAt z → ScatterBegins m tag z c h op got io.timed j
+  begins_at z j lay k gathering shown whole = record {
+    layout = lay;
+    holding = k;
+    long = long;
+    covers = scat.covers;
+    bytes = record { is = scat.is; long = scat.some.long; some = scat.some.some; small = small };
+    gathered = record {
+      gathering = gathering;
+      may = subst (λ (n : RawMap). MayScatter n (span_of op) (bytes_of op) got (outs h io.timed)) k.same.agrees.map scat.may;
+      shown = shown;
+    };
+    whole = whole;
+  }
+
+module _ (m : RawMap) (tag c : ℕ) (h : Held) (op : CallOp) (got : List Column) (io : Io) (queue : List Store) (cs : List Awaited)
+    (scat : Scattered h op got io queue cs) (long : length h.components ≡ m.comps)
     (small : All (λ v. v < 256) (bytes_of op)) (g : Grant) where
   -- what the write writes down, by its grant and its gather
   abbrev StartBy : State → Grant → ℕ → Start
@@ -86,19 +106,8 @@ module _ (m : RawMap) (tag c : ℕ) (h : Held) (op : CallOp) (got : List Column)
   planned_at : (z : State) (j : ℕ) → z.layout ≡ layout_of m tag → (k : IsHolding m z c h) → z.held c ≡ Some g →
       IsGathering m z c op j → AllShown z j got → IsWholeAt z → IsPlannedAt z c h op g io queue cs
   planned_at z j lay k has gathering shown whole =
-      let b : ScatterBegins m tag z c h op got io.timed j = record {
-        layout = lay;
-        holding = k;
-        long = long;
-        covers = scat.covers;
-        bytes = record { is = scat.is; long = scat.some.long; some = scat.some.some; small = small };
-        gathered = record {
-          gathering = gathering;
-          may = subst (λ (n : RawMap). MayScatter n (span_of op) (bytes_of op) got (outs h io.timed)) k.same.agrees.map scat.may;
-          shown = shown;
-        };
-        whole = whole;
-      } in
+      let b : ScatterBegins m tag z c h op got io.timed j =
+      begins_at m tag c h op got io queue cs scat long small z j lay k gathering shown whole in
       let plan : IsPlanned (StartBy z k.grant j) io.timed (stores_of h op got io.timed) =
       plan_is m tag z c h op got io.timed j b in
       let both : Some k.grant ≡ Some g = sym k.held ∙ has in

@@ -22,7 +22,7 @@ use Rattle.file_simulation.specs.Messages.{AreSent, WasSent}
 use Rattle.file_simulation.specs.Phases.{IsKept, PhaseIs}
 use Rattle.relation_law.specs.Steps.{owed, whole_behind}
 use Rattle.world_history.specs.History.{OneEventMore}
-use Rattle.component_law.proofs.MoveFacts.{are_named}
+use Rattle.component_law.proofs.NamedLines.{are_named}
 use Rattle.exchange_law.specs.Files.{AllFilesFit}
 use Rattle.component_law.proofs.Moments.{server_sent_its_run}
 use Rattle.plan_law.proofs.Codes.{layouts_are_codes}

@@ -94,6 +94,12 @@ module _ (w : World) (chosen : List ℕ) (action : Action) where
   replies : Replies (acts w chosen action)
   replies = each_act w chosen Replies action cases
 
+-- the message of what is posted is among the messages that are
+pub in_posted : (ps : List Post) (p : Post) (x : Message) → In p ps → x ≡ p.message → In x (posted ps)
+in_posted [] p x i e = absurd i
+in_posted (q ∷ ps) p x (inl same) e = inl (e ∙ ap (λ (y : Post). y.message) same)
+in_posted (q ∷ ps) p x (inr i) e = inr (in_posted ps p x i e)
+
 -- what a drive has replied behind a move it had replied before, or replies in it
 pub replied_before_or_now : (w : World) (m : Move) (d c : ℕ) (r : Reply) → HasReplied (move w m).world d c r →
     HasReplied w d c r ⊎ IsReplying w m.action d c r
@@ -104,11 +110,6 @@ replied_before_or_now w m d c r i =
       | inr (p, j, is) ↦
           inr (replies w m.chosen m.action d c r (in_posted (acts w m.chosen m.action).posts p (reply_message d c r) j is))
     ]
-  where
-    in_posted : (ps : List Post) (p : Post) (x : Message) → In p ps → x ≡ p.message → In x (posted ps)
-    in_posted [] p x i e = absurd i
-    in_posted (q ∷ ps) p x (inl same) e = inl (e ∙ ap (λ (y : Post). y.message) same)
-    in_posted (q ∷ ps) p x (inr i) e = inr (in_posted ps p x i e)
 
 -- ---- its events
 

@@ -8,7 +8,7 @@ use Rattle.data_map.specs.Striping.{group_of, offset_of}
 use Rattle.osd_commands.specs.declared.actions.Action.{Action}
 use Rattle.osd_commands.specs.declared.actions.Action.TheVariants as action
 use Rattle.server_rules.specs.Columns.{row_from, unit_rows, unit_with, wanted, first_unlike, end_unlike, end_of}
-use Rattle.server_rules.specs.Commands.{Ask, Creating, Raising, Reading, Writing, Measuring, Which, All, Only, OfGroup, FirstsOf, is_meant, command_for, sent_to, to_each, to_all}
+use Rattle.server_rules.specs.Commands.{Ask, Creating, Raising, Reading, Measuring, Which, All, Only, OfGroup, FirstsOf, is_meant, command_for, sent_to, to_each, to_all}
 use Rattle.server_rules.specs.Going.{Going}
 use Rattle.server_rules.specs.Laws.{In}
 use Rattle.server_rules.specs.Maps.{group_with}
@@ -17,6 +17,7 @@ use Rattle.server_rules.specs.Rebuild.{sources_by, sources, to_fill, group_for}
 use Rattle.server_rules.specs.Repair.{is_left, repair_reads}
 use Rattle.server_rules.specs.Standing.{is_beyond}
 use Rattle.history_law.specs.Names.{Kept, Component, Awaited, Heard, Piece, Target, Work}
+use Rattle.component_law.proofs.StandAwaited.{object_for}
 use Rattle.file_simulation.specs.Jobs.{LieIn, IsInPiece}
 use Rattle.relation_law.specs.Awaiting.{IsOfComponent, IsDone, IsRow, IsStore, IsMaking, IsFill, IsAskedIn, AreOfGroup, ToDoFits}
 use Rattle.relation_law.proofs.Walk.{Place, AtFill, AtSources, Asks, Makes, Raises, Reads, Writes, Aims, Sources, Filled, Measures, Checks_}
@@ -72,13 +73,6 @@ each_sent f which ask (at ∷ cs) k nonce a i =
       | inr (inr j) ↦ sent_next f ask at cs k a (each_sent f which ask cs (k + 1) nonce a j)
     ]
 
-object_of_ask : (f : Kept) (ask : Ask) (k drive object nonce : ℕ) → (command_for f ask k drive object nonce).object ≡ object
-object_of_ask f Creating k drive object nonce = refl
-object_of_ask f Raising k drive object nonce = refl
-object_of_ask f (Reading offset len) k drive object nonce = refl
-object_of_ask f (Writing offset bytes) k drive object nonce = refl
-object_of_ask f Measuring k drive object nonce = refl
-
 of_component : (f : Kept) (ask : Ask) (a : Awaited) → IsSentOf f ask f.components 0 a → IsOfComponent f.components a
 of_component f ask a s =
     let place : a.component ≡ s.index = ap (λ (x : Awaited). x.component) s.is ∙ omega arith in
@@ -87,7 +81,7 @@ of_component f ask a s =
       there = ap (slice_get f.components) place ∙ s.there;
       drive = ap (λ (x : Awaited). x.drive) s.is;
       object = ap (λ (x : Awaited). x.command.object) s.is
-          ∙ object_of_ask f ask (0 + s.index) s.component.drive s.component.object s.nonce;
+          ∙ object_for f ask (0 + s.index) s.component.drive s.component.object s.nonce;
     }
 
 all_done : (f : Kept) (ask : Ask) (which : Which) (act : Action) (nonce : ℕ) →

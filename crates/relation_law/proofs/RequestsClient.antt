@@ -24,12 +24,12 @@ use Rattle.file_simulation.specs.Requests.{Own, class_of, kept_by, AwaitsNothing
 use Rattle.file_simulation.specs.Showing.{IsRun}
 use Rattle.file_simulation.specs.ClientEvents as table
 use Rattle.relation_law.specs.Requests.{WorksCall, IsAsBefore, Turned, NothingAsked, OneAsked, HasTurned, AskingStays, HasStayed, HasRested, AsksWell}
-use Rattle.relation_law.proofs.FramesGrow.{after_more}
 use Rattle.relation_law.proofs.RequestsPlain.{asking_same, asking_more, asking_stays_all, first_plain, ended_plain, commanded_in}
 use Rattle.relation_law.proofs.RequestsSteps.{freed, step_turned, answer_turned}
 use Rattle.relation_law.proofs.RequestsAgree.{none_given, agree_stays, agree_same}
 use Rattle.relation_law.proofs.RequestsAsked.{request_sent, last_after}
 use Rattle.relation_law.proofs.RequestsTaken.{answered_one, answer_taken_rests}
+use Rattle.relation_law.proofs.KeptNotes.{after_both}
 
 -- ---- what stays of one client
 
@@ -61,7 +61,7 @@ module _ (file : ℕ) (m : RawMap) (server : Server) (c : ℕ) where
   one_more : (s : State) (y : Client) (o : Outgoing) (os : List Outgoing)
       → behind s y (o ∷ os) ≡ behind (after_all s (table.sends s file c y o)) y os
   unfolding table.sends_all
-  one_more s y o os = after_more s (table.sends s file c y o)
+  one_more s y o os = after_both s (table.sends s file c y o)
       (joined (table.sends_all (after_all s (table.sends s file c y o)) file c y os))
 
   commands_stay : (s : State) (y : Client) (xs : List Awaited) → AskingStays s (behind s y (map to_drive xs))
@@ -130,7 +130,7 @@ module _ (file : ℕ) (m : RawMap) (server : Server) (c : ℕ) where
       → after_all s (joined (table.at_first s file c x i ∷ table.at_end (first s x i) file c (op_in x i) (step x i)))
       ≡ behind (ended s x i) (step x i).client (step x i).sends
   whole s x i =
-      after_more s (table.at_first s file c x i) (joined (table.at_end (first s x i) file c (op_in x i) (step x i)))
+      after_both s (table.at_first s file c x i) (joined (table.at_end (first s x i) file c (op_in x i) (step x i)))
       ∙ by_end (op_in x i) (step x i).outcome
     where
       by_end : (op : Option CallOp) (o : Option Outcome)
@@ -141,7 +141,7 @@ module _ (file : ℕ) (m : RawMap) (server : Server) (c : ℕ) where
           else table.sends_all (first s x i) file c (step x i).client (step x i).sends))
           ≡ behind (after_all (first s x i) (table.ended (first s x i) file c op o)) (step x i).client (step x i).sends
       by_end op (Some o) =
-          after_more (first s x i) (table.ended (first s x i) file c op (Some o))
+          after_both (first s x i) (table.ended (first s x i) file c op (Some o))
           (joined (table.sends_all (after_all (first s x i) (table.ended (first s x i) file c op (Some o))) file c
           (step x i).client (step x i).sends))
       by_end (Some op) None = refl

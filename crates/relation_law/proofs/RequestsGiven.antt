@@ -1,9 +1,8 @@
 -- What the server gives for a client's LAYOUTGET is what the client takes, or it says why it gives nothing.
-use Rattle.std.proofs.Common.{◌≡◌, ℕ, false, List, Option, Some, None, refl, sym, ap, ◌∙◌, inl, inr, arith}
-use Rattle.std.proofs.lemmas.Bool.{cases_eq, eq-eqb, ne_eqb}
-use Rattle.layout_ops.specs.declared.statuses.TheConstants.{NFS4_OK, NFS4ERR_LAYOUTTRYLATER}
+use Rattle.std.proofs.Common.{◌≡◌, ℕ, false, List, Option, Some, None, refl, sym, ap, ◌∙◌, inl, inr}
+use Rattle.layout_ops.specs.declared.statuses.TheConstants.{NFS4_OK}
 use Rattle.layout_ops.specs.declared.messages.Answer.{Answer}
-use Rattle.server_rules.specs.Answers.{get_refused, result_of, result_with, file_answer}
+use Rattle.server_rules.specs.Answers.{result_of, result_with, file_answer}
 use Rattle.server_rules.specs.Files.{file_at, at_file}
 use Rattle.server_rules.specs.Going.{Going}
 use Rattle.server_rules.specs.Grants.{grant_of, asked}
@@ -11,29 +10,18 @@ use Rattle.server_rules.specs.Requests.{serves}
 use Rattle.server_rules.specs.Served.{Served}
 use Rattle.server_rules.proofs.FileLaws.{number_at}
 use Rattle.client_rules.specs.Calls.{span_of, is_write}
-use Rattle.client_rules.specs.Results.{status_of, get_status}
+use Rattle.client_rules.specs.Results.{status_of}
 use Rattle.client_rules.specs.Steps.{is_bad_range}
 use Rattle.world_history.specs.ServerNames.{Server, File, Grant, Kept, ClientRequest, RequestArgs}
 use Rattle.world_history.specs.ClientNames.{CallOp}
+use Rattle.exchange_law.proofs.HeldAnswered.{status_again}
 use Rattle.exchange_law.specs.HeldTaken.{IsGetOf}
 use Rattle.exchange_law.specs.Meeting.{IsSoundFile}
-use Rattle.exchange_law.proofs.HeldAnswered.{args_of_get, call_told}
+use Rattle.exchange_law.proofs.HeldAnswered.{args_of_get, call_told, not_ok}
 use Rattle.exchange_law.proofs.HeldAsking.{found_last}
-use Rattle.exchange_law.proofs.HeldServing.{IsRefusal, NoFile, Later, Fencing, Unavailable, IsTellable}
+use Rattle.exchange_law.proofs.HeldServing.{IsRefusal, IsTellable}
 use Rattle.exchange_law.proofs.HeldTaken.{its_grant, told_for, given_is_taken}
 use Rattle.relation_law.specs.RequestsGoing.{GivesGrant}
-
-refused_not_ok : (status : ℕ) → IsRefusal status → status ≡ NFS4_OK → ⊥
-refused_not_ok status (NoFile e) ok = absurd (omega (arith, e, ok))
-refused_not_ok status (Later e) ok = absurd (omega (arith, e, ok))
-refused_not_ok status (Fencing e) ok = absurd (omega (arith, e, ok))
-refused_not_ok status (Unavailable e) ok = absurd (omega (arith, e, ok))
-
-status_again : (status : ℕ) → get_status (get_refused status) ≡ status
-status_again status = elim (cases_eq status NFS4ERR_LAYOUTTRYLATER) [
-  | inl e ↦ rw (eq-eqb status NFS4ERR_LAYOUTTRYLATER e) (sym e)
-  | inr other ↦ rw (ne_eqb status NFS4ERR_LAYOUTTRYLATER other) refl
-]
 
 module _ (s : Server) (now : ℕ) (chosen : List ℕ) (q : ClientRequest) (f : File) (at : file_at s.files q.file ≡ Some f)
     (op : CallOp) (is_get : IsGetOf op q) (fine : is_bad_range (span_of op) ≡ false) where
@@ -83,7 +71,7 @@ module _ (s : Server) (now : ℕ) (chosen : List ℕ) (q : ClientRequest) (f : F
       ap (λ (o : Option Grant). status_of (result_with s.drives v.going.file.kept q.args v.told.status o)) none
       ∙ ap (λ (b : RequestArgs). status_of (result_of b v.told.status)) (sym (args_of_get op q is_get.args))
       ∙ status_again v.told.status in
-      refused_not_ok v.told.status refusal (sym status ∙ ok)
+      not_ok v.told.status refusal (sym status ∙ ok)
 
   -- of success is only an answer that gives a grant, which the client takes
   pub ok_gives : IsSoundFile s v.going.file → status_of a.results ≡ NFS4_OK → GivesGrant s v.going.file a op q.client

@@ -32,13 +32,13 @@ use Rattle.relation_law.specs.Frames.{AreAll}
 use Rattle.relation_law.specs.Requests.{IsPlain, IsSteady, AskingStays, SteadyStays, TellsAnswer}
 use Rattle.relation_law.specs.RequestsGoing.{IsItsRequest, IsAnsweredBy, OwnLaws}
 use Rattle.relation_law.specs.Steps.{FollowsWhole, whole_behind}
-use Rattle.relation_law.proofs.FramesGrow.{after_more}
 use Rattle.relation_law.proofs.RequestsHeard.{heard_in, its_request}
 use Rattle.relation_law.proofs.RequestsLines.{answered_behind, steady_same, steady_more, steady_stays}
 use Rattle.relation_law.proofs.RequestsOn.{IsServed, served_answered}
 use Rattle.relation_law.proofs.RequestsOwn.{lines_are, server_is}
 use Rattle.relation_law.proofs.RequestsPlain.{asking_more, asking_stays_all}
 use Rattle.relation_law.proofs.RequestsServed.{counted, own_answered}
+use Rattle.relation_law.proofs.KeptNotes.{after_both}
 
 pub taken_all : (ls : List Line) → take (length ls) ls ≡ ls
 taken_all [] = refl
@@ -167,7 +167,7 @@ module _ (laws : OwnLaws) (w : World) (h : List Line) (m : Move) (f g : File) (s
         let s1 : State = after_all s es in
         let u : State = goes.0 in
         let to_u : SteadyStays (after s1 e) u =
-        subst (λ (z : State). SteadyStays z u) (ap (λ (l : List Event). after_all s l) first ∙ after_more s es (e ∷ [])) goes.1 in
+        subst (λ (z : State). SteadyStays z u) (ap (λ (l : List Event). after_all s l) first ∙ after_both s es (e ∷ [])) goes.1 in
         own_answered file f.kept.map s c x p r v.server its.outstanding before.sequence before.slot
         (sym its.next ∙ its.reads.sequence) its_waits new kept its.reads.sequence s1 t e kind grant class
         (steady_stays s es steady)

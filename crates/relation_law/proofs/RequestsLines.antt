@@ -23,10 +23,10 @@ use Rattle.file_simulation.specs.ServerEvents as table
 use Rattle.relation_law.specs.Frames.{AreAll, LinesAre}
 use Rattle.relation_law.specs.Requests.{IsPlain, IsSteady, SteadyStays}
 use Rattle.relation_law.specs.RequestsGoing.{is_served_in}
-use Rattle.relation_law.proofs.FramesGrow.{after_more}
 use Rattle.relation_law.proofs.FramesStay.{all_more, all_as}
 use Rattle.relation_law.proofs.FramesClient.{where_all, grant_all}
 use Rattle.relation_law.proofs.RequestsPlain.{asking_same, asking_more, asking_stays_all}
+use Rattle.relation_law.proofs.KeptNotes.{after_both}
 
 -- ---- events of no request, and of no commit
 
@@ -192,7 +192,7 @@ module _ (w : World) (f g : File) (i : Input) where
   one_sent : (s : State) (o : Outgoing) (os : List Outgoing)
       → sent_behind s (o ∷ os) ≡ sent_behind (after_all s (table.sent s w.server g i o)) os
   unfolding table.sends_all
-  one_sent s o os = after_more s (table.sent s w.server g i o)
+  one_sent s o os = after_both s (table.sent s w.server g i o)
       (joined (table.sends_all (after_all s (table.sent s w.server g i o)) w.server g i os))
 
   -- commands and recalls have no event, and the answer stands last
@@ -223,7 +223,7 @@ module _ (w : World) (f g : File) (i : Input) where
   unfolding table.notes_all noted_behind
   notes_behind s os [] = refl
   notes_behind s os (n ∷ ns) =
-      after_more s (table.noted s w f i n)
+      after_both s (table.noted s w f i n)
       (joined (table.notes_all (after_all s (table.noted s w f i n)) w f g i os ns))
       ∙ notes_behind (after_all s (table.noted s w f i n)) os ns
 
@@ -238,7 +238,7 @@ module _ (w : World) (f g : File) (i : Input) where
       let u : State = noted_behind t did.notes in (
         u,
         noted_stays t did.notes,
-        after_more s (table.at_first s w.server did f g i) (joined (table.notes_all t w f g i did.sends did.notes))
+        after_both s (table.at_first s w.server did f g i) (joined (table.notes_all t w f g i did.sends did.notes))
             ∙ notes_behind t did.sends did.notes ∙ ap (λ (l : List Outgoing). sent_behind u l) is
             ∙ answer_last u os a none,
       )

@@ -27,7 +27,7 @@ use Rattle.client_rules.specs.Steps.{all_due}
 use Rattle.client_rules.specs.Turns.{turned}
 use Rattle.server_rules.specs.Slots.{slot_of}
 use Rattle.data_map.specs.Check.{IsChecked}
-use Rattle.world_history.specs.ServerNames.{File, Slot}
+use Rattle.world_history.specs.ServerNames.{Server, File, Slot}
 use Rattle.world_history.specs.ClientNames.{Client, Call, CallOp, Held, Awaited, Reply, Request, Phase, Starts, Needs, Waits, Reads, Probes, Gathers, Scatters, Turn, Goes, Ends, Forgets, Need, First, Get, Commit, Report, Close, Outcome, WriteOk, ReadOk, Silent, Lost, Why, TimedOut, Moved, Done}
 use Rattle.world_history.specs.Handed.{op_in}
 use Rattle.world_history.specs.State.{World}
@@ -75,6 +75,23 @@ use Rattle.relation_law.proofs.RequestsDealt.{file_of_moved, replied_file, timed
 use Rattle.relation_law.proofs.RequestsHeld.{moved_before, moved_same, finished_held}
 use Rattle.relation_law.proofs.ReturnsRight.{RightLaws}
 use Rattle.relation_law.proofs.ReturnsStands.{Reports, reports_stand}
+
+-- a call that works holds a grant
+pub no_unheld : (s : Server) (c : ℕ) (x : Client) (i : Input) → IsMet s c x → IsUnheld x i → ⊥
+no_unheld s c x i met u =
+    works u.call.phase u.awaits
+    (subst (λ (o : Option Held). PhaseFine (KeptGood s c) o x.outstanding u.call.op u.call.phase) u.held
+    (subst (CallFine (KeptGood s c) x.held x.outstanding) u.call_is met.call).1)
+  where
+    works : (p : Phase) → find (answers u.drive u.reply) (awaited_in p) ≡ Some u.awaited
+        → PhaseFine (KeptGood s c) None x.outstanding u.call.op p → ⊥
+    works Starts found fine = cc found
+    works (Needs n) found fine = cc found
+    works (Waits n) found fine = cc found
+    works (Reads io) found fine = fine.0
+    works (Probes io) found fine = fine.0
+    works (Gathers io) found fine = fine.0
+    works (Scatters io queue) found fine = fine.0
 
 -- ---- events that leave what is held
 
@@ -190,6 +207,15 @@ module _ (x : Client) (a : Answer) where
   answered_asked None = (refl, refl)
   answered_asked (Some call) = phase_none call.op call.phase
 
+-- behind a reply of another tag no grant is held on the call's file
+pub forgotten : (x : Client) (file : ℕ) (op : CallOp) (h : Held) (p : Phase) (a : Awaited) (q : Reply) → file_of op ≡ file
+    → (q.verdict == PERFORMED) ≡ false → (q.verdict == OTHER_TAG) ≡ true
+    → held_of (moved (quiet x) op (replied h op p a q)).client.held file ≡ None
+unfolding replied refused
+forgotten x file op h p a q here bad tag =
+    rw (bad, tag) (subst (λ (n : ℕ). held_of (moved (quiet x) op (turned h (Forgets (refusal a q)))).client.held n ≡ None)
+    here (none_left (put_held x.held h) (file_of op)))
+
 -- ---- a turn
 
 -- What is known of a client and of what the machine has of it.
@@ -227,15 +253,6 @@ module _ (file : ℕ) (s : State) (c : ℕ) (x : Client) (i : Input) (laws : Tur
         held_one : (k : Held) → held_of (moved (quiet x) op m).client.held file ≡ Some k → HoldsOne s c
         held_one k e = let b = moved_before (quiet x) op h has m same file k e in laws.holding b.0 b.1
 
-    -- behind a reply of another tag no grant is held on the call's file
-    forgotten : (op : CallOp) (h : Held) (p : Phase) (a : Awaited) (q : Reply) → file_of op ≡ file
-        → (q.verdict == PERFORMED) ≡ false → (q.verdict == OTHER_TAG) ≡ true
-        → held_of (moved (quiet x) op (replied h op p a q)).client.held file ≡ None
-    unfolding replied refused
-    forgotten op h p a q here bad tag =
-        rw (bad, tag) (subst (λ (n : ℕ). held_of (moved (quiet x) op (turned h (Forgets (refusal a q)))).client.held n ≡ None)
-        here (none_left (put_held x.held h) (file_of op)))
-
     reply : (drive : ℕ) (q : Reply) (call : Call) (h : Held) (a : Awaited) → IsReplied x i drive q call h a
         → Held_ (where_so (file_of call.op == file) (table.replied s c a q call.phase))
         (finished (moved (quiet x) call.op (replied h call.op call.phase a q)))
@@ -247,7 +264,7 @@ module _ (file : ℕ) (s : State) (c : ℕ) (x : Client) (i : Input) (laws : Tur
               replied_holds s c (held_one call.op h k.held m same j e) a q call.phase (λ bad.
               elim (cases_Bool (q.verdict == OTHER_TAG)) [
                 | inl tag ↦ absurd (cc (sym e
-                    ∙ forgotten call.op h call.phase a q (eqb-true (file_of call.op) file t) bad tag))
+                    ∙ forgotten x file call.op h call.phase a q (eqb-true (file_of call.op) file t) bad tag))
                 | inr f ↦ f
               ])))
           | inr f ↦ rw f (dealt call.op h k.held m same [] (held_one call.op h k.held m same))
@@ -360,20 +377,7 @@ module _ (laws : HeldLaws) (w : World) (h : List Line) (m : Move) (f g : File) (
 
   -- a call that works holds a grant
   pub unheld_ : IsUnheld x_ j.input → ⊥
-  unheld_ u =
-      works u.call.phase u.awaits
-      (subst (λ (o : Option Held). PhaseFine (KeptGood w.server c_) o x_.outstanding u.call.op u.call.phase) u.held
-      (subst (CallFine (KeptGood w.server c_) x_.held x_.outstanding) u.call_is met.call).1)
-    where
-      works : (p : Phase) → find (answers u.drive u.reply) (awaited_in p) ≡ Some u.awaited
-          → PhaseFine (KeptGood w.server c_) None x_.outstanding u.call.op p → ⊥
-      works Starts found fine = cc found
-      works (Needs n) found fine = cc found
-      works (Waits n) found fine = cc found
-      works (Reads io) found fine = fine.0
-      works (Probes io) found fine = fine.0
-      works (Gathers io) found fine = fine.0
-      works (Scatters io queue) found fine = fine.0
+  unheld_ = no_unheld w.server c_ x_ j.input met
 
   -- the answer that is taken is the one that the server keeps for the outstanding request
   own_it : (from : Node) (b : Message) (a : Answer) → j.input ≡ Hears from b → takes x_ from b ≡ Some (TakesAnswer a)

@@ -1,12 +1,12 @@
 -- If too much of a write has timed out, the server can't bear the loss that it would report.
 -- Towards `ReturnsAreRight` (`specs/KeptFollows.antt`).
-use Rattle.std.proofs.Common.{◌≡◌, ◌==◌, ◌<◌, ◌≤◌, ℕ, zero, suc, ◌+◌, ◌*◌, ◌/◌, ◌%◌, ◌&&◌, not, Bool, true, false, List, [], ◌∷◌, Option, Some, None, length, slice_get, filter, refl, sym, ap, subst, ◌∙◌, arith, inl, inr}
+use Rattle.std.proofs.Common.{◌≡◌, ◌==◌, ◌<◌, ◌≤◌, ℕ, zero, suc, ◌+◌, ◌*◌, ◌/◌, ◌&&◌, not, Bool, true, false, List, [], ◌∷◌, Option, Some, None, length, slice_get, filter, refl, sym, ap, subst, ◌∙◌, arith, inl, inr}
 use Rattle.std.specs.Prelude.{is_none, is_some}
 use Rattle.std.specs.List.{range_with_len}
-use Rattle.std.proofs.lemmas.Bool.{cases_Bool, lt-ltb, ltb-true, eq-eqb, eqb-true, and_parts}
+use Rattle.std.proofs.lemmas.Bool.{cases_Bool, lt-ltb, ltb-true, eq-eqb}
 use Rattle.std.proofs.lemmas.Bool.Decides.{nat_tests}
-use Rattle.std.proofs.lemmas.Nat.{div-add-mod', div-mul-add}
-use Rattle.std.proofs.Math.Nat.{add-mul, mod-lt, mul-le-mul_right}
+use Rattle.std.proofs.lemmas.Nat.{div-mul-add}
+use Rattle.std.proofs.Math.Nat.{add-mul, mul-le-mul_right}
 use Rattle.data_map.specs.declared.check.RawMap.{RawMap}
 use Rattle.data_map.specs.Check.{IsChecked}
 use Rattle.data_map.specs.Striping.{replicas, positions, group_width, groups, group_of, parities}
@@ -16,6 +16,8 @@ use Rattle.stripe_plan.specs.Lost.{among, source_from, source, is_out, out_from,
 use Rattle.world_history.specs.ServerNames.{Component}
 use Rattle.server_rules.specs.Maps.{group_with}
 use Rattle.server_rules.specs.Standing.{replica_from, replica, lacking, is_beyond}
+use Rattle.exchange_law.proofs.Enough.{is_replica}
+use Rattle.exchange_law.proofs.Enough.{not_out, found_from}
 
 -- ---- counts along a range
 
@@ -73,18 +75,6 @@ out_counts m out p (suc n) = elim (cases_Bool (is_out m out p)) [
 
 -- ---- a position
 
-found_from : (out : List ℕ) (k n i : ℕ) → i < n → among (k + i) out ≡ false → is_none (source_from out k n) ≡ false
-unfolding source_from
-found_from out k zero i less there = absurd (omega (arith, less))
-found_from out k (suc n) zero less there =
-    let same : k + 0 ≡ k = omega arith in rw (subst (λ (x : ℕ). among x out ≡ false) same there) refl
-found_from out k (suc n) (suc i) less there = elim (cases_Bool (among k out)) [
-  | inl t ↦
-      let on : k + suc i ≡ k + 1 + i = omega arith in
-      rw t (found_from out (k + 1) n i (omega (arith, less)) (subst (λ (x : ℕ). among x out ≡ false) on there))
-  | inr z ↦ rw z refl
-]
-
 -- if a position is out, all its replicas are
 all_gone : (out : List ℕ) (k n i : ℕ) → is_none (source_from out k n) ≡ true → i < n → among (k + i) out ≡ true
 all_gone out k n i none less = elim (cases_Bool (among (k + i) out)) [
@@ -103,54 +93,6 @@ some_left out k (suc n) e = elim (cases_Bool (among k out)) [
       let on : k + (r.0 + 1) ≡ k + 1 + r.0 = omega arith in
       (r.0 + 1, omega (arith, r.1), rw on r.2)
   | inr f ↦ (0, omega arith, let z : k + 0 ≡ k = omega arith in rw z f)
-]
-
--- so is one of the replicas
-not_out : (m : RawMap) (out : List ℕ) (p i : ℕ) → i / replicas m ≡ p → among i out ≡ false → is_out m out p ≡ false
-unfolding source
-not_out m out p i is there =
-    let whole : p * replicas m + i % replicas m ≡ i =
-    ap (λ (x : ℕ). x * replicas m + i % replicas m) (sym is) ∙ div-add-mod' i (replicas m) in
-    found_from out (p * replicas m) (replicas m) (i % replicas m) (mod-lt i (omega arith))
-    (subst (λ (x : ℕ). among x out ≡ false) (sym whole) there)
-
--- a present replica that was found
-record IsReplica (m : RawMap) (p : ℕ) (cs : List Component) (k : ℕ) : Type 0 where
-  place : ℕ
-  at : Component
-  found : slice_get cs place ≡ Some at
-  present : at.missing ≡ false
-  position : (k + place) / replicas m ≡ p
-
-not_true : (b : Bool) → not b ≡ true → b ≡ false
-not_true true e = absurd (cc e)
-not_true false e = refl
-
-is_replica : (m : RawMap) (p : ℕ) (cs : List Component) (k n : ℕ) → replica_from m p cs k ≡ Some n
-    → IsReplica m p cs k
-unfolding replica_from
-is_replica m p [] k n e = absurd (cc e)
-is_replica m p (at ∷ cs) k n e = elim (cases_Bool (not at.missing && (k / replicas m == p))) [
-  | inl t ↦
-      let w = and_parts (not at.missing) (k / replicas m == p) t in
-      let same : k + 0 ≡ k = omega arith in
-      record {
-        place = 0;
-        at = at;
-        found = refl;
-        present = not_true at.missing w.0;
-        position = ap (λ (x : ℕ). x / replicas m) same ∙ eqb-true (k / replicas m) p w.1;
-      }
-  | inr z ↦
-      let r = is_replica m p cs (k + 1) n (rw z at e) in
-      let on : k + suc r.place ≡ k + 1 + r.place = omega arith in
-      record {
-        place = suc r.place;
-        at = r.at;
-        found = r.found;
-        present = r.present;
-        position = ap (λ (x : ℕ). x / replicas m) on ∙ r.position;
-      }
 ]
 
 -- ---- a group

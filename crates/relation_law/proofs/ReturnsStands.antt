@@ -1,7 +1,6 @@
 -- At each moment what a client reports of a write that broke off can't be borne by the server.
 -- Towards `ReturnsAreRight` (`specs/KeptFollows.antt`).
-use Rattle.std.proofs.Common.{◌≡◌, ◌⊎◌, ◌++◌, ℕ, List, [], Some, inl, inr, sym, ap, subst, ◌∙◌}
-use Rattle.std.proofs.lemmas.Bool.{cases_eq}
+use Rattle.std.proofs.Common.{◌≡◌, ℕ, List, [], Some, inl, inr, sym, ap, subst, ◌∙◌}
 use Rattle.std.proofs.lemmas.List.{append-nil}
 use Rattle.layout_types.specs.declared.ioerrs.IoErr.{IoErr}
 use Rattle.scenario_text.specs.declared.line.Line.{Line}
@@ -9,39 +8,32 @@ use Rattle.client_rules.specs.Calls.{file_of}
 use Rattle.client_rules.specs.Grants.{held_of}
 use Rattle.client_rules.specs.History.{Input, step as client_step}
 use Rattle.server_rules.specs.Files.{file_at}
-use Rattle.server_rules.specs.History.{Input as ServerInput, step}
+use Rattle.server_rules.specs.History.{step}
 use Rattle.server_rules.proofs.FileLaws.{file_in}
 use Rattle.world_history.specs.ClientNames.{Client, CallOp, Held}
 use Rattle.world_history.specs.ServerNames.{Server, File}
 use Rattle.world_history.specs.History.{OneEventMore}
-use Rattle.world_history.specs.Moves.{Act, Action, acts}
-use Rattle.world_history.specs.Plans.{due}
-use Rattle.world_history.specs.Sending.{Move, move}
+use Rattle.world_history.specs.Moves.{acts}
 use Rattle.world_history.specs.State.{World, ClientAt, at_number}
 use Rattle.history_law.specs.Grants.{GrantsAreSafe}
-use Rattle.history_law.specs.BookMoments.{IsMoment, lines_in, plan_at}
+use Rattle.history_law.specs.BookMoments.{IsMoment}
 use Rattle.history_law.proofs.Running.{parties_run}
 use Rattle.history_law.specs.Moments.{IsReached}
-use Rattle.history_law.proofs.Goes.{moves_are_steps}
 use Rattle.component_law.specs.Objects.{objects_of, AllDiffer, AreOwned}
 use Rattle.component_law.proofs.ObjectRuns.{each_object_is_owned}
 use Rattle.exchange_law.specs.Calls.{CallFine}
-use Rattle.exchange_law.specs.Doing.{IsHeardByServer, OthersGo, ServerGoes, ClientGoes, ClientStops, ClientComes, Goes, Others, AServer, AClient, Stops, Comes}
 use Rattle.exchange_law.specs.InStep.{ClientsAreInStep, state_of}
 use Rattle.exchange_law.specs.Meeting.{KeptGood, IsReadableThrough, ClientsAgree}
 use Rattle.exchange_law.specs.Shapes.{FilesHaveShape}
 use Rattle.exchange_law.proofs.ClientMoves.{IsKeptByClients, clients_always}
-use Rattle.exchange_law.proofs.Each.{put_same, put_other, stopped_same, come_same}
-use Rattle.exchange_law.proofs.HeldAsking.{IsOwn}
-use Rattle.exchange_law.proofs.HeldWorlds.{readable_fronts, readable_there, reached}
+use Rattle.exchange_law.proofs.HeldWorlds.{readable_there, reached}
 use Rattle.exchange_law.proofs.Shapes.{files_have_shape}
-use Rattle.exchange_law.proofs.SlotMoments.{comes_new, always}
 use Rattle.component_law.specs.Listed.{ComponentsAgree}
 use Rattle.file_simulation.specs.Relation.{client_of}
 use Rattle.relation_law.specs.Returns.{report_read, BreaksOff, CantBeBorne, CallReports}
+use Rattle.relation_law.proofs.ClientsWalk.{StepsKeep, holds_always, own_request}
 use Rattle.relation_law.proofs.MessagesRun.{IsFine}
 use Rattle.relation_law.proofs.MessagesAlways.{turn_is_fine, new_fine}
-use Rattle.relation_law.proofs.RequestsHeard.{its_request}
 use Rattle.relation_law.proofs.ReturnsNamed.{short_beyond, refusal_beyond}
 use Rattle.relation_law.proofs.ReturnsRun.{step_reports}
 use Rattle.relation_law.proofs.ReturnsServer.{borne_behind, call_on}
@@ -76,9 +68,6 @@ Reports s c x =
 
 abbrev Stands : World → Type 0
 Stands w = (c : ℕ) → Reports w.server c (client_of w c)
-
-abbrev Stand : World → List Line → Type 0
-Stand w h = IsReadableThrough h → Stands w
 
 -- what is known of the world
 pub record ReturnsLaws : Type 0 where
@@ -117,94 +106,22 @@ module _ (laws : ReturnsLaws) where
         (clients_always (λ n x. IsFine x) always_fine w (reached w h k) c a found)
         (subst (Reports w.server c) same (s c)) broken i
 
-  -- ---- the server's step
-
-  own_request : (w : World) (h : List Line) (k : IsMoment w h) → IsReadableThrough h → (c : ℕ) (i : ServerInput)
-      → IsHeardByServer w i → IsOwn w.server c (client_of w c) i
-  own_request w h k t c i heard now q is mine named new =
-      let it =
-      its_request w h c k (laws.in_step w h k c) (readable_there w h k t) now q named (subst (IsHeardByServer w) is heard) new
-      in (it.request, it.outstanding, it.reads)
-
-  -- ---- a move
-
-  module _ (w : World) (h : List Line) (k : IsMoment w h) (m : Move) (d : due (plan_at k) w ≡ Some m.action)
-      (before : Stand w h) (t : IsReadableThrough (h ++ lines_in w m)) where
-    abbrev a : Act
-    a = acts w m.chosen m.action
-
-    abbrev v : World
-    v = (move w m).world
-
-    t_before : IsReadableThrough h
-    t_before = readable_fronts h (lines_in w m) t
-
-    s : Stands w
-    s = before t_before
-
-    idle : (c : ℕ) → v.server ≡ w.server → Reports w.server c (client_of v c) → Reports v.server c (client_of v c)
-    idle c server r = subst (λ (x : Server). Reports x c (client_of v c)) (sym server) r
-
-    as_before : (c : ℕ) → client_of v c ≡ client_of w c → Reports w.server c (client_of v c)
-    as_before c is = subst (Reports w.server c) (sym is) (s c)
-
-    others : OthersGo w a → Stands v
-    others g c = idle c g.server (as_before c (ap (λ (xs : _). state_of c (at_number xs c)) g.clients))
-
-    stops : ClientStops w a → Stands v
-    stops g c =
-        idle c g.server (as_before c (ap (λ (xs : _). state_of c (at_number xs c)) g.clients
-        ∙ stopped_same w.clients g.client c g.before g.after g.found g.state))
-
-    comes : ClientComes w m.action a → Stands v
-    comes g c =
-        let none = comes_new w h k g.client (d ∙ ap (λ (x : Action). Some x) g.action_is) in
-        idle c g.server (as_before c (ap (λ (xs : _). state_of c (at_number xs c)) g.clients
-        ∙ come_same w.clients g.client c g.after none g.state))
-
-    client_steps : ClientGoes w a → Stands v
-    client_steps g c = idle c g.server (at (cases_eq c g.client))
-      where
-        after : client_of v g.client ≡ (client_step g.before.state g.input).client
-        after =
-            ap (λ (xs : _). state_of g.client (at_number xs g.client)) g.clients
-            ∙ ap (state_of g.client) (put_same w.clients g.client g.before g.after g.found) ∙ g.state
-
-        at : (c ≡ g.client) ⊎ (c ≡ g.client → ⊥) → Reports w.server c (client_of v c)
-        at (inl it) =
-            subst (λ (n : ℕ). Reports w.server n (client_of v n)) (sym it)
-            (subst (Reports w.server g.client) (sym after)
-            (client_reports w h k t_before s g.client g.before g.found g.input))
-        at (inr other) =
-            as_before c (ap (λ (xs : _). state_of c (at_number xs c)) g.clients
-            ∙ ap (state_of c) (put_other w.clients g.client c g.after other))
-
-    server_steps : ServerGoes w m.chosen a → Stands v
-    server_steps g c =
+  steps_keep : StepsKeep Reports
+  steps_keep = record {
+    starts = λ n. tt;
+    client = λ w h k t s c a found i. client_reports w h k t s c a found i;
+    server = λ w h k m d t later s g c.
         let x : Client = client_of w c in
-        let is : client_of v c ≡ x = ap (λ (xs : _). state_of c (at_number xs c)) g.clients in
-        let fine : CallFine (KeptGood w.server c) x.held x.outstanding x.call = (laws.agree w h k t_before c).call in
-        let t : Server = (step w.server m.chosen g.input).state in
-        let behind : Reports t c x =
+        let fine : CallFine (KeptGood w.server c) x.held x.outstanding x.call = (laws.agree w h k t c).call in
         call_on (KeptGood w.server c) x.outstanding
         (λ (op : CallOp) (report : List IoErr). CantBeBorne w.server c (file_of op) (report_read report))
-        (λ (op : CallOp) (report : List IoErr). CantBeBorne t c (file_of op) (report_read report))
+        (λ (op : CallOp) (report : List IoErr).
+        CantBeBorne (step w.server m.chosen g.input).state c (file_of op) (report_read report))
         (λ none op report b. borne_behind w.server m.chosen c x none (file_of op) (report_read report) b g.input
-        (laws.safe w (reached w h k)) (own_request w h k t_before c g.input g.heard)) x.held x.call fine (s c) in
-        subst (λ (y : Server). Reports y c (client_of v c)) (sym g.server) (subst (Reports t c) (sym is) behind)
-
-    by_goes : Goes w m.chosen m.action a → Stands v
-    by_goes (Others g) = others g
-    by_goes (AServer g) = server_steps g
-    by_goes (AClient g) = client_steps g
-    by_goes (Stops g) = stops g
-    by_goes (Comes g) = comes g
-
-    move_stands : Stands v
-    move_stands = by_goes (moves_are_steps w m.chosen m.action).goes
+        (laws.safe w (reached w h k)) (own_request laws.in_step w h k t c g.input g.heard)) x.held x.call fine (s c);
+  }
 
   -- so it is at each moment
   pub reports_stand : (w : World) (h : List Line) → IsMoment w h → IsReadableThrough h → (c : ℕ)
       → Reports w.server c (client_of w c)
-  reports_stand w h k t c =
-      always Stand (record { starts = λ z n. tt; moves = λ u g j m d p z. move_stands u g j m d p z }) laws.more w h k t c
+  reports_stand = holds_always Reports steps_keep laws.more

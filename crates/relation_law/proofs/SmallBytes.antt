@@ -30,7 +30,7 @@ use Rattle.history_law.specs.BookMoments.{IsMoment, lines_in, with_event}
 use Rattle.exchange_law.specs.Text.{AreOfText}
 use Rattle.exchange_law.proofs.CountGrowing.{text_front, text_behind}
 use Rattle.exchange_law.proofs.SlotMoments.{always}
-use Rattle.relation_law.proofs.PendingTurns.{EndsAs, turn_ends, calls_end}
+use Rattle.exchange_law.proofs.PendingTurns.{EndsAs, turn_ends, calls_end}
 
 -- what the call writes is bytes
 abbrev pub IsSmall : CallOp → Type 0

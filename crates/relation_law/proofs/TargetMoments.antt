@@ -23,10 +23,10 @@ use Rattle.world_history.specs.Sending.{Move, move}
 use Rattle.world_history.specs.State.{World}
 use Rattle.history_law.specs.BookMoments.{IsMoment, plan_at, lines_in}
 use Rattle.component_law.specs.Naming.{IsNamed, AreNamed}
-use Rattle.component_law.specs.Performing.{AreDistinct}
+use Rattle.component_law.specs.Distinct.{AreDistinct}
 use Rattle.exchange_law.proofs.CountMoments.{reached}
 use Rattle.exchange_law.proofs.SlotMoments.{always}
-use Rattle.history_law.proofs.Ending.{next_moment}
+use Rattle.history_law.proofs.Ending.{next_moment, at_moment}
 use Rattle.history_law.proofs.FencingMoves.{messages_in, Acts, Others, Serves, each_acts}
 use Rattle.history_law.proofs.Numbers.{Numbers, to_drive, sent_anew, none_anew, messages_sent}
 use Rattle.history_law.proofs.Files.{in_at}
@@ -42,7 +42,6 @@ use Rattle.relation_law.proofs.KeptServer.{at_place}
 use Rattle.relation_law.specs.Awaiting.{IsOfComponent, IsOfTarget, IsAskedIn, FitsIn}
 use Rattle.relation_law.specs.TargetWrites.{IsLatest, FillsAreLatest, EachFillIsLatest}
 use Rattle.relation_law.proofs.FittingSteps.{AllFit, jobs_ask}
-use Rattle.relation_law.proofs.Hearing.{at_moment}
 use Rattle.relation_law.proofs.Sending.{each_send_is_awaited}
 use Rattle.relation_law.proofs.TargetSteps.{fills_go}
 

@@ -25,7 +25,7 @@ use Rattle.history_law.specs.Owned.{AreOwned as AreServers}
 use Rattle.history_law.proofs.Hearing.{done_is_done}
 use Rattle.history_law.proofs.JobSteps.{step_owns}
 use Rattle.component_law.specs.Naming.{AreNamed}
-use Rattle.component_law.proofs.MoveFacts.{are_named}
+use Rattle.component_law.proofs.NamedLines.{are_named}
 use Rattle.exchange_law.proofs.CountMoments.{reached}
 use Rattle.history_law.proofs.FencingMoves.{IsSent, Acts, Others, Serves, each_acts}
 use Rattle.history_law.proofs.Numbers.{to_drive, sent_anew}

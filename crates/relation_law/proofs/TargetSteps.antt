@@ -16,19 +16,18 @@ use Rattle.server_rules.specs.Rebuild.{made, group_for}
 use Rattle.server_rules.specs.Replies.{Hearing, Older, Full, Done, Nothing, answers, hearing, others, renewed, renews, fills_up, heard_with, hears}
 use Rattle.server_rules.specs.Standing.{any_on, lose_on, lose_from}
 use Rattle.server_rules.proofs.FileLaws.{number_at}
-use Rattle.server_rules.proofs.Members.{in_front}
 use Rattle.server_rules.proofs.Runs.{ran_making}
 use Rattle.history_law.specs.Names.{Server, File, Drive, Effects, Component, Awaited, Heard, Piece, Target, Job, JobKind, Revoking, Work, Creates, Fences, Fetches, Stores, Targets, Gathers, Fills, Lengths, Checks, NoSpace, Reply}
 use Rattle.history_law.proofs.Hearing.{found_in}
-use Rattle.component_law.specs.Performing.{AreDistinct}
+use Rattle.component_law.specs.Distinct.{AreDistinct}
 use Rattle.history_law.proofs.Files.{in_at}
 use Rattle.component_law.specs.Objects.{target_in, target_of}
 use Rattle.server_rules.specs.Making.{with_file}
 use Rattle.relation_law.specs.Owning.{Coming}
-use Rattle.relation_law.proofs.Places.{KeepPlaces, keep_from, keep_on}
+use Rattle.relation_law.proofs.Places.{KeepPlaces}
 use Rattle.relation_law.proofs.TargetWalk.{IsOne, IsOfZeros, NoneComes, IsAimed, AllOld, OldOrRebuilt, all_old, WritesOne, PlaceMakes, Remakes, no_job, make_cases}
 use Rattle.relation_law.proofs.Walk.{AtFill, place_behind, lost_place, broken, walk_loses, walk_fence, walk_making, walk_gone, walk_full, walk_waits}
-use Rattle.relation_law.proofs.Ways.{IsAlike, alike_spent, FileWays}
+use Rattle.relation_law.proofs.Ways.{IsAlike, alike_spent, FileWays, alike_lacks, alike_lost}
 use Rattle.relation_law.proofs.WaysSteps.{files_go}
 
 -- ---- what is asked before a step
@@ -241,14 +240,7 @@ module _ (C : Coming) (i : Input) (f : File) (ready : IsPrepared C i f) where
     lacks = noting (with_components g (lose_from (a.component ∷ []) f.kept.components 0)) (NoSpace a.component)
 
     lacks_alike : IsAlike g lacks
-    lacks_alike = record {
-      job = refl;
-      number = refl;
-      map = refl;
-      phase = refl;
-      places = keep_from (a.component ∷ []) f.kept.components 0;
-      notes = λ x q. in_front x m.notes _ q;
-    }
+    lacks_alike = alike_lacks g a.component
 
     lacks_makes : (work : Work) → j.work ≡ work → Remakes C f (loses lacks j work (others j.awaited a.command.nonce) false)
     lacks_makes work is =
@@ -331,14 +323,7 @@ module _ (C : Coming) (i : Input) (f : File) (ready : IsPrepared C i f) where
       h = with_components g (lose_on drive g.file.kept.components)
 
       lost_alike : IsAlike g h
-      lost_alike = record {
-        job = refl;
-        number = refl;
-        map = refl;
-        phase = refl;
-        places = keep_on drive g.file.kept.components;
-        notes = λ x q. q;
-      }
+      lost_alike = alike_lost g drive
 
       here_lost : Remakes C f h
       here_lost = alike g h lost_alike (here g same)

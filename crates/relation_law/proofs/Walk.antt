@@ -233,7 +233,7 @@ module _ (Q : Place → Going → Type 0) (E : Going → Type 0) (k : JobCases Q
 
   -- ---- repair
 
-  walk_behind : (kind : JobKind) (g : Going) → Q Behind g → E (after_repair kind g)
+  pub walk_behind : (kind : JobKind) (g : Going) → Q Behind g → E (after_repair kind g)
   walk_behind Making g q = k.rests_behind g q
   walk_behind Revoking g q = k.rests_behind g q
   walk_behind Rebuilding g q = walk_rebuilds g.file.kept.components 0 g (k.begins g q)

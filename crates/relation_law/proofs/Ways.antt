@@ -9,11 +9,11 @@ use Rattle.server_rules.specs.Laws.{In}
 use Rattle.server_rules.specs.Making.{with_file}
 use Rattle.server_rules.specs.Openings.{crashed_file, is_unsettled, opens_made, opens_spent, opens_fenced, opens}
 use Rattle.server_rules.specs.Replies.{Hearing, Older, Full, Done, Nothing, others, fills_up, heard_with, hears}
-use Rattle.server_rules.specs.Standing.{lose_on, any_on}
+use Rattle.server_rules.specs.Standing.{lose_on, lose_from, any_on}
 use Rattle.server_rules.proofs.Members.{in_front}
-use Rattle.history_law.specs.Names.{Server, File, Component, Job, JobKind, Revoking, Awaited, Work, Creates, Fences, Fetches, Stores, Targets, Gathers, Fills, Lengths, Checks, Reply, Note, NoteKind}
+use Rattle.history_law.specs.Names.{Server, File, Component, Job, JobKind, Revoking, Awaited, Work, Creates, Fences, Fetches, Stores, Targets, Gathers, Fills, Lengths, Checks, Reply, Note, NoteKind, NoSpace}
 use Rattle.history_law.specs.Steps.{Answering, IsAnswering, answered_file}
-use Rattle.relation_law.proofs.Places.{KeepPlaces, keep_here, keep_then}
+use Rattle.relation_law.proofs.Places.{KeepPlaces, keep_here, keep_then, keep_from, keep_on}
 use Rattle.relation_law.proofs.Walk.{Place, JobCases, walk_loses, walk_fence, walk_making, walk_full, walk_waits}
 
 -- ---- notes only come
@@ -90,6 +90,29 @@ alike_spent g = record {
   phase = refl;
   places = keep_here g.file.kept.components;
   notes = one_more g.effects.notes g.effects.notes _ (λ x i. i);
+}
+
+-- that a component lacks space
+pub alike_lacks : (g : Going) (place : ℕ) → IsAlike g
+    (noting (with_components g (lose_from (place ∷ []) g.file.kept.components 0)) (NoSpace place))
+alike_lacks g place = record {
+  job = refl;
+  number = refl;
+  map = refl;
+  phase = refl;
+  places = keep_from (place ∷ []) g.file.kept.components 0;
+  notes = one_more g.effects.notes g.effects.notes _ (λ x i. i);
+}
+
+-- and that what stood on a drive is lost
+pub alike_lost : (g : Going) (drive : ℕ) → IsAlike g (with_components g (lose_on drive g.file.kept.components))
+alike_lost g drive = record {
+  job = refl;
+  number = refl;
+  map = refl;
+  phase = refl;
+  places = keep_on drive g.file.kept.components;
+  notes = λ x i. i;
 }
 
 pub alike_then : (g h k : Going) → IsAlike g h → IsAlike h k → IsAlike g k

@@ -23,7 +23,7 @@ use Rattle.server_rules.specs.Numbers.{among}
 use Rattle.server_rules.proofs.FileLaws.{number_at, put_other, add_other, not_there}
 use Rattle.server_rules.proofs.Runs.{ran_making}
 use Rattle.history_law.specs.Names.{Server, File, Drive, Effects, Component, Grant, Job, Revoking, Note, Spent, Reported, RequestArgs, Get, Commit, Return, ClientRequest}
-use Rattle.component_law.specs.Performing.{AreDistinct}
+use Rattle.component_law.specs.Distinct.{AreDistinct}
 use Rattle.history_law.specs.Steps.{answered_file, new_file, with_added, with_zoned, StepCases, RequestCases}
 use Rattle.history_law.proofs.Files.{put_gives, in_at}
 use Rattle.history_law.proofs.Steps.{each_step, each_request}

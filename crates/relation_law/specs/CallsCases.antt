@@ -54,10 +54,11 @@ pub record EventCases (file : ℕ) (s : State) (c : ℕ) (x : Client) (i : Input
     -- what it waits for is sent again
     pub resends : i ≡ Resends → (es : List Event) (t : Step) → P es t
 
--- In the middle of a turn the client is so, behind the events of its first line: its call is new, an answer was taken, a reply or a
--- timeout was, or its call is as it was.
+-- In the middle of a turn the client is so, behind the events of its first line: its call is new, an answer was taken, a reply
+-- or a timeout was, or its call is as it was.
 pub data IsTurn (file : ℕ) (s : State) (c : ℕ) (x : Client) (i : Input) (es : List Event) (d : Done) : Type 0 where
-  Begins : (op : CallOp) → i ≡ Calls op → x.call ≡ None → writes_nothing op ≡ false → es ≡ [] → d ≡ quiet (with_start x op) → IsTurn file s c x i es d
+  Begins : (op : CallOp) → i ≡ Calls op → x.call ≡ None → writes_nothing op ≡ false → es ≡ [] → d ≡ quiet (with_start x op) →
+      IsTurn file s c x i es d
   Answered : (a : Answer) → IsAnswered x i a → es ≡ table.answered s file c x a x.outstanding →
       d ≡ on_call (quiet (record x { outstanding = None })) x.call a → IsTurn file s c x i es d
   Replied : (drive : ℕ) (q : Reply) (call : Call) (h : Held) (a : Awaited) → IsReplied x i drive q call h a →

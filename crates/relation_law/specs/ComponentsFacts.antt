@@ -8,8 +8,7 @@ use Rattle.server_rules.specs.Laws.{In}
 use Rattle.server_rules.specs.Messages.{Orders}
 use Rattle.server_rules.specs.Standing.{any_on}
 use Rattle.component_law.specs.Components.{is_lacking}
-use Rattle.component_law.specs.Performing.{AreDistinct}
-use Rattle.component_law.specs.Sound.{target_in}
+use Rattle.component_law.specs.Distinct.{AreDistinct}
 use Rattle.world_history.specs.ServerNames.{File, Component, Drive, Job, Target, ToDeclare}
 use Rattle.world_history.specs.State.{World, at_number}
 use Rattle.osd_objects.specs.declared.lanes.LaneEntry.{LaneEntry}
@@ -19,6 +18,7 @@ use Rattle.fence_law.specs.State.{State}
 use Rattle.fence_law.specs.Words.{In as InRun}
 use Rattle.file_simulation.specs.Components.{has_failed, object_of}
 use Rattle.component_law.specs.Tagged.{fence_open}
+use Rattle.component_law.specs.Objects.{target_in}
 use Rattle.file_simulation.specs.Messages.{HasCommanded}
 use Rattle.relation_law.specs.DriveHearing.{AreFirst, AreOfSenders, SendsAbove}
 use Rattle.relation_law.specs.ComponentsBehind.{AreUnready}
@@ -83,7 +83,7 @@ AreRaising w f =
     (d k : ℕ) (x : Command) (at : Component) → HasCommanded w d x → x.action ≡ SetTag →
     slice_get f.kept.components k ≡ Some at → x.object ≡ at.object → IsRaising f x.capability.tag
 
--- none is under an earlier tag than the file's first; no law says it yet
+-- none is under an earlier tag than the file's first
 abbrev pub NoneIsEarlier : World → File → Type 0
 NoneIsEarlier w f =
     (d k : ℕ) (x : Command) (at : Component) → HasCommanded w d x → x.action ≡ SetTag →

@@ -25,7 +25,7 @@ EachRebuiltStands =
 abbrev pub WritesHavePlaces : World → Type 0
 WritesHavePlaces w = (d : ℕ) (x : Command) → HasCommanded w d x → x.action ≡ Write → x.offset < 2 ^ 64
 
--- so it is at each moment of a history of a scenario's text; no law says it yet
+-- so it is at each moment of a history of a scenario's text
 abbrev pub EachWriteHasItsPlace : Type 0
 EachWriteHasItsPlace = (w : World) (h : List Line) → IsMoment w h → IsOfScenario h → WritesHavePlaces w
 

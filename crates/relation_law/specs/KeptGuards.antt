@@ -8,7 +8,7 @@ use Rattle.fence_law.specs.Columns.{Short}
 use Rattle.plan_law.specs.FileLayout.{layout_of}
 use Rattle.plan_law.specs.Standing.{column_stands}
 
--- A column of which each position has a replica that isn't lost isn't short. This is a statement.
+-- A column of which each position has a replica that isn't lost isn't short.
 abbrev pub StandingColumnsAreNotShort : Type 0
 StandingColumnsAreNotShort =
     (m : RawMap) (tag : ℕ) (s : State) → IsChecked m → s.layout ≡ layout_of m tag → (x : ℕ) →

@@ -1,5 +1,4 @@
 pub mod Steps
-pub mod Pending
 pub mod DriveHearing
 pub mod Frames
 pub mod KeptHigh

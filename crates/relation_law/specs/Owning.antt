@@ -8,7 +8,7 @@ use Rattle.server_rules.specs.History.{Input, Hears, step}
 use Rattle.server_rules.specs.Laws.{In}
 use Rattle.server_rules.specs.Messages.{Replies}
 use Rattle.server_rules.specs.Replies.{Older, Done, answers, hearing}
-use Rattle.component_law.specs.Performing.{AreDistinct}
+use Rattle.component_law.specs.Distinct.{AreDistinct}
 use Rattle.component_law.specs.Objects.{target_of}
 use Rattle.history_law.specs.Numbered.{Awaits, IsOf}
 use Rattle.world_history.specs.ServerNames.{Server, File, Component, Awaited, Target, Job, Note, Fenced, ToDrive}

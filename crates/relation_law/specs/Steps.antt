@@ -1,20 +1,27 @@
 -- A move of a calm history and a file that was there before it: what each part of the relation is behind the move.
-use Rattle.std.specs.Prelude.{◌≡◌, ℕ, ◌<◌, ◌++◌, List, length, take, Some}
+use Rattle.std.specs.Prelude.{◌≡◌, ℕ, ◌<◌, ◌≤◌, ◌^◌, ◌++◌, List, length, take, Some}
 use Rattle.scenario_text.specs.declared.line.Line.{Line}
 use Rattle.scenario_text.specs.declared.names.TheConstants.{CLIENTS}
 use Rattle.server_rules.specs.Files.{file_at}
+use Rattle.server_rules.specs.Laws.{In}
 use Rattle.server_rules.specs.Slots.{slot_of}
+use Rattle.client_rules.specs.declared.limits.TheConstants.{NONCES}
 use Rattle.client_rules.specs.Calls.{file_of}
-use Rattle.world_history.specs.ClientNames.{Call}
+use Rattle.client_rules.specs.Grants.{held_of}
+use Rattle.client_rules.specs.History.{step}
+use Rattle.client_rules.specs.Io.{awaited_in}
+use Rattle.world_history.specs.ClientNames.{Awaited, Call, Client, Held}
 use Rattle.world_history.specs.ServerNames.{File}
 use Rattle.world_history.specs.State.{World}
 use Rattle.world_history.specs.Sending.{Move, move}
 use Rattle.world_history.specs.Plans.{due}
 use Rattle.history_law.specs.BookMoments.{IsMoment, plan_at, lines_in}
+use Rattle.exchange_law.specs.Text.{AreOfText}
 use Rattle.fence_law.specs.State.{State}
 use Rattle.fence_law.specs.State.Call.{Reads as AtRead}
 use Rattle.fence_law.specs.Machine.{Lawful as IsLawfulRun, after_all}
-use Rattle.file_simulation.specs.Claim.{IsCalmHistory, IsOfScenario}
+use Rattle.file_simulation.specs.Claim.{IsCalmHistory}
+use Rattle.file_simulation.specs.ClientEvents.{Going, going_in}
 use Rattle.file_simulation.specs.Components.{AreComponents}
 use Rattle.file_simulation.specs.Phases.{IsKept, AreBelowHigh}
 use Rattle.file_simulation.specs.Requests.{RequestsAgree, kept_for}
@@ -25,12 +32,25 @@ use Rattle.file_simulation.specs.Relation.{IsRelated, client_of}
 use Rattle.file_simulation.specs.Events.{joined, events_of}
 use Rattle.file_simulation.specs.Showing.{IsRun}
 
--- Move m is due at a moment, all its lines are of the scenario, and the history is calm up to line `count` of the move. File f
--- is there before it and is g behind it. Machine s, which a lawful and calm run has reached, stands for f before the move.
+-- A call that awaits a command has sent fewer commands under its grant than a grant has numbers for.
+abbrev pub HasNonces : Client → Type 0
+HasNonces x =
+    (call : Call) → x.call ≡ Some call → (a : Awaited) → In a (awaited_in call.phase) → (h : Held) →
+    held_of x.held (file_of call.op) ≡ Some h → h.count < NONCES
+
+-- There is room for the numbers that a move uses: of objects, and of the commands of a client that goes on.
+pub record HasRoom (w : World) (m : Move) : Type 0 where
+  pub objects : (move w m).world.server.next_object ≤ 2 ^ 63
+  pub commands : (j : Going) → going_in w m.action ≡ Some j → HasNonces (step j.state j.input).client
+
+-- Move m is due at a moment, all its lines are of a scenario's text, there is room for its numbers, and the history is calm up
+-- to line `count` of the move. File f is there before it and is g behind it. Machine s, which a lawful and calm run has reached,
+-- stands for f before the move.
 pub record Follows (w : World) (h : List Line) (m : Move) (count : ℕ) (f g : File) (s : State) : Type 0 where
   pub moment : IsMoment w h
   pub is_due : due (plan_at moment) w ≡ Some m.action
-  pub whole : IsOfScenario (h ++ lines_in w m)
+  pub text : AreOfText (h ++ lines_in w m)
+  pub room : HasRoom w m
   pub calm : IsCalmHistory (h ++ take count (lines_in w m))
   pub there : file_at w.server.files f.kept.number ≡ Some f
   pub goes : file_at (move w m).world.server.files f.kept.number ≡ Some g

@@ -2,7 +2,6 @@
 ghost use Rattle.file_simulation.specs.Conclusion.{FilesAreShaped};
 ghost use Rattle.relation_law.specs.ComponentsFollow.{ComponentsFollow};
 ghost use Rattle.relation_law.specs.KeptFollows.{KeptParts};
-ghost use Rattle.relation_law.specs.Pending.{PendingIfTold};
 ghost use Rattle.relation_law.specs.RequestsGoing.{RequestsFollow};
 
 use cause_law::{
@@ -25,14 +24,6 @@ use world_history::one_event_more;
 pub fn files_are_shaped()
     ensures { FilesAreShaped }
 {}
-
-/// If a line can tell each outcome of a call, the calls that are pending by the lines of a history are at each moment
-/// those of the world's clients.
-pub fn calls_are_pending()
-    ensures { PendingIfTold }
-{
-    one_event_more();
-}
 
 /// Behind each move of a calm history the machine of a file has the clients' requests as they are: their sequence
 /// numbers, the server's slots, and the outstanding request with its answer. One thing is asked: that each move keeps what

@@ -39,7 +39,6 @@ returns c =
       messages = c.messages_are_read.ensures;
       apart = c.components_stand_apart.ensures;
       readable = c.files_and_answers_are_readable.ensures;
-      few = c.each_call_sends_few.ensures;
       owned = c.each_object_is_owned.ensures;
       sent = c.server_sent_its_run.ensures;
       lost = c.lost_are_listed.ensures;

@@ -1,0 +1,13 @@
+pub mod Words
+pub mod Files
+pub mod Logs
+pub mod Marks
+pub mod Harms
+pub mod Performing
+pub mod Flagging
+pub mod Following
+pub mod Sightings
+pub mod Steps
+pub mod Moving
+pub mod Watching
+pub mod Seeing

@@ -1,5 +1,0 @@
-use Rattle.component_law.proofs.FileShowing.{moves_show_files}
-use Rattle.component_law.proofs.calm_laws.moves_show_files.Goals as goal
-
-pub returns : goal.returns
-returns c = moves_show_files c.files_are_put.ensures

@@ -1,5 +1,0 @@
-use Rattle.component_law.proofs.Pending.{pending_is_read}
-use Rattle.component_law.proofs.calm_laws.pending_is_read.Goals as goal
-
-pub returns : goal.returns
-returns c = pending_is_read

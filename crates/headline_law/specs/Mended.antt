@@ -1,0 +1,25 @@
+-- What the note that a repair is over says of the repair that the last step of some lines ends.
+use Rattle.std.specs.Prelude.{◌≡◌, ◌++◌, ℕ, List, [], ◌∷◌, length}
+use Rattle.scenario_text.specs.declared.line.Line.{Line}
+use Rattle.scenario_text.specs.declared.line.Line.TheVariants as line
+use Rattle.scenario_text.specs.declared.line.Note.TheVariants as note
+use Rattle.server_rules.specs.Grants.{count_stripes}
+use Rattle.world_history.specs.ServerNames.{Mended}
+use Rattle.world_history.specs.History.{Lawful}
+use Rattle.history_law.specs.Read.{AreWritten}
+use Rattle.file_simulation.specs.Claim.{EndsRepair}
+
+-- The last step of some lines ends a repair of the file, which counted so many stripes and left so many of them short.
+pub record EndsCounted (h : List Line) (file stripes short : ℕ) : Type 0 where
+  pub repair : Mended
+  pub ends : EndsRepair h file repair
+  pub counted : count_stripes repair.worked ≡ stripes
+  pub left : length repair.short ≡ short
+
+-- So it is right behind each note that a repair is over, with the numbers of the note.
+abbrev pub RepairsAreCounted : Type 0
+RepairsAreCounted =
+    (before : List Line) (file stripes short : ℕ) →
+    Lawful (before ++ line.Note file (note.Repaired stripes short) ∷ []) →
+    AreWritten (before ++ line.Note file (note.Repaired stripes short) ∷ []) →
+    EndsCounted (before ++ line.Note file (note.Repaired stripes short) ∷ []) file stripes short

@@ -1,5 +1,0 @@
-use Rattle.relation_law.proofs.PendingMoves.{calls_are_pending}
-use Rattle.relation_law.proofs.relation_laws.calls_are_pending.Goals as goal
-
-pub returns : goal.returns
-returns c = λ told. calls_are_pending told c.one_event_more.ensures
