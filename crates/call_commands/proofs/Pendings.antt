@@ -30,20 +30,14 @@ below_all (k ∷ ks) last n h l = (
   below_all ks last n (All-tail (λ q. is_lt (nat_cmp last q) ≡ false) k ks h) l,
 )
 
-insert_behind : (es : List (ℕ × Awaited)) (n : ℕ) (a : Awaited) → AllByRecursion (λ q. q < n) (keys_of es) → insert_entry nat_cmp es n a ≡ es ++ (n, a) ∷ []
+insert_behind : (es : List (ℕ × Awaited)) (n : ℕ) (a : Awaited) → AllByRecursion (λ q. q < n) (keys_of es) →
+    insert_entry nat_cmp es n a ≡ es ++ (n, a) ∷ []
 insert_behind [] n a h = refl
 insert_behind (e ∷ es) n a h = rw (greater n e.0 h.0) (ap (λ xs. e ∷ xs) (insert_behind es n a h.1))
 
-pub insert_last : (es : List (ℕ × Awaited)) (last n : ℕ) (a : Awaited) → All (λ q. is_lt (nat_cmp last q) ≡ false) (keys_of es) → last < n → insert_entry nat_cmp es n a ≡ es ++ (n, a) ∷ []
+pub insert_last : (es : List (ℕ × Awaited)) (last n : ℕ) (a : Awaited) → All (λ q. is_lt (nat_cmp last q) ≡ false) (keys_of es) →
+    last < n → insert_entry nat_cmp es n a ≡ es ++ (n, a) ∷ []
 insert_last es last n a h l = insert_behind es n a (below_all (keys_of es) last n h l)
-
-pub keyed_more : (es : List (ℕ × Awaited)) (a : Awaited) → AreKeyed es → AreKeyed (es ++ (a.command.nonce, a) ∷ [])
-keyed_more [] a h = (refl, tt)
-keyed_more (e ∷ es) a h = (h.0, keyed_more es a h.1)
-
-pub values_more : (es : List (ℕ × Awaited)) (n : ℕ) (a : Awaited) → values_of (es ++ (n, a) ∷ []) ≡ values_of es ++ a ∷ []
-values_more [] n a = refl
-values_more (e ∷ es) n a = ap (λ xs. e.1 ∷ xs) (values_more es n a)
 
 -- ---- the one with a nonce
 
@@ -51,15 +45,18 @@ nonce_is : (n : ℕ) (e : ℕ × Awaited) → e.1.command.nonce ≡ e.0 → (e.1
 nonce_is n e h = ap (λ (z : ℕ). z == n) h
 
 -- the keys behind one are others
-apart : (j n : ℕ) (ks : List ℕ) → (j == n) ≡ true → AllByRecursion (λ y. nat_cmp j y ≡ Less) ks → AllByRecursion (λ y. (y == n) ≡ false) ks
+apart : (j n : ℕ) (ks : List ℕ) → (j == n) ≡ true → AllByRecursion (λ y. nat_cmp j y ≡ Less) ks →
+    AllByRecursion (λ y. (y == n) ≡ false) ks
 apart j n [] t h = tt
 apart j n (k ∷ ks) t h = (grind (arith, nat_tests, t, h.0), apart j n ks t h.1)
 
-none_found : (d n : ℕ) (es : List (ℕ × Awaited)) → AreKeyed es → AllByRecursion (λ y. (y == n) ≡ false) (keys_of es) → find (answering d n) (values_of es) ≡ None
+none_found : (d n : ℕ) (es : List (ℕ × Awaited)) → AreKeyed es → AllByRecursion (λ y. (y == n) ≡ false) (keys_of es) →
+    find (answering d n) (values_of es) ≡ None
 none_found d n [] h x = refl
 none_found d n (e ∷ es) h x = rw (nonce_is n e h.0 ∙ x.0) (none_found d n es h.1 x.1)
 
-all_stay : (n : ℕ) (es : List (ℕ × Awaited)) → AreKeyed es → AllByRecursion (λ y. (y == n) ≡ false) (keys_of es) → filter (λ (a : Awaited). not (a.command.nonce == n)) (values_of es) ≡ values_of es
+all_stay : (n : ℕ) (es : List (ℕ × Awaited)) → AreKeyed es → AllByRecursion (λ y. (y == n) ≡ false) (keys_of es) →
+    filter (λ (a : Awaited). not (a.command.nonce == n)) (values_of es) ≡ values_of es
 all_stay n [] h x = refl
 all_stay n (e ∷ es) h x = rw (nonce_is n e h.0 ∙ x.0) (ap (λ xs. e.1 ∷ xs) (all_stay n es h.1 x.1))
 
@@ -80,7 +77,8 @@ pub kept_drive : (d : ℕ) (o : Option Awaited) → is_some (of_drive d o) ≡ t
 kept_drive d None e = refl
 kept_drive d (Some a) e = kept_if (a.drive == d) a e
 
-pub left_is : (xs : List Awaited) (n : ℕ) (o : Option Awaited) → is_some o ≡ true → ((a : Awaited) → o ≡ Some a → a.command.nonce ≡ n) → left_by xs o ≡ others xs n
+pub left_is : (xs : List Awaited) (n : ℕ) (o : Option Awaited) → is_some o ≡ true →
+    ((a : Awaited) → o ≡ Some a → a.command.nonce ≡ n) → left_by xs o ≡ others xs n
 left_is xs n None e h = absurd (cc e)
 left_is xs n (Some a) e h = ap (others xs) (h a refl)
 
@@ -88,32 +86,38 @@ either_none : (b : Bool) (x : Option Awaited) (a : Awaited) → x ≡ None → (
 either_none true x a e = refl
 either_none false x a e = e
 
-pub found : (d n : ℕ) (es : List (ℕ × Awaited)) → AreKeyed es → IsStrictlySortedBy nat_cmp (keys_of es) → find (answering d n) (values_of es) ≡ of_drive d (lookup (is_at (nat_cmp n)) es)
+pub found : (d n : ℕ) (es : List (ℕ × Awaited)) → AreKeyed es → IsStrictlySortedBy nat_cmp (keys_of es) →
+    find (answering d n) (values_of es) ≡ of_drive d (lookup (is_at (nat_cmp n)) es)
 found d n [] h s = refl
 found d n (e ∷ es) h s = elim (cases_Bool (e.0 == n)) [
   | inl t ↦ rw (at_number n e.0 ∙ t, nonce_is n e h.0 ∙ t)
-      (either_none (e.1.drive == d) _ e.1 (none_found d n es h.1 (apart e.0 n (keys_of es) t (sorted_head nat_cmp e.0 (keys_of es) s))))
+      (either_none (e.1.drive == d) _ e.1
+          (none_found d n es h.1 (apart e.0 n (keys_of es) t (sorted_head nat_cmp e.0 (keys_of es) s))))
   | inr f ↦ rw (at_number n e.0 ∙ f, nonce_is n e h.0 ∙ f) (found d n es h.1 (sorted_tail nat_cmp e.0 (keys_of es) s))
 ]
 
-pub found_any : (n : ℕ) (es : List (ℕ × Awaited)) → AreKeyed es → find (λ (a : Awaited). a.command.nonce == n) (values_of es) ≡ lookup (is_at (nat_cmp n)) es
+pub found_any : (n : ℕ) (es : List (ℕ × Awaited)) → AreKeyed es →
+    find (λ (a : Awaited). a.command.nonce == n) (values_of es) ≡ lookup (is_at (nat_cmp n)) es
 found_any n [] h = refl
 found_any n (e ∷ es) h = elim (cases_Bool (e.0 == n)) [
   | inl t ↦ rw (at_number n e.0 ∙ t, nonce_is n e h.0 ∙ t) refl
   | inr f ↦ rw (at_number n e.0 ∙ f, nonce_is n e h.0 ∙ f) (found_any n es h.1)
 ]
 
-pub taken_out : (n : ℕ) (es : List (ℕ × Awaited)) → AreKeyed es → IsStrictlySortedBy nat_cmp (keys_of es) → values_of (remove_entry (is_at (nat_cmp n)) es) ≡ others (values_of es) n
+pub taken_out : (n : ℕ) (es : List (ℕ × Awaited)) → AreKeyed es → IsStrictlySortedBy nat_cmp (keys_of es) →
+    values_of (remove_entry (is_at (nat_cmp n)) es) ≡ others (values_of es) n
 unfolding others
 taken_out n [] h s = refl
 taken_out n (e ∷ es) h s = elim (cases_Bool (e.0 == n)) [
   | inl t ↦ rw (at_number n e.0 ∙ t, nonce_is n e h.0 ∙ t)
       (sym (all_stay n es h.1 (apart e.0 n (keys_of es) t (sorted_head nat_cmp e.0 (keys_of es) s))))
-  | inr f ↦ rw (at_number n e.0 ∙ f, nonce_is n e h.0 ∙ f) (ap (λ xs. e.1 ∷ xs) (taken_out n es h.1 (sorted_tail nat_cmp e.0 (keys_of es) s)))
+  | inr f ↦ rw (at_number n e.0 ∙ f, nonce_is n e h.0 ∙ f)
+      (ap (λ xs. e.1 ∷ xs) (taken_out n es h.1 (sorted_tail nat_cmp e.0 (keys_of es) s)))
 ]
 
 -- a command that is looked up has the nonce
-pub nonce_there : (n : ℕ) (es : List (ℕ × Awaited)) (a : Awaited) → AreKeyed es → lookup (is_at (nat_cmp n)) es ≡ Some a → a.command.nonce ≡ n
+pub nonce_there : (n : ℕ) (es : List (ℕ × Awaited)) (a : Awaited) → AreKeyed es → lookup (is_at (nat_cmp n)) es ≡ Some a →
+    a.command.nonce ≡ n
 nonce_there n [] a h e = absurd (cc e)
 nonce_there n (e ∷ es) a h x = elim (cases_Bool (e.0 == n)) [
   | inl t ↦
@@ -141,7 +145,8 @@ keyed_kept p (e ∷ es) h = elim (cases_Bool (p e)) [
   | inr f ↦ rw f (keyed_kept p es h.1)
 ]
 
-pub kept_values : (k : ℕ) (es : List (ℕ × Awaited)) → values_of (filter (λ (e : ℕ × Awaited). not (e.1.ask.component == k)) es) ≡ not_of k (values_of es)
+pub kept_values : (k : ℕ) (es : List (ℕ × Awaited)) →
+    values_of (filter (λ (e : ℕ × Awaited). not (e.1.ask.component == k)) es) ≡ not_of k (values_of es)
 unfolding not_of
 kept_values k [] = refl
 kept_values k (e ∷ es) = elim (cases_Bool (e.1.ask.component == k)) [
@@ -162,7 +167,8 @@ first_step k (b ∷ bs) a = elim (cases_Bool (b.ask.component == k)) [
   | inr f ↦ rw f (first_step k bs a)
 ]
 
-pub first_turn : (t : Option TimedOut) (k : ℕ) (a : Awaited) (xs : List Awaited) → first_by t k (a ∷ xs) ≡ first_by (nearer t a k) k xs
+pub first_turn : (t : Option TimedOut) (k : ℕ) (a : Awaited) (xs : List Awaited) →
+    first_by t k (a ∷ xs) ≡ first_by (nearer t a k) k xs
 unfolding first_by
 first_turn t k a xs = refl
 
@@ -188,7 +194,8 @@ lowest_step (a ∷ xs) k = elim (cases_Bool (nat_lt a.ask.component k)) [
   | inr f ↦ rw f (lowest_step xs k)
 ]
 
-pub lowest_turn : (j : Option ℕ) (a : Awaited) (xs : List Awaited) → lowest_by j (a ∷ xs) ≡ lowest_by (Some (lower j a.ask.component)) xs
+pub lowest_turn : (j : Option ℕ) (a : Awaited) (xs : List Awaited) →
+    lowest_by j (a ∷ xs) ≡ lowest_by (Some (lower j a.ask.component)) xs
 unfolding lowest_by
 lowest_turn j a xs = refl
 

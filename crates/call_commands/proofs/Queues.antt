@@ -1,10 +1,10 @@
 -- The next write to a component, by its place.
-use Rattle.std.proofs.Common.{◌≡◌, ◌<◌, ℕ, zero, suc, ◌+◌, ◌==◌, ◌++◌, false, List, [], ◌∷◌, length, refl, ap, ◌∙◌, arith, inl, inr}
+use Rattle.std.proofs.Common.{◌≡◌, ◌<◌, ℕ, zero, suc, ◌+◌, ◌==◌, ◌++◌, List, [], ◌∷◌, length, refl, ap, ◌∙◌, arith, inl, inr}
 use Rattle.std.specs.Prelude.{filter, slice_index_or, set, option_to_list, Option, Some, None}
-use Rattle.std.proofs.lemmas.Bool.{cases_Bool, cases_eq}
+use Rattle.std.proofs.lemmas.Bool.{cases_Bool}
 use Rattle.call_commands.specs.State.{Store}
 use Rattle.client_rules.specs.Writes.{next_to, without_next, without_component}
-use Rattle.call_commands.specs.Queue.{present, is_to, is_to_other, NoneBefore, StandBehind, IsFirstTo, Notes}
+use Rattle.call_commands.specs.Queue.{present, is_to, is_to_other, NoneBefore, StandBehind, IsFirstTo}
 
 -- behind the first place
 tail : (x : Option Store) (xs : List (Option Store)) (k n : ℕ) → NoneBefore (x ∷ xs) k (suc n) → NoneBefore xs k n
@@ -33,7 +33,8 @@ none_without (None ∷ xs) k h = none_without xs k (tail None xs k (length xs) h
 none_without (Some w ∷ xs) k h = rw (h 0 (omega arith)) (ap (λ ws. w ∷ ws) (none_without xs k (tail (Some w) xs k (length xs) h)))
 
 -- at place i
-pub there_next : (xs : List (Option Store)) (k i : ℕ) → IsFirstTo xs k i → next_to k (present xs) ≡ option_to_list (slice_index_or xs i None)
+pub there_next : (xs : List (Option Store)) (k i : ℕ) → IsFirstTo xs k i →
+    next_to k (present xs) ≡ option_to_list (slice_index_or xs i None)
 unfolding present next_to
 there_next [] k i f = absurd (omega (arith, f.inside))
 there_next (None ∷ xs) k zero f = absurd (cc f.there)
@@ -41,16 +42,19 @@ there_next (Some v ∷ xs) k zero f = rw f.there refl
 there_next (None ∷ xs) k (suc i) f = there_next xs k i (behind None xs k i f)
 there_next (Some v ∷ xs) k (suc i) f = rw (f.none 0 (omega arith)) (there_next xs k i (behind (Some v) xs k i f))
 
-pub there_without : (xs : List (Option Store)) (k i : ℕ) → IsFirstTo xs k i → present (set xs i None) ≡ without_next k (present xs)
+pub there_without : (xs : List (Option Store)) (k i : ℕ) → IsFirstTo xs k i →
+    present (set xs i None) ≡ without_next k (present xs)
 unfolding present without_next
 there_without [] k i f = absurd (omega (arith, f.inside))
 there_without (None ∷ xs) k zero f = absurd (cc f.there)
 there_without (Some v ∷ xs) k zero f = rw f.there refl
 there_without (None ∷ xs) k (suc i) f = there_without xs k i (behind None xs k i f)
-there_without (Some v ∷ xs) k (suc i) f = rw (f.none 0 (omega arith)) (ap (λ ws. v ∷ ws) (there_without xs k i (behind (Some v) xs k i f)))
+there_without (Some v ∷ xs) k (suc i) f =
+    rw (f.none 0 (omega arith)) (ap (λ ws. v ∷ ws) (there_without xs k i (behind (Some v) xs k i f)))
 
 -- of the places that are kept
-pub kept_present : (xs : List (Option Store)) (k : ℕ) → present (filter (λ (x : Option Store). is_to_other x k) xs) ≡ without_component k (present xs)
+pub kept_present : (xs : List (Option Store)) (k : ℕ) →
+    present (filter (λ (x : Option Store). is_to_other x k) xs) ≡ without_component k (present xs)
 unfolding present without_component
 kept_present [] k = refl
 kept_present (None ∷ xs) k = kept_present xs k
@@ -70,34 +74,8 @@ longer : (xs : List (Option Store)) (x : Option Store) → length (xs ++ x ∷ [
 longer [] x = refl
 longer (y ∷ xs) x = omega (arith, longer xs x)
 
-pub push_stand : (es : List (ℕ × ℕ)) (xs : List (Option Store)) (w : Store) → StandBehind es xs → StandBehind es (xs ++ Some w ∷ [])
-push_stand es xs w h k = (omega (arith, longer xs (Some w), (h k).0), λ j l. ap (λ x. is_to x k) (early xs (Some w ∷ []) j (omega (arith, l, (h k).0))) ∙ (h k).1 j l)
-
-emptied : (xs : List (Option Store)) (p j k : ℕ) → is_to (slice_index_or xs j None) k ≡ false → is_to (slice_index_or (set xs p None) j None) k ≡ false
-emptied [] p j k e = e
-emptied (x ∷ xs) zero zero k e = refl
-emptied (x ∷ xs) zero (suc j) k e = e
-emptied (x ∷ xs) (suc p) zero k e = e
-emptied (x ∷ xs) (suc p) (suc j) k e = emptied xs p j k e
-
-emptied_there : (xs : List (Option Store)) (p k : ℕ) → is_to (slice_index_or (set xs p None) p None) k ≡ false
-emptied_there [] p k = refl
-emptied_there (x ∷ xs) zero k = refl
-emptied_there (x ∷ xs) (suc p) k = emptied_there xs p k
-
-as_long : (xs : List (Option Store)) (p : ℕ) → length (set xs p None) ≡ length xs
-as_long [] p = refl
-as_long (x ∷ xs) zero = refl
-as_long (x ∷ xs) (suc p) = omega (arith, as_long xs p)
-
-upto : (xs : List (Option Store)) (k p j : ℕ) → IsFirstTo xs k p → j < p + 1 → is_to (slice_index_or (set xs p None) j None) k ≡ false
-upto xs k p j f l = elim (cases_eq j p) [
-  | inl e ↦ rw e (emptied_there xs p k)
-  | inr ne ↦ emptied xs p j k (f.none j (omega (arith, l, ne)))
-]
-
-pub taken_stand : (es fs : List (ℕ × ℕ)) (xs : List (Option Store)) (k p : ℕ) → StandBehind es xs → IsFirstTo xs k p → Notes es fs k (p + 1) → StandBehind fs (set xs p None)
-taken_stand es fs xs k p h f n j = elim (n j) [
-  | inl e ↦ rw (e, as_long xs p) ((h j).0, λ i l. emptied xs p i j ((h j).1 i l))
-  | inr w ↦ rw (w.1, as_long xs p, w.0) (omega (arith, f.inside), λ i l. upto xs k p i f l)
-]
+pub push_stand : (es : List (ℕ × ℕ)) (xs : List (Option Store)) (w : Store) → StandBehind es xs →
+    StandBehind es (xs ++ Some w ∷ [])
+push_stand es xs w h k =
+    (omega (arith, longer xs (Some w), (h k).0), λ j l. ap (λ x. is_to x k) (early xs (Some w ∷ []) j (omega (arith, l, (h k).0)))
+    ∙ (h k).1 j l)

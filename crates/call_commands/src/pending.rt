@@ -62,7 +62,8 @@ pub(crate) fn copied(alloc: Global, awaited: &Awaited) -> Result<Awaited, Memory
 
 // Whether a nonce is above those of all these commands, so that a command with it comes last.
 fn is_above_all(by_nonce: &BTreeMap<u64, Awaited>, nonce: u64) -> bool
-    ensures { (a : Kept) → IsTrue result → insert_entry nat_cmp by_nonce.now.entries nonce a ≡ by_nonce.now.entries ++ (nonce, a) ∷ [] }
+    ensures { (a : Kept) → IsTrue result →
+        insert_entry nat_cmp by_nonce.now.entries nonce a ≡ by_nonce.now.entries ++ (nonce, a) ∷ [] }
 {
     match by_nonce.last_key_value() {
         Some((last, _)) => *last < nonce,

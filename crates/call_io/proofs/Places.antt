@@ -31,7 +31,8 @@ range_step p e l = ap (range_with_len p) (left p e l)
 pub range_end : (p e : ℕ) → e ≤ p → range_with_len p (e - p) ≡ []
 range_end p e l = ap (range_with_len p) (none p e l)
 
-pub probe_step : (h : Held) (out have : List ℕ) (p e : ℕ) → p < e → probe_each h out have p (e - p) ≡ probe_unless h out have p ++ probe_each h out have (p + 1) (e - (p + 1))
+pub probe_step : (h : Held) (out have : List ℕ) (p e : ℕ) → p < e →
+    probe_each h out have p (e - p) ≡ probe_unless h out have p ++ probe_each h out have (p + 1) (e - (p + 1))
 unfolding probe_each
 probe_step h out have p e l = ap (probe_each h out have p) (left p e l)
 
@@ -51,14 +52,16 @@ none_first k = refl
 
 -- ---- what was read, as of first components
 
-pub same_column : (m : RawMap) (x : Column) (k : ℕ) (bytes : List ℕ) → k ≡ replica_of m x.position 0 → bytes ≡ x.bytes → part_column m (record { component = k; offset = x.offset; bytes = bytes }) ≡ x
+pub same_column : (m : RawMap) (x : Column) (k : ℕ) (bytes : List ℕ) → k ≡ replica_of m x.position 0 → bytes ≡ x.bytes →
+    part_column m (record { component = k; offset = x.offset; bytes = bytes }) ≡ x
 same_column m x k bytes e b = rw (e, b, first_replica m x.position) refl
 
 map_snoc : (m : RawMap) (ts : List Part) (t : Part) → columns_of m (ts ++ t ∷ []) ≡ columns_of m ts ++ part_column m t ∷ []
 map_snoc m [] t = refl
 map_snoc m (s ∷ ts) t = ap (λ xs. part_column m s ∷ xs) (map_snoc m ts t)
 
-pub fetched_step : (m : RawMap) (got : List Column) (ts : List Part) (i : ℕ) (x : Column) (t : Part) → slice_get got i ≡ Some x → part_column m t ≡ x → columns_of m ts ++ drop i got ≡ got → columns_of m (ts ++ t ∷ []) ++ drop (i + 1) got ≡ got
+pub fetched_step : (m : RawMap) (got : List Column) (ts : List Part) (i : ℕ) (x : Column) (t : Part) → slice_get got i ≡ Some x →
+    part_column m t ≡ x → columns_of m ts ++ drop i got ≡ got → columns_of m (ts ++ t ∷ []) ++ drop (i + 1) got ≡ got
 fetched_step m got ts i x t e p h =
     ap (λ xs. xs ++ drop (i + 1) got) (map_snoc m ts t ∙ ap (λ (y : Column). columns_of m ts ++ y ∷ []) p)
     ∙ snoc (columns_of m ts) x (drop (i + 1) got)

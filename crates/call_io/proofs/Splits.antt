@@ -22,7 +22,9 @@ unfolding firsts
 same_firsts s t h [] = refl
 same_firsts s t h (w ∷ ws) = elim (cases_Bool (among w.ask.component s)) [
   | inl e ↦ rw (e, sym (h w.ask.component) ∙ e) (same_firsts s t h ws)
-  | inr e ↦ rw (e, sym (h w.ask.component) ∙ e) (ap (λ xs. w ∷ xs) (same_firsts (w.ask.component ∷ s) (w.ask.component ∷ t) (λ k. ap (λ (b : Bool). (w.ask.component == k) || b) (h k)) ws))
+  | inr e ↦ rw (e, sym (h w.ask.component) ∙ e)
+      (ap (λ xs. w ∷ xs)
+      (same_firsts (w.ask.component ∷ s) (w.ask.component ∷ t) (λ k. ap (λ (b : Bool). (w.ask.component == k) || b) (h k)) ws))
 ]
 
 same_laters : (s t : List ℕ) → ((k : ℕ) → among k s ≡ among k t) → (ws : List Store) → laters s ws ≡ laters t ws
@@ -30,17 +32,22 @@ unfolding laters
 same_laters s t h [] = refl
 same_laters s t h (w ∷ ws) = elim (cases_Bool (among w.ask.component s)) [
   | inl e ↦ rw (e, sym (h w.ask.component) ∙ e) (ap (λ xs. w ∷ xs) (same_laters s t h ws))
-  | inr e ↦ rw (e, sym (h w.ask.component) ∙ e) (same_laters (w.ask.component ∷ s) (w.ask.component ∷ t) (λ k. ap (λ (b : Bool). (w.ask.component == k) || b) (h k)) ws)
+  | inr e ↦ rw (e, sym (h w.ask.component) ∙ e)
+      (same_laters (w.ask.component ∷ s) (w.ask.component ∷ t) (λ k. ap (λ (b : Bool). (w.ask.component == k) || b) (h k)) ws)
 ]
 
-pub first_turn : (s : List ℕ) (w : Store) (ws : List Store) → new_first s w ++ firsts (seen_with s w.ask.component) ws ≡ firsts s (w ∷ ws)
+pub first_turn : (s : List ℕ) (w : Store) (ws : List Store) →
+    new_first s w ++ firsts (seen_with s w.ask.component) ws ≡ firsts s (w ∷ ws)
 unfolding firsts
 first_turn s w ws = elim (cases_Bool (among w.ask.component s)) [
   | inl e ↦ rw e refl
-  | inr e ↦ rw e (ap (λ xs. w ∷ xs) (sym (same_firsts (w.ask.component ∷ s) (s ++ w.ask.component ∷ []) (λ k. among_snoc k w.ask.component s) ws)))
+  | inr e ↦ rw e
+      (ap (λ xs. w ∷ xs)
+      (sym (same_firsts (w.ask.component ∷ s) (s ++ w.ask.component ∷ []) (λ k. among_snoc k w.ask.component s) ws)))
 ]
 
-pub later_turn : (s : List ℕ) (w : Store) (ws : List Store) → new_later s w ++ laters (seen_with s w.ask.component) ws ≡ laters s (w ∷ ws)
+pub later_turn : (s : List ℕ) (w : Store) (ws : List Store) →
+    new_later s w ++ laters (seen_with s w.ask.component) ws ≡ laters s (w ∷ ws)
 unfolding laters
 later_turn s w ws = elim (cases_Bool (among w.ask.component s)) [
   | inl e ↦ rw e refl

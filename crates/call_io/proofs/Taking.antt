@@ -17,7 +17,8 @@ get_behind (y ∷ ys) zero (suc j) x lt = refl
 get_behind (y ∷ ys) (suc i) zero x lt = absurd (omega (arith, lt))
 get_behind (y ∷ ys) (suc i) (suc j) x lt = get_behind ys i j x (omega (arith, lt))
 
-pub one_taken : {X : Type 0} (i : ℕ) (left now xs : List X) (x : X) → AreLeft i left xs → now ≡ slice_set left i x → AreLeft (i + 1) now xs
+pub one_taken : {X : Type 0} (i : ℕ) (left now xs : List X) (x : X) → AreLeft i left xs → now ≡ slice_set left i x →
+    AreLeft (i + 1) now xs
 one_taken i left now xs x l e = (
   ap length e ∙ length-set left i x ∙ l.0,
   λ j le. ap (λ ys. slice_get ys j) e ∙ get_behind left i j x (omega (arith, le)) ∙ l.1 j (omega (arith, le)),

@@ -100,7 +100,8 @@ fn return_with_report(
     timed: &TimedOuts,
     component: u32,
 ) -> Result<CallMove, Memory>
-    ensures { IfOk result (λ m. counted_move held.now m ≡ turned held.now (closing (IsSilent component) (report_of held.now timed.now))) }
+    ensures { IfOk result
+        (λ m. counted_move held.now m ≡ turned held.now (closing (IsSilent component) (report_of held.now timed.now))) }
 {
     let report = report_of(alloc, held, timed)?;
     Ok(without_sends(alloc, closing(Outcome::Silent { component }, report)))

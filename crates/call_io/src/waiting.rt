@@ -48,7 +48,8 @@ impl CallPhase {
 
     /// The component of the awaited command with that nonce.
     pub fn awaited_component(&self, nonce: u64) -> Option<u32>
-        ensures { result ≡ option_map (λ (a : Command). a.ask.component) (find (λ (a : Command). a.command.nonce == nonce) (awaited_in (phase_of self.now))) }
+        ensures { result ≡ option_map (λ (a : Command). a.ask.component)
+            (find (λ (a : Command). a.command.nonce == nonce) (awaited_in (phase_of self.now))) }
     {
         match self.pending() {
             Some(pending) => pending.component_of(nonce),

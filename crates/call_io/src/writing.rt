@@ -124,8 +124,10 @@ fn planned(
     timed: &TimedOuts,
 ) -> Result<(Vec<Store>, WriteQueue), Memory>
     requires { IsInside op.now }
-    ensures firsts { IfOk result (λ r. r.0.items ≡ firsts [] (stores held.now.map (span_of op.now) (bytes_of op.now) got (outs held.now timed.now))) }
-    ensures laters { IfOk result (λ r. r.1 ≡ laters [] (stores held.now.map (span_of op.now) (bytes_of op.now) got (outs held.now timed.now))) }
+    ensures firsts { IfOk result
+        (λ r. r.0.items ≡ firsts [] (stores held.now.map (span_of op.now) (bytes_of op.now) got (outs held.now timed.now))) }
+    ensures laters { IfOk result
+        (λ r. r.1 ≡ laters [] (stores held.now.map (span_of op.now) (bytes_of op.now) got (outs held.now timed.now))) }
 {
     let out = out_of(alloc, held, timed)?;
     let stores = stores(alloc, held, op, got, &out)?;

@@ -28,7 +28,8 @@ pub is_stepped : (s : Dealing) (step : Step) (c : Client) (told : CStep) (waitin
     → dealing c waiting notices s.told s.faults ≡ stepped s step
 is_stepped s step c told waiting notices i w n = rw (i.client, w, n, i.sends, i.outcome) refl
 
-pub turn_more : (ms : List Sent) (m : Sent) (s t u : Dealing) → InTurn Works ms s t → Works m t u → InTurn Works (ms ++ m ∷ []) s u
+pub turn_more : (ms : List Sent) (m : Sent) (s t u : Dealing) → InTurn Works ms s t → Works m t u →
+    InTurn Works (ms ++ m ∷ []) s u
 turn_more [] m s t u e r = (u, subst (λ (v : Dealing). Works m v u) e r, refl)
 turn_more (n ∷ ms) m s t u h r = (h.0, h.1, turn_more ms m h.0 t u h.2 r)
 
@@ -37,8 +38,10 @@ split_got [] i m e = absurd (cc e)
 split_got (k ∷ ms) zero m e = ap (λ (w : Sent). w ∷ ms) (cc e)
 split_got (k ∷ ms) (suc i) m e = ap (λ (ks : List Sent). k ∷ ks) (split_got ms i m e)
 
-pub loses_at : (ms : List Sent) (i : ℕ) (m : Sent) (s u t : Dealing) → slice_get ms i ≡ Some m → InTurn Works (take i ms) s u → Loses m u t → LosesIn ms s t
-loses_at ms i m s u t e w l = record { sent = take i ms; lost = m; unsent = drop (suc i) ms; are = split_got ms i m e; before = u; works = w; loses = l }
+pub loses_at : (ms : List Sent) (i : ℕ) (m : Sent) (s u t : Dealing) → slice_get ms i ≡ Some m → InTurn Works (take i ms) s u →
+    Loses m u t → LosesIn ms s t
+loses_at ms i m s u t e w l =
+    record { sent = take i ms; lost = m; unsent = drop (suc i) ms; are = split_got ms i m e; before = u; works = w; loses = l }
 
 -- ---- the outstanding request is the first of what is sent once more
 
@@ -51,16 +54,19 @@ none_first : (as_ : List Awaited) (message : List ℕ) → IsFirst (spelled (map
 none_first [] message f = f
 none_first (a ∷ as_) message f = absurd (cc f.0)
 
-first_by : (o : Option Request) (as_ : List Awaited) (message : List ℕ) → IsFirst (spelled (outstanding_sends o ++ map to_drive as_)) message
+first_by : (o : Option Request) (as_ : List Awaited) (message : List ℕ) →
+    IsFirst (spelled (outstanding_sends o ++ map to_drive as_)) message
     ↔ ((r : Request) × (o ≡ Some r) × (message ≡ bytes_of (Asks r)))
 first_by None as_ message = (λ f. absurd (none_first as_ message f), λ a. absurd (cc a.1))
-first_by (Some r) as_ message = (λ f. (r, refl, sym f.1), λ a. (refl, sym (a.2 ∙ ap (λ (q : Request). bytes_of (Asks q)) (cc (sym a.1)))))
+first_by (Some r) as_ message =
+    (λ f. (r, refl, sym f.1), λ a. (refl, sym (a.2 ∙ ap (λ (q : Request). bytes_of (Asks q)) (cc (sym a.1)))))
 
 pub first_awaited : (c : Client) (message : List ℕ) → IsFirst (spelled (resent c)) message ↔ AwaitsStill c message
 unfolding resent
 first_awaited c message = first_by c.outstanding (in_order (awaited_of c.call)) message
 
-pub still_from : (c : Client) (message : List ℕ) (sends : List Sent) (m : Sent) (b : Bool) → sends ≡ spelled (resent c) → slice_get sends 0 ≡ Some m
+pub still_from : (c : Client) (message : List ℕ) (sends : List Sent) (m : Sent) (b : Bool) → sends ≡ spelled (resent c) →
+    slice_get sends 0 ≡ Some m
     → IsTrue b ↔ IsRequest m message → IsTrue b ↔ AwaitsStill c message
 still_from c message [] m b e g i = absurd (cc g)
 still_from c message (n ∷ ns) m b e g i =
@@ -71,14 +77,16 @@ still_from c message (n ∷ ns) m b e g i =
       λ a. i.1 (subst (λ (x : Sent). IsRequest x message) same (first.1 a)),
     )
 
-pub none_still : (c : Client) (message : List ℕ) (sends : List Sent) → sends ≡ spelled (resent c) → sends ≡ [] → IsTrue false ↔ AwaitsStill c message
+pub none_still : (c : Client) (message : List ℕ) (sends : List Sent) → sends ≡ spelled (resent c) → sends ≡ [] →
+    IsTrue false ↔ AwaitsStill c message
 none_still c message sends e n =
     (λ t. absurd (cc t), λ a. absurd (subst (λ (xs : List Sent). IsFirst xs message) (sym e ∙ n) ((first_awaited c message).1 a)))
 
 -- ---- an exchange with a drive
 
 pub is_answered : (s mid t : Dealing) (drive : ℕ) (command : List ℕ) (came : Option (List ℕ)) (component : Option ℕ)
-    → mid ≡ heard s (Drive drive) came → component ≡ late mid.client command → t ≡ timed_out mid component → t ≡ answered s drive command came
+    → mid ≡ heard s (Drive drive) came → component ≡ late mid.client command → t ≡ timed_out mid component →
+        t ≡ answered s drive command came
 is_answered s mid t drive command came component h l e =
     e ∙ ap (λ (k : Option ℕ). timed_out mid k) l ∙ ap (λ (m : Dealing). timed_out m (late m.client command)) h
 
@@ -86,7 +94,8 @@ is_answered s mid t drive command came component h l e =
 
 -- a record answers the message, and the answer is awaited still
 pub loses_answer : (message came : List ℕ) (s t : Dealing) → is_answer_to message came ≡ true
-    → Answered Server message s.told t.told s.faults t.faults (Some came) → t ≡ on_links t.told t.faults (heard s Server (Some came))
+    → Answered Server message s.told t.told s.faults t.faults (Some came) →
+        t ≡ on_links t.told t.faults (heard s Server (Some came))
     → AwaitsStill t.client message → LosesServer message s t
 loses_answer message came s t answers told dealt still =
     let among : answer_among message (Some came) ≡ Some came = ap (λ (b : Bool). if b then Some came else None) answers in
@@ -99,17 +108,22 @@ loses_answer message came s t answers told dealt still =
 
 -- ---- rounds
 
-pub turn_from : (u t : Dealing) (ms rest : List Sent) → ms ≡ u.waiting → rest ≡ [] → InTurn Works ms (record u { waiting = rest }) t
+pub turn_from : (u t : Dealing) (ms rest : List Sent) → ms ≡ u.waiting → rest ≡ [] →
+    InTurn Works ms (record u { waiting = rest }) t
     → InTurn Works u.waiting (record u { waiting = [] }) t
 turn_from u t ms rest e f h =
-    subst (λ (ns : List Sent). InTurn Works ns (record u { waiting = [] }) t) e (subst (λ (ns : List Sent). InTurn Works ms (record u { waiting = ns }) t) f h)
+    subst (λ (ns : List Sent). InTurn Works ns (record u { waiting = [] }) t) e
+        (subst (λ (ns : List Sent). InTurn Works ms (record u { waiting = ns }) t) f h)
 
 pub loses_from : (u t : Dealing) (ms rest : List Sent) → ms ≡ u.waiting → rest ≡ [] → LosesIn ms (record u { waiting = rest }) t
     → LosesIn u.waiting (record u { waiting = [] }) t
 loses_from u t ms rest e f h =
-    subst (λ (ns : List Sent). LosesIn ns (record u { waiting = [] }) t) e (subst (λ (ns : List Sent). LosesIn ms (record u { waiting = ns }) t) f h)
+    subst (λ (ns : List Sent). LosesIn ns (record u { waiting = [] }) t) e
+        (subst (λ (ns : List Sent). LosesIn ms (record u { waiting = ns }) t) f h)
 
-pub all_worked : (rounds : ℕ) (s : Dealing) (client : Client) (waiting : List Sent) (notices : List Notice) (told : Option Traffic) (faults : Faults)
-    → WorksRounds rounds s (dealing client waiting notices told faults) → waiting ≡ [] → WorksAll s (dealing client [] notices told faults)
+pub all_worked : (rounds : ℕ) (s : Dealing) (client : Client) (waiting : List Sent) (notices : List Notice)
+    (told : Option Traffic) (faults : Faults)
+    → WorksRounds rounds s (dealing client waiting notices told faults) → waiting ≡ [] →
+        WorksAll s (dealing client [] notices told faults)
 all_worked rounds s client waiting notices told faults h e =
     (rounds, subst (λ (ws : List Sent). WorksRounds rounds s (dealing client ws notices told faults)) e h, refl)

@@ -20,9 +20,12 @@ use Rattle.client_command.specs.Reports.{IsReport, OnLinks, ReportsCall}
 module _ (number n sequence : ℕ) (op o : CallOp) (kind : CallKind) (first notices told : List Notice) (before now : OnLinks)
     (same_number : n ≡ number) (same_op : o ≡ op) (its_kind : kind ≡ kind_of o) (none : first ≡ []) (same : told ≡ notices) where
   pub is_ended : (next : ℕ) (r : Result Report Memory)
-      → ((client : Client) × Calls o (dealing (new_client n sequence) [] first before.told before.faults) (dealing client [] notices now.told now.faults)
+      → ((client : Client) ×
+          Calls o (dealing (new_client n sequence) [] first before.told before.faults)
+              (dealing client [] notices now.told now.faults)
       × (next ≡ client.next))
-      → IfOk r (λ report. IsSome (end_of told) × IsReport (lines_text (call_lines number kind told) ++ next_line next) (end_of told) report)
+      → IfOk r (λ report. IsSome (end_of told) ×
+          IsReport (lines_text (call_lines number kind told) ++ next_line next) (end_of told) report)
       → IfOk r (ReportsCall number sequence op before now)
   is_ended next (Err e) c report = tt
   is_ended next (Ok r) c report =
@@ -31,7 +34,9 @@ module _ (number n sequence : ℕ) (op o : CallOp) (kind : CallKind) (first noti
       inr (inl (record { client = c.0; notices = notices; calls = done; ended = ended.0; told = ended.1 }))
 
   pub is_lost : (r : Result Report Memory)
-      → ((client : Client) × StopsCall o (dealing (new_client n sequence) [] first before.told before.faults) client notices now.told now.faults Lost)
+      → ((client : Client) ×
+          StopsCall o (dealing (new_client n sequence) [] first before.told before.faults) client notices now.told now.faults
+              Lost)
       → IfOk r (IsReport (lines_text (call_lines number kind told)) None)
       → IfOk r (ReportsCall number sequence op before now)
   is_lost (Err e) c report = tt

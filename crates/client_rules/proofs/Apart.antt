@@ -15,7 +15,8 @@ IsIn a (x ∷ xs) = (a ≡ x) ⊎ IsIn a xs
 
 none_filter : (k : ℕ) (p : Awaited → Bool) (xs : List Awaited) → NoneTo k xs → NoneTo k (filter p xs)
 none_filter k p [] x = tt
-none_filter k p (a ∷ xs) x = elim (cases_Bool (p a)) [ inl t ↦ rw t (x.0, none_filter k p xs x.1) | inr f ↦ rw f (none_filter k p xs x.1) ]
+none_filter k p (a ∷ xs) x =
+    elim (cases_Bool (p a)) [ inl t ↦ rw t (x.0, none_filter k p xs x.1) | inr f ↦ rw f (none_filter k p xs x.1) ]
 
 apart_filter : (p : Awaited → Bool) (xs : List Awaited) → AreApart xs → AreApart (filter p xs)
 apart_filter p [] x = tt
@@ -30,7 +31,8 @@ none_in k (y ∷ xs) a x (inl s) e = let same : y.ask.component ≡ k = rw s at 
 none_in k (y ∷ xs) a x (inr i) e = none_in k xs a x.1 i e
 
 -- without a command no other is to its component
-gone : (p : Awaited → Bool) (xs : List Awaited) (a : Awaited) → p a ≡ false → AreApart xs → IsIn a xs → NoneTo a.ask.component (filter p xs)
+gone : (p : Awaited → Bool) (xs : List Awaited) (a : Awaited) → p a ≡ false → AreApart xs → IsIn a xs →
+    NoneTo a.ask.component (filter p xs)
 gone p [] a f x i = absurd i
 gone p (y ∷ xs) a f x (inl s) = rw s (let g : p y ≡ false = rw s at f in rw g (none_filter y.ask.component p xs x.0))
 gone p (y ∷ xs) a f x (inr i) = elim (cases_Bool (p y)) [
@@ -48,7 +50,9 @@ rest_apart k xs x = apart_filter _ xs x
 
 pub others_none : (xs : List Awaited) (a : Awaited) → AreApart xs → IsIn a xs → NoneTo a.ask.component (others xs a.command.nonce)
 unfolding others
-others_none xs a x i = gone (λ (y : Awaited). not (y.command.nonce == a.command.nonce)) xs a (rw (eq-eqb a.command.nonce a.command.nonce refl) refl) x i
+others_none xs a x i =
+    gone (λ (y : Awaited). not (y.command.nonce == a.command.nonce)) xs a
+        (rw (eq-eqb a.command.nonce a.command.nonce refl) refl) x i
 
 -- ---- more commands
 
@@ -69,7 +73,8 @@ same_apart [] x = tt
 same_apart (y ∷ xs) x = (none_added y.ask.component xs x.0, same_apart xs x.1)
 
 -- the next write to a component that is sent none
-next_numbered : (h : Held) (count k : ℕ) (queue : List Store) (xs : List Awaited) → AreApart xs → NoneTo k xs → AreApart (xs ++ numbered h true count (next_to k queue))
+next_numbered : (h : Held) (count k : ℕ) (queue : List Store) (xs : List Awaited) → AreApart xs → NoneTo k xs →
+    AreApart (xs ++ numbered h true count (next_to k queue))
 unfolding numbered next_to
 next_numbered h count k [] xs x n = same_apart xs x
 next_numbered h count k (w ∷ ws) xs x n = elim (cases_eq w.ask.component k) [
@@ -77,14 +82,16 @@ next_numbered h count k (w ∷ ws) xs x n = elim (cases_eq w.ask.component k) [
   | inr f ↦ rw (ne_eqb w.ask.component k f) (next_numbered h count k ws xs x n)
 ]
 
-pub next_apart : (h : Held) (k : ℕ) (queue : List Store) (xs : List Awaited) → AreApart xs → NoneTo k xs → AreApart (xs ++ write_commands h (next_to k queue))
+pub next_apart : (h : Held) (k : ℕ) (queue : List Store) (xs : List Awaited) → AreApart xs → NoneTo k xs →
+    AreApart (xs ++ write_commands h (next_to k queue))
 unfolding write_commands
 next_apart h k queue xs x n = next_numbered h h.count k queue xs x n
 
 -- ---- the first writes
 
 -- none is to a component that was seen
-seen_none : (h : Held) (count k : ℕ) (seen : List ℕ) (ws : List Store) → among k seen ≡ true → NoneTo k (numbered h true count (firsts seen ws))
+seen_none : (h : Held) (count k : ℕ) (seen : List ℕ) (ws : List Store) → among k seen ≡ true →
+    NoneTo k (numbered h true count (firsts seen ws))
 unfolding numbered firsts
 seen_none h count k seen [] e = tt
 seen_none h count k seen (w ∷ ws) e = elim (cases_Bool (among w.ask.component seen)) [
@@ -101,7 +108,8 @@ firsts_numbered h count seen [] = tt
 firsts_numbered h count seen (w ∷ ws) = elim (cases_Bool (among w.ask.component seen)) [
   | inl t ↦ rw t (firsts_numbered h count seen ws)
   | inr f ↦ rw f (
-    seen_none h (count + 1) w.ask.component (w.ask.component ∷ seen) ws (or_left (w.ask.component == w.ask.component) (among w.ask.component seen) (eq-eqb w.ask.component w.ask.component refl)),
+    seen_none h (count + 1) w.ask.component (w.ask.component ∷ seen) ws
+        (or_left (w.ask.component == w.ask.component) (among w.ask.component seen) (eq-eqb w.ask.component w.ask.component refl)),
     firsts_numbered h (count + 1) (w.ask.component ∷ seen) ws,
   )
 ]

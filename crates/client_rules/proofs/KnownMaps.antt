@@ -17,7 +17,8 @@ second (Ok a) f y e = (a, e)
 second (Err z) f y e = absurd (cc e)
 
 -- and both values are known
-both : {A B : Type 0} (x : Result A LayoutErr) (f : A → Result B LayoutErr) (y : B) → (x >>= f) ≡ Ok y → (a : A) × (x ≡ Ok a) × (f a ≡ Ok y)
+both : {A B : Type 0} (x : Result A LayoutErr) (f : A → Result B LayoutErr) (y : B) → (x >>= f) ≡ Ok y →
+    (a : A) × (x ≡ Ok a) × (f a ≡ Ok y)
 both (Ok a) f y e = (a, refl, e)
 both (Err z) f y e = absurd (cc e)
 

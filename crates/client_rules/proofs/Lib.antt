@@ -8,6 +8,7 @@ pub mod KnownMaps
 pub mod TakenMaps
 pub mod Apart
 pub mod ReadMoves
+pub mod HeldGrants
 pub mod ReadSteps
 pub mod Others
 mod Opened

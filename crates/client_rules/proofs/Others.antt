@@ -14,7 +14,8 @@ untaken : (c : Client) (from : Node) (m : Message) → takes c from m ≡ None �
 unfolding hears
 untaken c from m e = rw e refl
 
-under_nothing : (c : Client) (call : Call) (k : ℕ) (o : Option Held) (xs : List Awaited) → xs ≡ [] → timeout_under c call k o xs ≡ still c
+under_nothing : (c : Client) (call : Call) (k : ℕ) (o : Option Held) (xs : List Awaited) → xs ≡ [] →
+    timeout_under c call k o xs ≡ still c
 under_nothing c call k None xs e = refl
 under_nothing c call k (Some h) xs e = rw e refl
 

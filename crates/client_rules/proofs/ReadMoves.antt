@@ -37,10 +37,6 @@ all_reads : (xs ys : List Awaited) → AreReads xs → AreReads ys → AreReads 
 all_reads [] ys x y = y
 all_reads (a ∷ xs) ys x y = (x.0, all_reads xs ys x.1 y)
 
-one_kept : (b : Bool) (a : Awaited) (xs : List Awaited) → a.write ≡ false → AreReads xs → AreReads (if b then a ∷ xs else xs)
-one_kept true a xs w x = (w, x)
-one_kept false a xs w x = x
-
 some_reads : (p : Awaited → Bool) (xs : List Awaited) → AreReads xs → AreReads (filter p xs)
 some_reads p [] x = tt
 some_reads p (a ∷ xs) x = elim (cases_Bool (p a)) [ inl t ↦ rw t (x.0, some_reads p xs x.1) | inr f ↦ rw f (some_reads p xs x.1) ]
@@ -125,7 +121,8 @@ goes : (h k : Held) (op : CallOp) (p : Phase) (got : List Column) → GoodPhase 
 unfolding GoodTurn
 goes h k op p got x = x
 
-ends : (h k : Held) (op : CallOp) (o : Outcome) (got : List Column) → FitsOutcome (Follows h op got) o → GoodTurn h k op (Ends o) got
+ends : (h k : Held) (op : CallOp) (o : Outcome) (got : List Column) → FitsOutcome (Follows h op got) o →
+    GoodTurn h k op (Ends o) got
 unfolding GoodTurn
 ends h k op o got x = x
 
@@ -133,11 +130,13 @@ forgets : (h k : Held) (op : CallOp) (o : Outcome) (got : List Column) → Answe
 unfolding GoodTurn
 forgets h k op o got x = x
 
-either_turn : (h k : Held) (op : CallOp) (got : List Column) (b : Bool) (t u : Turn) → GoodTurn h k op t got → GoodTurn h k op u got → GoodTurn h k op (if b then t else u) got
+either_turn : (h k : Held) (op : CallOp) (got : List Column) (b : Bool) (t u : Turn) → GoodTurn h k op t got →
+    GoodTurn h k op u got → GoodTurn h k op (if b then t else u) got
 either_turn h k op got true t u x y = x
 either_turn h k op got false t u x y = y
 
-either : (h : Held) (op : CallOp) (got : List Column) (b : Bool) (m n : Moved) → GoodMoved h op m got → GoodMoved h op n got → GoodMoved h op (if b then m else n) got
+either : (h : Held) (op : CallOp) (got : List Column) (b : Bool) (m n : Moved) → GoodMoved h op m got → GoodMoved h op n got →
+    GoodMoved h op (if b then m else n) got
 either h op got true m n x y = x
 either h op got false m n x y = y
 
@@ -150,10 +149,12 @@ reads_on_good : (h : Held) (op : CallOp) (got : List Column) (timed : List Timed
     0 < (clipped h.size (span_of op)).length → (awaited ≡ [] → got ≢ []) → AreReads awaited →
     GoodMoved h op (reads_on h (clipped h.size (span_of op)) got timed sent awaited) got
 unfolding reads_on
-reads_on_good h op got timed sent [] some n rs = record { file = refl; map = refl; turn = ends _ _ _ _ _ (n refl, outs h timed, refl) }
+reads_on_good h op got timed sent [] some n rs =
+    record { file = refl; map = refl; turn = ends _ _ _ _ _ (n refl, outs h timed, refl) }
 reads_on_good h op got timed sent (a ∷ xs) some n rs = record { file = refl; map = refl; turn = goes _ _ _ _ _ (some, refl, rs) }
 
-reads_unless_good : (h : Held) (op : CallOp) (got : List Column) (timed : List TimedOut) (awaited : List Awaited) (o : Option (List ℕ)) →
+reads_unless_good : (h : Held) (op : CallOp) (got : List Column) (timed : List TimedOut) (awaited : List Awaited)
+    (o : Option (List ℕ)) →
     IsChecked h.map → 0 < (clipped h.size (span_of op)).length → AreReads awaited →
     unreadable h.map (clipped h.size (span_of op)) (outs h timed) (stripes h.map (clipped h.size (span_of op))) ≡ o →
     GoodMoved h op (reads_unless h (clipped h.size (span_of op)) got timed awaited o) got
@@ -184,7 +185,8 @@ probes_on_good : (h : Held) (op : CallOp) (got : List Column) (timed : List Time
     GoodMoved h op (probes_on h got timed sent awaited) got
 unfolding probes_on
 probes_on_good h op got timed sent [] none n rs =
-    record { file = refl; map = refl; turn = ends _ _ _ _ _ (n refl, outs h timed, nothing_answered h.map (clipped h.size (span_of op)) got (outs h timed) none) }
+    record { file = refl; map = refl; turn =
+        ends _ _ _ _ _ (n refl, outs h timed, nothing_answered h.map (clipped h.size (span_of op)) got (outs h timed) none) }
 probes_on_good h op got timed sent (a ∷ xs) none n rs = record { file = refl; map = refl; turn = goes _ _ _ _ _ (none, refl, rs) }
 
 probes_sent_good : (h : Held) (op : CallOp) (got : List Column) (timed : List TimedOut) (awaited : List Awaited) (p : ℕ) →
@@ -200,15 +202,20 @@ probes_sent_good h op got timed awaited p ch none rs kept =
     (all_reads awaited _ rs (commands_read h _))
 
 probes_by_good : (h : Held) (op : CallOp) (got : List Column) (timed : List TimedOut) (awaited : List Awaited) (o : Option ℕ) →
-    IsChecked h.map → (clipped h.size (span_of op)).length ≡ 0 → AreReads awaited → GoodMoved h op (probes_by h got timed awaited o) got
+    IsChecked h.map → (clipped h.size (span_of op)).length ≡ 0 → AreReads awaited →
+        GoodMoved h op (probes_by h got timed awaited o) got
 probes_by_good h op got timed awaited None ch none rs = turned_good h op _ got (ends _ _ _ _ _ tt)
-probes_by_good h op got timed awaited (Some k) ch none rs = elim (cases_Bool (is_probe_lost h.map (outs h timed) (k / replicas h.map))) [
-  | inl gone ↦ rw gone (turned_good h op (Ends (Lost (positions_out h.map (outs h timed) (k / replicas h.map / group_width h.map)))) got (ends _ _ _ _ _ tt))
+probes_by_good h op got timed awaited (Some k) ch none rs =
+    elim (cases_Bool (is_probe_lost h.map (outs h timed) (k / replicas h.map))) [
+  | inl gone ↦ rw gone
+      (turned_good h op (Ends (Lost (positions_out h.map (outs h timed) (k / replicas h.map / group_width h.map)))) got
+      (ends _ _ _ _ _ tt))
   | inr kept ↦ rw kept (probes_sent_good h op got timed awaited (k / replicas h.map) ch none rs kept)
 ]
 
 probes_good : (h : Held) (op : CallOp) (got : List Column) (timed : List TimedOut) (awaited : List Awaited) →
-    IsChecked h.map → (clipped h.size (span_of op)).length ≡ 0 → AreReads awaited → GoodMoved h op (probes h got timed awaited) got
+    IsChecked h.map → (clipped h.size (span_of op)).length ≡ 0 → AreReads awaited →
+        GoodMoved h op (probes h got timed awaited) got
 unfolding probes
 probes_good h op got timed awaited ch none rs = probes_by_good h op got timed awaited _ ch none rs
 
@@ -222,31 +229,37 @@ written_good : (h k l : Held) (op : CallOp) (timed : List TimedOut) (got : List 
 unfolding written
 written_good h k l op timed got = either_turn h k op got _ _ _ (goes _ _ _ _ _ tt) (accounted_good h k op timed got)
 
-scatters_on_good : (h : Held) (op : CallOp) (timed : List TimedOut) (queue : List Store) (sent awaited : List Awaited) (got : List Column) → AreApart awaited → GoodMoved h op (scatters_on h op timed queue sent awaited) got
+scatters_on_good : (h : Held) (op : CallOp) (timed : List TimedOut) (queue : List Store) (sent awaited : List Awaited)
+    (got : List Column) → AreApart awaited → GoodMoved h op (scatters_on h op timed queue sent awaited) got
 unfolding scatters_on
 scatters_on_good h op timed queue sent [] got x = record { file = refl; map = refl; turn = written_good _ _ h op timed got }
 scatters_on_good h op timed queue sent (a ∷ xs) got x = record { file = refl; map = refl; turn = goes _ _ _ _ _ x }
 
-scatters_good : (h : Held) (op : CallOp) (cols : List Column) (timed : List TimedOut) (got : List Column) → GoodMoved h op (scatters h op cols timed) got
+scatters_good : (h : Held) (op : CallOp) (cols : List Column) (timed : List TimedOut) (got : List Column) →
+    GoodMoved h op (scatters h op cols timed) got
 unfolding scatters
 scatters_good h op cols timed got = scatters_on_good h op timed _ _ _ got (firsts_apart h _)
 
-scatters_next_good : (h : Held) (op : CallOp) (timed : List TimedOut) (queue : List Store) (k : ℕ) (awaited : List Awaited) (got : List Column) → AreApart awaited → NoneTo k awaited → GoodMoved h op (scatters_next h op timed queue k awaited) got
+scatters_next_good : (h : Held) (op : CallOp) (timed : List TimedOut) (queue : List Store) (k : ℕ) (awaited : List Awaited)
+    (got : List Column) → AreApart awaited → NoneTo k awaited → GoodMoved h op (scatters_next h op timed queue k awaited) got
 unfolding scatters_next
 scatters_next_good h op timed queue k awaited got x n = scatters_on_good h op timed _ _ _ got (next_apart h k queue awaited x n)
 
-gathers_on_good : (h : Held) (op : CallOp) (cols : List Column) (timed : List TimedOut) (sent awaited : List Awaited) (got : List Column) → GoodMoved h op (gathers_on h op cols timed sent awaited) got
+gathers_on_good : (h : Held) (op : CallOp) (cols : List Column) (timed : List TimedOut) (sent awaited : List Awaited)
+    (got : List Column) → GoodMoved h op (gathers_on h op cols timed sent awaited) got
 unfolding gathers_on
 gathers_on_good h op cols timed sent [] got = scatters_good h op cols timed got
 gathers_on_good h op cols timed sent (a ∷ xs) got = record { file = refl; map = refl; turn = goes _ _ _ _ _ tt }
 
-gathers_good : (h : Held) (op : CallOp) (cols : List Column) (timed : List TimedOut) (awaited : List Awaited) (got : List Column) → GoodMoved h op (gathers h op cols timed awaited) got
+gathers_good : (h : Held) (op : CallOp) (cols : List Column) (timed : List TimedOut) (awaited : List Awaited)
+    (got : List Column) → GoodMoved h op (gathers h op cols timed awaited) got
 unfolding gathers
 gathers_good h op cols timed awaited got = gathers_on_good h op cols timed _ _ got
 
 -- ---- replies
 
-refused_good : (h : Held) (op : CallOp) (p : Phase) (a : Awaited) (r : Reply) (got : List Column) → GoodMoved h op (refused h p a r) got
+refused_good : (h : Held) (op : CallOp) (p : Phase) (a : Awaited) (r : Reply) (got : List Column) →
+    GoodMoved h op (refused h p a r) got
 unfolding refused
 refused_good h op p a r got =
     either h op got _ (turned h (Forgets (refusal a r))) (turned h (closing (refusal a r) (refused_report h p a r)))
@@ -257,15 +270,22 @@ grown x [] e = cc e
 grown x (y ∷ xs) e = cc e
 
 -- a READ that was performed, in a phase that reads
-read_good : (h : Held) (op : CallOp) (io : Io) (a : Awaited) (r : Reply) (got : List Column) → GoodPhase h op (Reads io) got → GoodMoved h op (performed h op (Reads io) a r) (got ++ got_of a r ∷ [])
+read_good : (h : Held) (op : CallOp) (io : Io) (a : Awaited) (r : Reply) (got : List Column) → GoodPhase h op (Reads io) got →
+    GoodMoved h op (performed h op (Reads io) a r) (got ++ got_of a r ∷ [])
 read_good h op io a r got g =
-    rw (sym g.1) (reads_on_good h op (io.got ++ got_of a r ∷ []) io.timed [] _ g.0 (λ e. grown (got_of a r) io.got) (others_read io.awaited a.command.nonce g.2))
+    rw (sym g.1)
+        (reads_on_good h op (io.got ++ got_of a r ∷ []) io.timed [] _ g.0 (λ e. grown (got_of a r) io.got)
+        (others_read io.awaited a.command.nonce g.2))
 
-probe_good : (h : Held) (op : CallOp) (io : Io) (a : Awaited) (r : Reply) (got : List Column) → GoodPhase h op (Probes io) got → GoodMoved h op (performed h op (Probes io) a r) (got ++ got_of a r ∷ [])
+probe_good : (h : Held) (op : CallOp) (io : Io) (a : Awaited) (r : Reply) (got : List Column) → GoodPhase h op (Probes io) got →
+    GoodMoved h op (performed h op (Probes io) a r) (got ++ got_of a r ∷ [])
 probe_good h op io a r got g =
-    rw (sym g.1) (probes_on_good h op (io.got ++ got_of a r ∷ []) io.timed [] _ g.0 (λ e. grown (got_of a r) io.got) (others_read io.awaited a.command.nonce g.2))
+    rw (sym g.1)
+        (probes_on_good h op (io.got ++ got_of a r ∷ []) io.timed [] _ g.0 (λ e. grown (got_of a r) io.got)
+        (others_read io.awaited a.command.nonce g.2))
 
-pub replied_good : (h : Held) (op : CallOp) (p : Phase) (a : Awaited) (r : Reply) (got : List Column) → GoodPhase h op p got → IsIn a (awaited_in p) →
+pub replied_good : (h : Held) (op : CallOp) (p : Phase) (a : Awaited) (r : Reply) (got : List Column) → GoodPhase h op p got →
+    IsIn a (awaited_in p) →
     GoodMoved h op (replied h op p a r) (with_reply got (Some (TakesReply a r)))
 unfolding replied
 replied_good h op (Reads io) a r got g i =
@@ -280,26 +300,35 @@ replied_good h op (Probes io) a r got g i =
       | inl done ↦ rw (eq-eqb r.verdict 0 done, w) (probe_good h op io a r got g)
       | inr other ↦ rw (ne_eqb r.verdict 0 other) (refused_good h op (Probes io) a r got)
     ]
-replied_good h op (Gathers io) a r got g i = either h op _ _ _ _ (gathers_on_good h op _ io.timed [] _ _) (refused_good h op (Gathers io) a r _)
-replied_good h op (Scatters io queue) a r got g i = either h op _ _ _ _ (scatters_next_good h op io.timed queue _ _ _ (others_apart io.awaited a.command.nonce g) (others_none io.awaited a g i)) (refused_good h op (Scatters io queue) a r _)
+replied_good h op (Gathers io) a r got g i =
+    either h op _ _ _ _ (gathers_on_good h op _ io.timed [] _ _) (refused_good h op (Gathers io) a r _)
+replied_good h op (Scatters io queue) a r got g i =
+    either h op _ _ _ _
+        (scatters_next_good h op io.timed queue _ _ _ (others_apart io.awaited a.command.nonce g) (others_none io.awaited a g i))
+        (refused_good h op (Scatters io queue) a r _)
 replied_good h op Starts a r got g i = absurd i
 replied_good h op (Needs need) a r got g i = absurd i
 replied_good h op (Waits need) a r got g i = absurd i
 
 -- ---- timeouts
 
-gather_timed_good : (h : Held) (op : CallOp) (io : Io) (k : ℕ) (timed : List TimedOut) (got : List Column) → GoodMoved h op (gather_timed h op io k timed) got
+gather_timed_good : (h : Held) (op : CallOp) (io : Io) (k : ℕ) (timed : List TimedOut) (got : List Column) →
+    GoodMoved h op (gather_timed h op io k timed) got
 unfolding gather_timed
 gather_timed_good h op io k timed got =
-    either h op got (is_too_short h op timed) (ended h (Silent k)) (gathers h op io.got timed (not_of k io.awaited)) (turned_good h op _ got (ends _ _ _ _ _ tt)) (gathers_good h op io.got timed _ got)
+    either h op got (is_too_short h op timed) (ended h (Silent k)) (gathers h op io.got timed (not_of k io.awaited))
+        (turned_good h op _ got (ends _ _ _ _ _ tt)) (gathers_good h op io.got timed _ got)
 
-scatter_timed_good : (h : Held) (op : CallOp) (io : Io) (queue : List Store) (k : ℕ) (timed : List TimedOut) (got : List Column) → AreApart io.awaited → GoodMoved h op (scatter_timed h op io queue k timed) got
+scatter_timed_good : (h : Held) (op : CallOp) (io : Io) (queue : List Store) (k : ℕ) (timed : List TimedOut) (got : List Column) →
+    AreApart io.awaited → GoodMoved h op (scatter_timed h op io queue k timed) got
 unfolding scatter_timed
 scatter_timed_good h op io queue k timed got x =
-    either h op got (is_too_short h op timed) (turned h (closing (Silent k) (report_of h timed))) (scatters_on h op timed (without_component k queue) [] (not_of k io.awaited))
+    either h op got (is_too_short h op timed) (turned h (closing (Silent k) (report_of h timed)))
+        (scatters_on h op timed (without_component k queue) [] (not_of k io.awaited))
     (turned_good h op _ got (goes _ _ _ _ _ tt)) (scatters_on_good h op timed _ [] _ got (rest_apart k io.awaited x))
 
-pub timed_good : (h : Held) (op : CallOp) (p : Phase) (k : ℕ) (a : Awaited) (xs : List Awaited) (got : List Column) → IsChecked h.map → GoodPhase h op p got →
+pub timed_good : (h : Held) (op : CallOp) (p : Phase) (k : ℕ) (a : Awaited) (xs : List Awaited) (got : List Column) →
+    IsChecked h.map → GoodPhase h op p got →
     GoodMoved h op (timed_out h op p k a xs) got
 timed_good h op (Reads io) k a xs got ch g = rw (sym g.1) (reads_good h op io.got _ _ ch g.0 (rest_read io.awaited k g.2))
 timed_good h op (Probes io) k a xs got ch g = rw (sym g.1) (probes_good h op io.got _ _ ch g.0 (rest_read io.awaited k g.2))
@@ -321,13 +350,16 @@ begins_good h op ch = elim (cases_Bool (is_write op)) [
   ]
 ]
 
-not_committed_good : (h k : Held) (op : CallOp) (status detail : ℕ) (got : List Column) → GoodTurn h k op (not_committed status detail) got
+not_committed_good : (h k : Held) (op : CallOp) (status detail : ℕ) (got : List Column) →
+    GoodTurn h k op (not_committed status detail) got
 unfolding not_committed
 not_committed_good h k op status detail got = either_turn h k op got _ _ _ (forgets _ _ _ _ _ tt) (ends _ _ _ _ _ tt)
 
-pub on_commit_good : (h : Held) (op : CallOp) (a : Answer) (timed : List TimedOut) (got : List Column) → GoodMoved h op (on_commit h op a timed) got
+pub on_commit_good : (h : Held) (op : CallOp) (a : Answer) (timed : List TimedOut) (got : List Column) →
+    GoodMoved h op (on_commit h op a timed) got
 unfolding on_commit
 on_commit_good h op a timed got =
-    either h op got (status_of a.results == NFS4_OK) (committed h op a timed) (turned h (not_committed (status_of a.results) a.detail))
+    either h op got (status_of a.results == NFS4_OK) (committed h op a timed)
+        (turned h (not_committed (status_of a.results) a.detail))
     (record { file = refl; map = refl; turn = accounted_good _ _ op timed got })
     (turned_good h op _ got (not_committed_good _ _ op _ _ got))

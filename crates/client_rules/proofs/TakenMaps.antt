@@ -18,7 +18,9 @@ use Rattle.client_rules.specs.Results.{layouts_in}
 use Rattle.client_rules.specs.Layouts.{is_map, first_why, fresh, is_lacking, enough, with_listed, unless_why, with_body, reach_of, one_layout, in_layouts, taken}
 use Rattle.client_rules.proofs.KnownMaps.{whole_known}
 
-pub last_none : (a b c d e : Bool) (v w x y z : Why) → (if a then Some v else if b then Some w else if c then Some x else if d then Some y else if not e then Some z else None) ≡ None → e ≡ true
+pub last_none : (a b c d e : Bool) (v w x y z : Why) →
+    (if a then Some v else if b then Some w else if c then Some x else if d then Some y else if not e then Some z else None)
+        ≡ None → e ≡ true
 last_none true b c d e v w x y z n = absurd (cc n)
 last_none false true c d e v w x y z n = absurd (cc n)
 last_none false false true d e v w x y z n = absurd (cc n)
@@ -45,21 +47,27 @@ pub enough_same : (h k : Held) (op : CallOp) → enough h op ≡ Ok k → k ≡ 
 unfolding enough
 enough_same h k op e = same_grant ((is_write op || h.reach.rw) && is_lacking h op) h k e
 
-listed_checked : (a : Answer) (n : ℕ) (op : CallOp) (g : Reach) (l : Layout) (o : Option (List Listed)) (h : Held) → IsChecked l.olo_map → with_listed a n op g l o ≡ Ok h → IsChecked h.map
+listed_checked : (a : Answer) (n : ℕ) (op : CallOp) (g : Reach) (l : Layout) (o : Option (List Listed)) (h : Held) →
+    IsChecked l.olo_map → with_listed a n op g l o ≡ Ok h → IsChecked h.map
 listed_checked a n op g l None h ch e = absurd (cc e)
 listed_checked a n op g l (Some ls) h ch e = rw (enough_same (fresh (file_of op) n a.size g l.olo_map ls) h op e) ch
 
-why_checked : (a : Answer) (n : ℕ) (op : CallOp) (g : Reach) (l : Layout) (w : Option Why) (h : Held) → (w ≡ None → IsChecked l.olo_map) → unless_why a n op g l w ≡ Ok h → IsChecked h.map
+why_checked : (a : Answer) (n : ℕ) (op : CallOp) (g : Reach) (l : Layout) (w : Option Why) (h : Held) →
+    (w ≡ None → IsChecked l.olo_map) → unless_why a n op g l w ≡ Ok h → IsChecked h.map
 why_checked a n op g l (Some w) h ch e = absurd (cc e)
 why_checked a n op g l None h ch e = listed_checked a n op g l _ h (ch refl) e
 
-body_checked : (a : Answer) (n : ℕ) (op : CallOp) (g : Reach) (r : Result Layout LayoutErr) (h : Held) → ((l : Layout) → r ≡ Ok l → HasAlgorithm l.olo_map) → with_body a n op g r ≡ Ok h → IsChecked h.map
+body_checked : (a : Answer) (n : ℕ) (op : CallOp) (g : Reach) (r : Result Layout LayoutErr) (h : Held) →
+    ((l : Layout) → r ≡ Ok l → HasAlgorithm l.olo_map) → with_body a n op g r ≡ Ok h → IsChecked h.map
 body_checked a n op g (Err x) h known e = absurd (cc e)
-body_checked a n op g (Ok l) h known e = why_checked a n op g l (first_why g a.size op l) h (λ w. checked_map l.olo_map (known l refl) (map_taken g a.size op l w)) e
+body_checked a n op g (Ok l) h known e =
+    why_checked a n op g l (first_why g a.size op l) h (λ w. checked_map l.olo_map (known l refl) (map_taken g a.size op l w)) e
 
-one_checked : (a : Answer) (n : ℕ) (op : CallOp) (gs : List LayoutSegment) (h : Held) → one_layout a n op gs ≡ Ok h → IsChecked h.map
+one_checked : (a : Answer) (n : ℕ) (op : CallOp) (gs : List LayoutSegment) (h : Held) → one_layout a n op gs ≡ Ok h →
+    IsChecked h.map
 one_checked a n op [] h e = absurd (cc e)
-one_checked a n op (g ∷ []) h e = body_checked a n op (reach_of a.size op g) (whole layout_in g.body) h (λ l r. whole_known g.body l r) e
+one_checked a n op (g ∷ []) h e =
+    body_checked a n op (reach_of a.size op g) (whole layout_in g.body) h (λ l r. whole_known g.body l r) e
 one_checked a n op (g ∷ f ∷ gs) h e = absurd (cc e)
 
 in_checked : (a : Answer) (op : CallOp) (o : Option LayoutGetOk) (h : Held) → in_layouts a op o ≡ Ok h → IsChecked h.map

@@ -47,7 +47,9 @@ starts_with_rests d op n (Some r) w = w
 
 starts_under_rests : (d : Done) (op : CallOp) (o : Option Held) → RestsDone d → RestsDone (starts_under d op o)
 starts_under_rests d op None w = starts_with_rests d op (Get 0) _ w
-starts_under_rests d op (Some h) w = either_done (covers h op) (moved d op (begins h op)) (starts_with d op First d.client.outstanding) (moved_rests d op (begins h op) (begins_rests h op)) (starts_with_rests d op First _ w)
+starts_under_rests d op (Some h) w =
+    either_done (covers h op) (moved d op (begins h op)) (starts_with d op First d.client.outstanding)
+        (moved_rests d op (begins h op) (begins_rests h op)) (starts_with_rests d op First _ w)
 
 starts_at_rests : (d : Done) (op : CallOp) (p : Phase) → RestsDone d → RestsDone (starts_at d op p)
 starts_at_rests d op Starts w = starts_under_rests d op _ w
@@ -129,13 +131,15 @@ on_commit_rests h op a timed =
     either (status_of a.results == NFS4_OK) (committed h op a timed) (turned h (not_committed (status_of a.results) a.detail))
     (turned_rests _ _ _ (accounted_rests op timed)) (turned_rests _ _ _ (not_committed_rests _ _))
 
-commit_under_rests : (d : Done) (op : CallOp) (a : Answer) (timed : List TimedOut) (o : Option Held) → RestsDone d → RestsDone (commit_under d op a (Commit timed) o)
+commit_under_rests : (d : Done) (op : CallOp) (a : Answer) (timed : List TimedOut) (o : Option Held) → RestsDone d →
+    RestsDone (commit_under d op a (Commit timed) o)
 commit_under_rests d op a timed None w = w
 commit_under_rests d op a timed (Some h) w = moved_rests d op (on_commit h op a timed) (on_commit_rests h op a timed)
 
 on_need_rests : (d : Done) (op : CallOp) (n : Need) (a : Answer) → RestsDone d → RestsDone (on_need d op n a)
 on_need_rests d op First a w = phased_rests d op Starts tt
-on_need_rests d op (Get tries) a w = either_done _ _ _ (answered_get_rests d op _) (by_turn_rests d op _ (not_granted_rests a tries))
+on_need_rests d op (Get tries) a w =
+    either_done _ _ _ (answered_get_rests d op _) (by_turn_rests d op _ (not_granted_rests a tries))
 on_need_rests d op (Commit timed) a w = commit_under_rests d op a timed _ w
 on_need_rests d op (Report timed) a w = over_rests d _
 on_need_rests d op (Close outcome report) a w = over_rests d _
@@ -163,18 +167,23 @@ obeys_rests c r w = w
 
 recalled_rests : (c : Client) (r : Recall) (o : Option Held) → IsResting c → RestsDone (recalled c r o)
 recalled_rests c r None w = no_match_rests c r w
-recalled_rests c r (Some h) w = either_done (h.number == grant_in r.args.stateid) (obeys c r) (no_match c r) (obeys_rests c r w) (no_match_rests c r w)
+recalled_rests c r (Some h) w =
+    either_done (h.number == grant_in r.args.stateid) (obeys c r) (no_match c r) (obeys_rests c r w) (no_match_rests c r w)
 
-reply_under_rests : (c : Client) (call : Call) (a : Awaited) (r : Reply) (o : Option Held) → Rests call.phase → IsResting c → RestsDone (reply_under c call a r o)
-reply_under_rests c call a r (Some h) p w = moved_rests (quiet c) call.op (replied h call.op call.phase a r) (replied_rests h call.op call.phase a r p)
+reply_under_rests : (c : Client) (call : Call) (a : Awaited) (r : Reply) (o : Option Held) → Rests call.phase → IsResting c →
+    RestsDone (reply_under c call a r o)
+reply_under_rests c call a r (Some h) p w =
+    moved_rests (quiet c) call.op (replied h call.op call.phase a r) (replied_rests h call.op call.phase a r p)
 reply_under_rests c call a r None p w = quiet_rests c w
 
-reply_call_rests : (c : Client) (a : Awaited) (r : Reply) (o : Option Call) → RestsCall o → IsResting c → RestsDone (reply_call c a r o)
+reply_call_rests : (c : Client) (a : Awaited) (r : Reply) (o : Option Call) → RestsCall o → IsResting c →
+    RestsDone (reply_call c a r o)
 reply_call_rests c a r None p w = quiet_rests c w
 reply_call_rests c a r (Some call) p w = reply_under_rests c call a r _ p w
 
 on_taken_rests : (c : Client) (t : Taken) → IsResting c → RestsDone (on_taken c t)
-on_taken_rests c (TakesAnswer a) w = on_call_rests (quiet (record c { outstanding = None })) c.call a (quiet_rests (record c { outstanding = None }) w)
+on_taken_rests c (TakesAnswer a) w =
+    on_call_rests (quiet (record c { outstanding = None })) c.call a (quiet_rests (record c { outstanding = None }) w)
 on_taken_rests c (TakesReply a r) w = reply_call_rests c a r c.call w w
 on_taken_rests c (TakesRecall r) w = recalled_rests c r _ w
 
@@ -182,9 +191,11 @@ by_taken_rests : (c : Client) (t : Option Taken) → IsResting c → IsResting (
 by_taken_rests c None w = w
 by_taken_rests c (Some t) w = finished_rests (on_taken c t) (on_taken_rests c t w)
 
-timeout_under_rests : (c : Client) (call : Call) (k : ℕ) (o : Option Held) (xs : List Awaited) → IsResting c → IsResting (timeout_under c call k o xs).client
+timeout_under_rests : (c : Client) (call : Call) (k : ℕ) (o : Option Held) (xs : List Awaited) → IsResting c →
+    IsResting (timeout_under c call k o xs).client
 timeout_under_rests c call k (Some h) (a ∷ xs) w =
-    finished_rests _ (moved_rests (quiet c) call.op (timed_out h call.op call.phase k a xs) (timed_out_rests h call.op call.phase k a xs))
+    finished_rests _
+        (moved_rests (quiet c) call.op (timed_out h call.op call.phase k a xs) (timed_out_rests h call.op call.phase k a xs))
 timeout_under_rests c call k None xs w = w
 timeout_under_rests c call k (Some h) [] w = w
 
@@ -193,7 +204,8 @@ timeout_call_rests c k None w = w
 timeout_call_rests c k (Some call) w = timeout_under_rests c call k _ _ w
 
 starts_rests : (c : Client) (op : CallOp) (b : Bool) → IsResting c →
-    IsResting (if b then record (still c) { outcome = Some (WriteOk 0) } else finished (quiet (record c { call = Some (record { op = op; phase = Starts }) }))).client
+    IsResting (if b then record (still c) { outcome = Some (WriteOk 0) } else finished
+        (quiet (record c { call = Some (record { op = op; phase = Starts }) }))).client
 starts_rests c op true w = w
 starts_rests c op false w = finished_rests _ (quiet_rests (record c { call = Some (record { op = op; phase = Starts }) }) tt)
 
@@ -208,7 +220,8 @@ refuses c false false false x y z s v w = w
 calls_rests : (c : Client) (op : CallOp) → IsResting c → IsResting (unless_refused c (calls c op)).client
 unfolding calls
 calls_rests c op w =
-    refuses c (is_some c.call) (is_bad_range (span_of op)) (is_spent c.next) Busy BadRange SlotSpent (starts c op) w (starts_rests c op (writes_nothing op) w)
+    refuses c (is_some c.call) (is_bad_range (span_of op)) (is_spent c.next) Busy BadRange SlotSpent (starts c op) w
+        (starts_rests c op (writes_nothing op) w)
 
 hears_rests : (c : Client) (from : Node) (m : Message) → IsResting c → IsResting (hears c from m).client
 unfolding hears
@@ -236,4 +249,5 @@ all_rest c [] w = w
 all_rest c (i ∷ is) w = all_rest (step c i).client is (step_rests c i w)
 
 pub each_rest_awaits_something : EachRestAwaitsSomething
-each_rest_awaits_something = record { steps = step_rests; always = λ number sequence is. all_rest (new_client number sequence) is tt }
+each_rest_awaits_something =
+    record { steps = step_rests; always = λ number sequence is. all_rest (new_client number sequence) is tt }

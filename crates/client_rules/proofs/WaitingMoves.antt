@@ -43,7 +43,8 @@ pub goes : (p : Phase) → Rests p → RestsTurn (Goes p)
 unfolding RestsTurn
 goes p w = w
 
-pub turned_rests : (h : Held) (t : Turn) (sent : List Awaited) → RestsTurn t → RestsMoved (record { held = h; turn = t; sent = sent })
+pub turned_rests : (h : Held) (t : Turn) (sent : List Awaited) → RestsTurn t →
+    RestsMoved (record { held = h; turn = t; sent = sent })
 unfolding RestsMoved
 turned_rests h t sent w = w
 
@@ -63,41 +64,45 @@ pub either_done : (b : Bool) (d e : Done) → RestsDone d → RestsDone e → Re
 either_done true d e x y = x
 either_done false d e x y = y
 
-pub done : (d : Done) → RestsDone d → RestsDone d
-unfolding RestsDone
-done d w = w
-
 pub client_of : (d : Done) → RestsDone d → IsResting d.client
 unfolding RestsDone
 client_of d w = w
 
 -- ---- dealings with the drives
 
-pub reads_on_rests : (h : Held) (r : Span) (got : List Column) (timed : List TimedOut) (sent awaited : List Awaited) → RestsMoved (reads_on h r got timed sent awaited)
+pub reads_on_rests : (h : Held) (r : Span) (got : List Column) (timed : List TimedOut) (sent awaited : List Awaited) →
+    RestsMoved (reads_on h r got timed sent awaited)
 unfolding reads_on
 reads_on_rests h r got timed sent [] = turned_rests _ _ _ (ends _)
 reads_on_rests h r got timed sent (a ∷ xs) = turned_rests _ _ _ (goes _ tt)
 
-pub reads_unless_rests : (h : Held) (r : Span) (got : List Column) (timed : List TimedOut) (awaited : List Awaited) (o : Option (List ℕ)) → RestsMoved (reads_unless h r got timed awaited o)
+pub reads_unless_rests : (h : Held) (r : Span) (got : List Column) (timed : List TimedOut) (awaited : List Awaited)
+    (o : Option (List ℕ)) → RestsMoved (reads_unless h r got timed awaited o)
 reads_unless_rests h r got timed awaited None = reads_on_rests h r got timed _ _
 reads_unless_rests h r got timed awaited (Some ps) = turned_rests _ _ _ (ends _)
 
-pub reads_rests : (h : Held) (r : Span) (got : List Column) (timed : List TimedOut) (awaited : List Awaited) → RestsMoved (reads h r got timed awaited)
+pub reads_rests : (h : Held) (r : Span) (got : List Column) (timed : List TimedOut) (awaited : List Awaited) →
+    RestsMoved (reads h r got timed awaited)
 unfolding reads
 reads_rests h r got timed awaited = reads_unless_rests h r got timed awaited _
 
-pub probes_on_rests : (h : Held) (got : List Column) (timed : List TimedOut) (sent awaited : List Awaited) → RestsMoved (probes_on h got timed sent awaited)
+pub probes_on_rests : (h : Held) (got : List Column) (timed : List TimedOut) (sent awaited : List Awaited) →
+    RestsMoved (probes_on h got timed sent awaited)
 unfolding probes_on
 probes_on_rests h got timed sent [] = turned_rests _ _ _ (ends _)
 probes_on_rests h got timed sent (a ∷ xs) = turned_rests _ _ _ (goes _ tt)
 
-pub probes_by_rests : (h : Held) (got : List Column) (timed : List TimedOut) (awaited : List Awaited) (o : Option ℕ) → RestsMoved (probes_by h got timed awaited o)
+pub probes_by_rests : (h : Held) (got : List Column) (timed : List TimedOut) (awaited : List Awaited) (o : Option ℕ) →
+    RestsMoved (probes_by h got timed awaited o)
 probes_by_rests h got timed awaited None = turned_rests _ _ _ (ends _)
 probes_by_rests h got timed awaited (Some k) =
-    either (is_probe_lost h.map (outs h timed) (k / replicas h.map)) (ended h (Lost (positions_out h.map (outs h timed) (k / replicas h.map / group_width h.map)))) (probes_sent h got timed awaited (k / replicas h.map))
+    either (is_probe_lost h.map (outs h timed) (k / replicas h.map))
+        (ended h (Lost (positions_out h.map (outs h timed) (k / replicas h.map / group_width h.map))))
+            (probes_sent h got timed awaited (k / replicas h.map))
     (turned_rests _ _ _ (ends _)) (probes_on_rests h got timed _ _)
 
-pub probes_rests : (h : Held) (got : List Column) (timed : List TimedOut) (awaited : List Awaited) → RestsMoved (probes h got timed awaited)
+pub probes_rests : (h : Held) (got : List Column) (timed : List TimedOut) (awaited : List Awaited) →
+    RestsMoved (probes h got timed awaited)
 unfolding probes
 probes_rests h got timed awaited = probes_by_rests h got timed awaited _
 
@@ -109,7 +114,8 @@ pub written_rests : (h : Held) (op : CallOp) (timed : List TimedOut) → RestsTu
 unfolding written
 written_rests h op timed = either_turn _ _ _ (needs _) (accounted_rests op timed)
 
-pub scatters_on_rests : (h : Held) (op : CallOp) (timed : List TimedOut) (queue : List Store) (sent awaited : List Awaited) → RestsMoved (scatters_on h op timed queue sent awaited)
+pub scatters_on_rests : (h : Held) (op : CallOp) (timed : List TimedOut) (queue : List Store) (sent awaited : List Awaited) →
+    RestsMoved (scatters_on h op timed queue sent awaited)
 unfolding scatters_on
 scatters_on_rests h op timed queue sent [] = turned_rests _ _ _ (written_rests h op timed)
 scatters_on_rests h op timed queue sent (a ∷ xs) = turned_rests _ _ _ (goes _ tt)
@@ -118,16 +124,19 @@ pub scatters_rests : (h : Held) (op : CallOp) (got : List Column) (timed : List 
 unfolding scatters
 scatters_rests h op got timed = scatters_on_rests h op timed _ _ _
 
-pub scatters_next_rests : (h : Held) (op : CallOp) (timed : List TimedOut) (queue : List Store) (k : ℕ) (awaited : List Awaited) → RestsMoved (scatters_next h op timed queue k awaited)
+pub scatters_next_rests : (h : Held) (op : CallOp) (timed : List TimedOut) (queue : List Store) (k : ℕ) (awaited : List Awaited) →
+    RestsMoved (scatters_next h op timed queue k awaited)
 unfolding scatters_next
 scatters_next_rests h op timed queue k awaited = scatters_on_rests h op timed _ _ _
 
-pub gathers_on_rests : (h : Held) (op : CallOp) (got : List Column) (timed : List TimedOut) (sent awaited : List Awaited) → RestsMoved (gathers_on h op got timed sent awaited)
+pub gathers_on_rests : (h : Held) (op : CallOp) (got : List Column) (timed : List TimedOut) (sent awaited : List Awaited) →
+    RestsMoved (gathers_on h op got timed sent awaited)
 unfolding gathers_on
 gathers_on_rests h op got timed sent [] = scatters_rests h op got timed
 gathers_on_rests h op got timed sent (a ∷ xs) = turned_rests _ _ _ (goes _ tt)
 
-pub gathers_rests : (h : Held) (op : CallOp) (got : List Column) (timed : List TimedOut) (awaited : List Awaited) → RestsMoved (gathers h op got timed awaited)
+pub gathers_rests : (h : Held) (op : CallOp) (got : List Column) (timed : List TimedOut) (awaited : List Awaited) →
+    RestsMoved (gathers h op got timed awaited)
 unfolding gathers
 gathers_rests h op got timed awaited = gathers_on_rests h op got timed _ _
 
@@ -144,22 +153,31 @@ performed_rests h op (Waits need) a r w = turned_rests _ _ _ (goes _ tt)
 
 pub refused_rests : (h : Held) (p : Phase) (a : Awaited) (r : Reply) → RestsMoved (refused h p a r)
 unfolding refused
-refused_rests h p a r = either (r.verdict == 9) (turned h (Forgets (refusal a r))) (turned h (closing (refusal a r) (refused_report h p a r))) (turned_rests _ _ _ (forgets _)) (turned_rests _ _ _ (needs _))
+refused_rests h p a r =
+    either (r.verdict == 9) (turned h (Forgets (refusal a r))) (turned h (closing (refusal a r) (refused_report h p a r)))
+        (turned_rests _ _ _ (forgets _)) (turned_rests _ _ _ (needs _))
 
 pub replied_rests : (h : Held) (op : CallOp) (p : Phase) (a : Awaited) (r : Reply) → Rests p → RestsMoved (replied h op p a r)
 unfolding replied
 replied_rests h op p a r w = either _ _ _ (performed_rests h op p a r w) (refused_rests h p a r)
 
-pub gather_timed_rests : (h : Held) (op : CallOp) (io : Io) (k : ℕ) (timed : List TimedOut) → RestsMoved (gather_timed h op io k timed)
+pub gather_timed_rests : (h : Held) (op : CallOp) (io : Io) (k : ℕ) (timed : List TimedOut) →
+    RestsMoved (gather_timed h op io k timed)
 unfolding gather_timed
-gather_timed_rests h op io k timed = either (is_too_short h op timed) (ended h (Silent k)) (gathers h op io.got timed (not_of k io.awaited)) (turned_rests _ _ _ (ends _)) (gathers_rests h op io.got timed _)
+gather_timed_rests h op io k timed =
+    either (is_too_short h op timed) (ended h (Silent k)) (gathers h op io.got timed (not_of k io.awaited))
+        (turned_rests _ _ _ (ends _)) (gathers_rests h op io.got timed _)
 
-pub scatter_timed_rests : (h : Held) (op : CallOp) (io : Io) (queue : List Store) (k : ℕ) (timed : List TimedOut) → RestsMoved (scatter_timed h op io queue k timed)
+pub scatter_timed_rests : (h : Held) (op : CallOp) (io : Io) (queue : List Store) (k : ℕ) (timed : List TimedOut) →
+    RestsMoved (scatter_timed h op io queue k timed)
 unfolding scatter_timed
 scatter_timed_rests h op io queue k timed =
-    either (is_too_short h op timed) (turned h (closing (Silent k) (report_of h timed))) (scatters_on h op timed (without_component k queue) [] (not_of k io.awaited)) (turned_rests _ _ _ (needs _)) (scatters_on_rests h op timed _ [] _)
+    either (is_too_short h op timed) (turned h (closing (Silent k) (report_of h timed)))
+        (scatters_on h op timed (without_component k queue) [] (not_of k io.awaited)) (turned_rests _ _ _ (needs _))
+            (scatters_on_rests h op timed _ [] _)
 
-pub timed_out_rests : (h : Held) (op : CallOp) (p : Phase) (k : ℕ) (a : Awaited) (xs : List Awaited) → RestsMoved (timed_out h op p k a xs)
+pub timed_out_rests : (h : Held) (op : CallOp) (p : Phase) (k : ℕ) (a : Awaited) (xs : List Awaited) →
+    RestsMoved (timed_out h op p k a xs)
 timed_out_rests h op (Reads io) k a xs = reads_rests h _ io.got _ _
 timed_out_rests h op (Probes io) k a xs = probes_rests h io.got _ _
 timed_out_rests h op (Gathers io) k a xs = gather_timed_rests h op io k _

@@ -3,5 +3,7 @@ use Rattle.std.proofs.Common.{◌≡◌, ◌≤◌, ◌+◌, ◌-◌, ◌++◌, 
 use Rattle.std.proofs.lemmas.List.{length-append, length-take-le}
 use Rattle.osd_bytes.specs.declared.lines.TheConstants.{MAX_INPUT}
 
-pub passes : (bytes buf : List ℕ) (count : ℕ) → length bytes ≤ MAX_INPUT → count ≤ length buf → count ≡ MAX_INPUT - length bytes + 1 → length (bytes ++ take count buf) ≡ MAX_INPUT + 1
-passes bytes buf count limit within is = omega (arith, length-append bytes (take count buf), length-take-le count buf within, limit, within, is)
+pub passes : (bytes buf : List ℕ) (count : ℕ) → length bytes ≤ MAX_INPUT → count ≤ length buf →
+    count ≡ MAX_INPUT - length bytes + 1 → length (bytes ++ take count buf) ≡ MAX_INPUT + 1
+passes bytes buf count limit within is =
+    omega (arith, length-append bytes (take count buf), length-take-le count buf within, limit, within, is)

@@ -1,3 +1,4 @@
 pub mod Lists
 pub mod Judging
 pub mod Lengths
+pub mod Keys

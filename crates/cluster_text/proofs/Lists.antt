@@ -1,5 +1,5 @@
 -- Tests over lists, and the keys and values of what a TOML document was read to.
-use Rattle.std.proofs.Common.{◌≡◌, ◌++◌, append_assoc, ℕ, Bool, not, ◌||◌, ◌∙◌, Option, None, Some, is_some, option_map, List, [], ◌∷◌, map, String, Global, string_bytes, refl, sym, ap}
+use Rattle.std.proofs.Common.{◌≡◌, ℕ, Bool, not, ◌||◌, ◌∙◌, Option, None, Some, is_some, option_map, List, [], ◌∷◌, map, String, Global, string_bytes, refl, ap}
 use Rattle.std.specs.List.{list_any}
 use Rattle.std.specs.Map.{keys_of as map_keys}
 use Rattle.toml.specs.declared.value.Value.{Value}
@@ -14,16 +14,13 @@ pub any_map : {X Y : Type 0} (p : Y → Bool) (f : X → Y) (xs : List X) → li
 any_map p f [] = refl
 any_map p f (x ∷ xs) = ap (λ b. p (f x) || b) (any_map p f xs)
 
-pub keys_seen : (es : List (String Global × Value)) → map (λ e. string_bytes e.0) es ≡ keys_of (members_view es)
-keys_seen [] = refl
-keys_seen (e ∷ es) = ap (λ ks. string_bytes e.0 ∷ ks) (keys_seen es)
-
 pub values_seen : (vs : List Value) → map view vs ≡ values_of (items_view vs)
 values_seen [] = refl
 values_seen (v ∷ vs) = ap (λ ds. view v ∷ ds) (values_seen vs)
 
 -- a test of the keys of a map
-pub any_key : (p : List ℕ → Bool) (es : List (String Global × Value)) → list_any (λ key. p (string_bytes key)) (map_keys es) ≡ list_any p (keys_of (members_view es))
+pub any_key : (p : List ℕ → Bool) (es : List (String Global × Value)) →
+    list_any (λ key. p (string_bytes key)) (map_keys es) ≡ list_any p (keys_of (members_view es))
 any_key p [] = refl
 any_key p (e ∷ es) = ap (λ b. p (string_bytes e.0) || b) (any_key p es)
 
@@ -32,13 +29,15 @@ is_some_map f None = refl
 is_some_map f (Some x) = refl
 
 -- a list whose values aren't all tables
-pub no_list : (key : List ℕ) (t : Members) (value : Data) (values slice : List Value) (r : Bool) → Some value ≡ get_member key t → Some (items_view values) ≡ as_array value
+pub no_list : (key : List ℕ) (t : Members) (value : Data) (values slice : List Value) (r : Bool) → Some value ≡ get_member key t →
+    Some (items_view values) ≡ as_array value
     → slice ≡ values → r ≡ are_tables (map view slice) → not r ≡ holds_no_list key t
 no_list key t value values slice r found list same tests =
     rw (← found) (rw (← list) (ap not (tests ∙ ap (λ vs. are_tables (map view vs)) same ∙ ap are_tables (values_seen values))))
 
 -- the tables of a list
-pub same_tables : (key : List ℕ) (t : Members) (value : Data) (values slice : List Value) → Some value ≡ get_member key t → Some (items_view values) ≡ as_array value
+pub same_tables : (key : List ℕ) (t : Members) (value : Data) (values slice : List Value) → Some value ≡ get_member key t →
+    Some (items_view values) ≡ as_array value
     → slice ≡ values → tables_in (map view slice) ≡ tables_at key t
 same_tables key t value values slice found list same =
     rw (← found) (rw (← list) (ap (λ vs. tables_in (map view vs)) same ∙ ap tables_in (values_seen values)))
@@ -49,18 +48,3 @@ module _ {A B : Type 0} (f : A → Option B) where
   pub all-map : {C : Type 0} (g : C → A) (xs : List C) → all_in (λ x. f (g x)) xs ≡ all_in f (map g xs)
   all-map g [] = refl
   all-map g (x ∷ xs) = ap (λ o. f (g x) >>= (λ y. o >>= (λ ys. Some (y ∷ ys)))) (all-map g xs)
-
-  pub all-begin : (o : Option (List B)) → option_map (λ more. [] ++ more) o ≡ o
-  all-begin None = refl
-  all-begin (Some ys) = refl
-
-  behind : (ds : List B) (y : B) (o : Option (List B)) → option_map (λ more. ds ++ more) (o >>= (λ ys. Some (y ∷ ys))) ≡ option_map (λ more. (ds ++ y ∷ []) ++ more) o
-  behind ds y None = refl
-  behind ds y (Some ys) = ap Some (sym (append_assoc ds (y ∷ []) ys))
-
-  pub all-next : (ds : List B) (x : A) (xs : List A) (y : B) → Some y ≡ f x
-      → option_map (λ more. ds ++ more) (all_in f (x ∷ xs)) ≡ option_map (λ more. (ds ++ y ∷ []) ++ more) (all_in f xs)
-  all-next ds x xs y is = rw (← is) (behind ds y (all_in f xs))
-
-  pub all-none : (ds : List B) (x : A) (xs : List A) → None ≡ f x → option_map (λ more. ds ++ more) (all_in f (x ∷ xs)) ≡ None
-  all-none ds x xs is = rw (← is) refl

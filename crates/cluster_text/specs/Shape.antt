@@ -20,7 +20,8 @@ unfoldable pub is_key : Section → List ℕ → Bool
 is_key Top key = is_one_of (codes "server" ∷ codes "format" ∷ codes "drive" ∷ codes "file" ∷ []) key
 is_key Drive key = is_one_of (codes "number" ∷ codes "address" ∷ codes "key" ∷ codes "capacity" ∷ []) key
 is_key File key = is_one_of
-    (codes "number" ∷ codes "components" ∷ codes "unit" ∷ codes "width" ∷ codes "depth" ∷ codes "mirrors" ∷ codes "algorithm" ∷ [])
+    (codes "number" ∷ codes "components" ∷ codes "unit" ∷ codes "width" ∷ codes "depth" ∷ codes "mirrors" ∷ codes "algorithm"
+        ∷ [])
     key
 
 abbrev pub has_other_key : Section → Members → Bool

@@ -48,7 +48,8 @@ fn any_has_other_key(section: Section, tables: &[&Table]) -> bool
 // Whether a table has a key that isn't one of its own, anywhere in the text.
 #[tactic(auto, unfolding(crate::specs::Shape::has_unknown))]
 pub(crate) fn has_unknown(top: &Table, drives: &[&Table], files: &[&Table]) -> bool
-    ensures { result ≡ has_unknown (table_view top.now) (map (λ t. table_view t.now) drives.now) (map (λ t. table_view t.now) files.now) }
+    ensures { result ≡ has_unknown (table_view top.now) (map (λ t. table_view t.now) drives.now)
+        (map (λ t. table_view t.now) files.now) }
 {
     has_other_key(Section::Top, top)
         || any_has_other_key(Section::Drive, drives)
@@ -118,7 +119,8 @@ fn lacks_drive(reader: Reader, drives: &[&Table]) -> bool
 // Whether a key is missing anywhere in the text, or the drive that reads it.
 #[tactic(auto, unfolding(crate::specs::Shape::lacks))]
 pub(crate) fn lacks(reader: Reader, top: &Table, drives: &[&Table], files: &[&Table]) -> bool
-    ensures { result ≡ lacks reader (table_view top.now) (map (λ t. table_view t.now) drives.now) (map (λ t. table_view t.now) files.now) }
+    ensures { result ≡ lacks reader (table_view top.now) (map (λ t. table_view t.now) drives.now)
+        (map (λ t. table_view t.now) files.now) }
 {
     let needs_key = !matches!(reader, Reader::Client);
     !has(top, "server")
@@ -191,7 +193,8 @@ fn any_is_wrong_file(tables: &[&Table]) -> bool
 // Whether a value is of another type than its key asks for, anywhere in the text.
 #[tactic(auto, unfolding(crate::specs::Shape::is_wrong))]
 pub(crate) fn is_wrong(top: &Table, drives: &[&Table], files: &[&Table]) -> bool
-    ensures { result ≡ is_wrong (table_view top.now) (map (λ t. table_view t.now) drives.now) (map (λ t. table_view t.now) files.now) }
+    ensures { result ≡ is_wrong (table_view top.now) (map (λ t. table_view t.now) drives.now)
+        (map (λ t. table_view t.now) files.now) }
 {
     holds_no_text(top, "server")
         || holds_no_integer(top, "format")

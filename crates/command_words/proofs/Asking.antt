@@ -17,40 +17,49 @@ use Rattle.command_words.proofs.Parsed.{client_simple, drive_simple, server_simp
 
 module _ (a : App) (words : List Text) (m : ArgMatches) where
   pub drive_asked : (n k : Option Text) (r : Option DriveWords) → a ≡ drive_options → HasMatchesOf a words m
-      → n ≡ first_value (found_of m) (codes "number") → k ≡ first_value (found_of m) (codes "connections") → r ≡ drive_words_from n k → drive_words_of words ≡ r
+      → n ≡ first_value (found_of m) (codes "number") → k ≡ first_value (found_of m) (codes "connections") →
+      r ≡ drive_words_from n k → drive_words_of words ≡ r
   drive_asked n k r same h number count is =
       let p = number ∙ value a drive_options words m (codes "number") same drive_simple h in
       let q = count ∙ value a drive_options words m (codes "connections") same drive_simple h in
-      sym (is ∙ (ap (λ (x : Option Text). drive_words_from x k) p ∙ ap (λ (x : Option Text). drive_words_from (text_of drive_options (codes "number") words) x) q))
+      sym (is ∙ (ap (λ (x : Option Text). drive_words_from x k) p
+      ∙ ap (λ (x : Option Text). drive_words_from (text_of drive_options (codes "number") words) x) q))
 
   pub server_asked : (k : Option Text) (r : Option ServerWords) → a ≡ server_options → HasMatchesOf a words m
       → k ≡ first_value (found_of m) (codes "connections") → r ≡ server_words_from k → server_words_of words ≡ r
   server_asked k r same h count is =
-      sym (is ∙ ap (λ (x : Option Text). server_words_from x) (count ∙ value a server_options words m (codes "connections") same server_simple h))
+      sym (is ∙ ap (λ (x : Option Text). server_words_from x)
+      (count ∙ value a server_options words m (codes "connections") same server_simple h))
 
   pub client_asked : (n q t : Option Text) (r : Option ClientWords) → a ≡ client_options → HasMatchesOf a words m
-      → n ≡ first_value (found_of m) (codes "number") → q ≡ first_value (found_of m) (codes "sequence") → t ≡ first_value (found_of m) (codes "call")
+      → n ≡ first_value (found_of m) (codes "number") → q ≡ first_value (found_of m) (codes "sequence") →
+      t ≡ first_value (found_of m) (codes "call")
       → Gives (AsksClient n q t) r → client_gives words r
   client_asked n q t r same h number first text g =
       let x = number ∙ value a client_options words m (codes "number") same client_simple h in
       let y = first ∙ value a client_options words m (codes "sequence") same client_simple h in
       let z = text ∙ value a client_options words m (codes "call") same client_simple h in
-      subst (λ (w : Option Text). Gives (AsksClient (text_of client_options (codes "number") words) (text_of client_options (codes "sequence") words) w) r) z
+      subst (λ (w : Option Text). Gives
+      (AsksClient (text_of client_options (codes "number") words) (text_of client_options (codes "sequence") words) w) r) z
       (subst (λ (w : Option Text). Gives (AsksClient (text_of client_options (codes "number") words) w t) r) y
       (subst (λ (w : Option Text). Gives (AsksClient w q t) r) x g))
 
   pub stored_drive_asked : (n k t : Option Text) (r : Option StoredDriveWords) → a ≡ stored_drive_options → HasMatchesOf a words m
-      → n ≡ first_value (found_of m) (codes "number") → k ≡ first_value (found_of m) (codes "connections") → t ≡ first_value (found_of m) (codes "store")
+      → n ≡ first_value (found_of m) (codes "number") → k ≡ first_value (found_of m) (codes "connections") →
+      t ≡ first_value (found_of m) (codes "store")
       → Gives (AsksStored n k t) r → stored_drive_gives words r
   stored_drive_asked n k t r same h number count name g =
       let x = number ∙ value a stored_drive_options words m (codes "number") same stored_drive_simple h in
       let y = count ∙ value a stored_drive_options words m (codes "connections") same stored_drive_simple h in
       let z = name ∙ value a stored_drive_options words m (codes "store") same stored_drive_simple h in
-      subst (λ (w : Option Text). Gives (AsksStored (text_of stored_drive_options (codes "number") words) (text_of stored_drive_options (codes "connections") words) w) r) z
+      subst (λ (w : Option Text). Gives
+      (AsksStored (text_of stored_drive_options (codes "number") words)
+      (text_of stored_drive_options (codes "connections") words) w) r) z
       (subst (λ (w : Option Text). Gives (AsksStored (text_of stored_drive_options (codes "number") words) w t) r) y
       (subst (λ (w : Option Text). Gives (AsksStored w k t) r) x g))
 
-  pub stored_server_asked : (k t : Option Text) (r : Option StoredServerWords) → a ≡ stored_server_options → HasMatchesOf a words m
+  pub stored_server_asked : (k t : Option Text) (r : Option StoredServerWords) → a ≡ stored_server_options →
+      HasMatchesOf a words m
       → k ≡ first_value (found_of m) (codes "connections") → t ≡ first_value (found_of m) (codes "store")
       → Gives (AsksStoredServer k t) r → stored_server_gives words r
   stored_server_asked k t r same h count name g =

@@ -67,8 +67,10 @@ some_kind k [] among = absurd among
 some_kind k (x ∷ xs) among = λ e. cc e
 
 -- the options are to blame, but for memory
-pub blames : {W : Type 0} (a b : App) (gives : List Text → Option W → Type 0) (words : List Text) (e : Error) (r : WordsErr) → a ≡ b
-    → is_simple_and_free b ≡ true → (is_simple_and_free a ≡ true → HasKind (fault_of a words) e) → (r ≡ Bad → kind_of e ≢ kind.OutOfMemory)
+pub blames : {W : Type 0} (a b : App) (gives : List Text → Option W → Type 0) (words : List Text) (e : Error) (r : WordsErr) →
+    a ≡ b
+    → is_simple_and_free b ≡ true → (is_simple_and_free a ≡ true → HasKind (fault_of a words) e) →
+    (r ≡ Bad → kind_of e ≢ kind.OutOfMemory)
     → Refuses b gives words r
 unfolding faults_of
 blames a b gives words e Memory same free h other = tt
@@ -83,4 +85,5 @@ pub value : (a b : App) (words : List Text) (m : ArgMatches) (id : Text) → a �
     → first_value (found_of m) id ≡ text_of b id words
 unfolding text_of
 value a b words m id same simple h =
-    first_value-rows (found_of m) id ∙ ap (first_of id) ((h (ap is_simple same ∙ simple)).0 ∙ ap (λ (x : App). matches_of x words) same)
+    first_value-rows (found_of m) id
+    ∙ ap (first_of id) ((h (ap is_simple same ∙ simple)).0 ∙ ap (λ (x : App). matches_of x words) same)

@@ -34,5 +34,6 @@ pub record AsksStoredServer (count name : Option Text) (asked : StoredServerWord
 
 abbrev pub stored_server_gives : List Text → Option StoredServerWords → Type 0
 stored_server_gives words asked = Gives
-    (AsksStoredServer (text_of stored_server_options (codes "connections") words) (text_of stored_server_options (codes "store") words))
+    (AsksStoredServer (text_of stored_server_options (codes "connections") words)
+    (text_of stored_server_options (codes "store") words))
     asked

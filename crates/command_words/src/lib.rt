@@ -1,5 +1,5 @@
-//! The words of the commands over a network: `drive`, `stored-drive`, `server`, `stored-server` and `client`, whose options are read by
-//! one simple command of `clap` each. Of words that name no command at all, [`refusal_text`] has what `clap` says.
+//! The words of the commands over a network: `drive`, `stored-drive`, `server`, `stored-server` and `client`, whose options are
+//! read by one simple command of `clap` each. Of words that name no command at all, [`refusal_text`] has what `clap` says.
 #![tactic(auto)]
 
 mod numbers;

@@ -1,14 +1,12 @@
 -- The first online drives are different online drives.
-use Rattle.std.specs.Prelude.{ℕ, Bool, true, false, List, [], ◌∷◌, ◌++◌, refl, zero, suc, ◌≡◌, ◌≢◌, ◌+◌, ◌<◌, ◌≤◌, ◌⊎◌, ◌||◌, ◌&&◌, nat_eq, nat_lt, cond, length, drop, count_by, slice_index, slice_index_or, map, if◌then◌else◌, IsTrue}
+use Rattle.std.specs.Prelude.{ℕ, Bool, true, false, List, [], ◌∷◌, ◌++◌, refl, zero, suc, ◌≡◌, ◌+◌, ◌<◌, ◌≤◌, ◌⊎◌, ◌||◌, ◌&&◌, nat_eq, nat_lt, cond, length, drop, count_by, slice_index, slice_index_or}
 use Rattle.std.specs.List.{list_all, list_any}
 use Rattle.std.proofs.Common.{arith, inl, inr, ap, sym, ◌∙◌, drop-cons, eq-eqb}
 use Rattle.std.proofs.lemmas.Bool.{cases_Bool}
 use Rattle.std.proofs.lemmas.Bool.Decides.{nat_tests}
-use Rattle.std.proofs.lemmas.List.{length-append, get_or_append_left, get_or-append-add}
-use Rattle.std.proofs.lemmas.List.Folds.{list_all-append}
 use Rattle.std.proofs.lemmas.List.Sums.{sum_by-cons}
 use Rattle.stripe_repair.specs.declared.loads.DriveLoad.{DriveLoad}
-use Rattle.stripe_repair.specs.Placing.{AreDifferent, CanPlace, Places, drives_of, is_online}
+use Rattle.stripe_repair.specs.Placing.{AreDifferent, drives_of, is_online}
 use Rattle.core_tests.specs.Choosing.{with_load}
 
 -- of the loads before place i so many are chosen, and behind it there are enough for the rest
@@ -18,18 +16,6 @@ pub record Taken (chosen : List ℕ) (count i : ℕ) (all : List DriveLoad) : Ty
   pub online : list_all (is_online all) chosen ≡ true
   pub placed : (k : ℕ) → k < length chosen → (j : ℕ) × (j < i) × (slice_index chosen k ≡ slice_index (drives_of all) j)
   pub different : AreDifferent chosen
-
-pub none_taken : (count : ℕ) (all : List DriveLoad) → count ≤ count_by (λ l. l.online) all → Taken [] count 0 all
-none_taken count all e = record {
-  few = omega arith;
-  enough = and_none count _ e;
-  online = refl;
-  placed = λ k l. absurd (omega (arith, l));
-  different = λ i j l m. absurd (omega (arith, m));
-}
-  where
-    and_none : (n m : ℕ) → n ≤ m → n ≤ 0 + m
-    and_none n m l = omega (arith, l)
 
 -- the load at a place, and those behind it
 counted : (all : List DriveLoad) (i : ℕ) (x : DriveLoad) → i < length all → x ≡ slice_index_or all i x →
@@ -44,7 +30,8 @@ same_more true n m count len e l w = elim w [ inl f ↦ absurd (cc f) | inr q �
 same_more false n m count len e l w = omega (arith, e, l)
 
 -- it isn't chosen
-pub passed : (chosen : List ℕ) (count i : ℕ) (all : List DriveLoad) (x : DriveLoad) → i < length all → x ≡ slice_index_or all i x →
+pub passed : (chosen : List ℕ) (count i : ℕ) (all : List DriveLoad) (x : DriveLoad) → i < length all →
+    x ≡ slice_index_or all i x →
     (x.online ≡ false) ⊎ (count ≤ length chosen) → Taken chosen count i all → Taken chosen count (i + 1) all
 passed chosen count i all x l e w t = record {
   few = t.few;
@@ -55,9 +42,12 @@ passed chosen count i all x l e w t = record {
 }
 
 -- the load's drive is that of an online load
-found : (all : List DriveLoad) (i : ℕ) (x : DriveLoad) → i < length all → x ≡ slice_index_or all i x → x.online ≡ true → is_online all x.drive ≡ true
+found : (all : List DriveLoad) (i : ℕ) (x : DriveLoad) → i < length all → x ≡ slice_index_or all i x → x.online ≡ true →
+    is_online all x.drive ≡ true
 found [] i x l e o = absurd (omega (arith, l))
-found (y ∷ ys) zero x l e o = rw (← e) (both (nat_eq x.drive x.drive) x.online (list_any (λ z. nat_eq z.drive x.drive && z.online) ys) (eq-eqb x.drive x.drive refl) o)
+found (y ∷ ys) zero x l e o =
+    rw (← e) (both (nat_eq x.drive x.drive) x.online (list_any (λ z. nat_eq z.drive x.drive && z.online) ys)
+    (eq-eqb x.drive x.drive refl) o)
   where
     both : (a b rest : Bool) → a ≡ true → b ≡ true → ((a && b) || rest) ≡ true
     both true true rest p q = refl
@@ -70,7 +60,8 @@ found (y ∷ ys) (suc i) x l e o = later (nat_eq y.drive x.drive && y.online) _ 
     later false b p = p
 
 -- the drive at its place
-drive_at : (all : List DriveLoad) (i : ℕ) (x : DriveLoad) → i < length all → x ≡ slice_index_or all i x → slice_index (drives_of all) i ≡ x.drive
+drive_at : (all : List DriveLoad) (i : ℕ) (x : DriveLoad) → i < length all → x ≡ slice_index_or all i x →
+    slice_index (drives_of all) i ≡ x.drive
 drive_at [] i x l e = absurd (omega (arith, l))
 drive_at (y ∷ ys) zero x l e = rw (← e) refl
 drive_at (y ∷ ys) (suc i) x l e = drive_at ys i x (omega (arith, l)) e
@@ -94,20 +85,25 @@ at_end [] d k e = rw e refl
 at_end (x ∷ xs) d zero e = absurd (omega (arith, e))
 at_end (x ∷ xs) d (suc k) e = at_end xs d k (omega (arith, e))
 
-still_online : (all : List DriveLoad) (xs : List ℕ) (d : ℕ) → list_all (is_online all) xs ≡ true → is_online all d ≡ true → list_all (is_online all) (xs ++ d ∷ []) ≡ true
+still_online : (all : List DriveLoad) (xs : List ℕ) (d : ℕ) → list_all (is_online all) xs ≡ true → is_online all d ≡ true →
+    list_all (is_online all) (xs ++ d ∷ []) ≡ true
 still_online all [] d a o = rw o refl
 still_online all (x ∷ xs) d a o = split (is_online all x) _ _ a (still_online all xs d) o
   where
-    split : (b c e : Bool) → (b && c) ≡ true → (c ≡ true → is_online all d ≡ true → e ≡ true) → is_online all d ≡ true → (b && e) ≡ true
+    split : (b c e : Bool) → (b && c) ≡ true → (c ≡ true → is_online all d ≡ true → e ≡ true) → is_online all d ≡ true →
+        (b && e) ≡ true
     split true c e a f o = f a o
     split false c e a f o = absurd (cc a)
 
 -- it is chosen
-pub chosen_too : (chosen : List ℕ) (count i : ℕ) (all : List DriveLoad) (x : DriveLoad) → i < length all → x ≡ slice_index_or all i x →
-    x.online ≡ true → length chosen < count → AreDifferent (drives_of all) → Taken chosen count i all → Taken (chosen ++ x.drive ∷ []) count (i + 1) all
+pub chosen_too : (chosen : List ℕ) (count i : ℕ) (all : List DriveLoad) (x : DriveLoad) → i < length all →
+    x ≡ slice_index_or all i x →
+    x.online ≡ true → length chosen < count → AreDifferent (drives_of all) → Taken chosen count i all →
+        Taken (chosen ++ x.drive ∷ []) count (i + 1) all
 chosen_too chosen count i all x l e o m d t =
     let long : length (chosen ++ x.drive ∷ []) ≡ length chosen + 1 = one_longer chosen x.drive in
-    let c : count_by (λ l. l.online) (drop i all) ≡ 1 + count_by (λ l. l.online) (drop (i + 1) all) = rw o at (counted all i x l e) in record {
+    let c : count_by (λ l. l.online) (drop i all) ≡ 1 + count_by (λ l. l.online) (drop (i + 1) all) =
+        rw o at (counted all i x l e) in record {
       few = omega (arith, long, m);
       enough = omega (arith, long, c, t.enough);
       online = still_online all chosen x.drive t.online (found all i x l e o);
@@ -116,32 +112,22 @@ chosen_too chosen count i all x l e o m d t =
         | inr q ↦ (i, omega arith, at_end chosen x.drive k q ∙ sym (drive_at all i x l e))
       ];
       different = λ a b f g. elim (before_or_at b (length chosen) (omega (arith, g, long))) [
-        | inl q ↦ (λ same. t.different a b f q (sym (at_left chosen x.drive a (omega (arith, f, q))) ∙ same ∙ at_left chosen x.drive b q))
+        | inl q ↦ (λ same. t.different a b f q
+            (sym (at_left chosen x.drive a (omega (arith, f, q))) ∙ same ∙ at_left chosen x.drive b q))
         | inr q ↦
             let p = t.placed a (omega (arith, f, q)) in
-            (λ same. d p.0 i p.1 (omega (arith, many_drives all, l)) (sym p.2 ∙ sym (at_left chosen x.drive a (omega (arith, f, q))) ∙ same ∙ at_end chosen x.drive b q ∙ sym (drive_at all i x l e)))
+            (λ same. d p.0 i p.1 (omega (arith, many_drives all, l))
+                (sym p.2 ∙ sym (at_left chosen x.drive a (omega (arith, f, q))) ∙ same ∙ at_end chosen x.drive b q
+                ∙ sym (drive_at all i x l e)))
       ];
     }
   where
     before_or_at : (k n : ℕ) → k < n + 1 → (k < n) ⊎ (k ≡ n)
     before_or_at k n l = grind (arith, l)
 
--- where they are all looked at
-pub all_taken : (chosen : List ℕ) (count i : ℕ) (all : List DriveLoad) → length all ≤ i → Taken chosen count i all → Places count all chosen
-all_taken chosen count i all l t = record {
-  many = omega (arith, t.few, t.enough, none_left all i l);
-  online = t.online;
-  different = t.different;
-}
-  where
-    none_left : (all : List DriveLoad) (i : ℕ) → length all ≤ i → count_by (λ l. l.online) (drop i all) ≡ 0
-    none_left [] zero l = refl
-    none_left [] (suc i) l = refl
-    none_left (x ∷ xs) zero l = absurd (omega (arith, l))
-    none_left (x ∷ xs) (suc i) l = none_left xs i (omega (arith, l))
-
 -- one more load is looked at
-took_load : (old new : List ℕ) (count i : ℕ) (all : List DriveLoad) (x : DriveLoad) → i < length all → x ≡ slice_index_or all i x → AreDifferent (drives_of all) →
+took_load : (old new : List ℕ) (count i : ℕ) (all : List DriveLoad) (x : DriveLoad) → i < length all →
+    x ≡ slice_index_or all i x → AreDifferent (drives_of all) →
     new ≡ with_load count x old → Taken old count i all → Taken new count (i + 1) all
 took_load old new count i all x l e d h t = rw h (elim (cases_Bool (x.online && nat_lt (length old) count)) [
   | inl y ↦ rw y (chosen_too old count i all x l e (and_left x.online _ y) (below (and_right x.online _ y)) d t)
@@ -168,6 +154,8 @@ in_range [] i d e l = absurd (omega (arith, l))
 in_range (y ∷ ys) zero d e l = refl
 in_range (y ∷ ys) (suc i) d e l = in_range ys i d e (omega (arith, l))
 
-pub took : (old new : List ℕ) (count i : ℕ) (all : List DriveLoad) (d : DriveLoad) → i < length all → AreDifferent (drives_of all) →
+pub took : (old new : List ℕ) (count i : ℕ) (all : List DriveLoad) (d : DriveLoad) → i < length all →
+    AreDifferent (drives_of all) →
     new ≡ with_load count (slice_index_or all i d) old → Taken old count i all → Taken new count (i + 1) all
-took old new count i all d l f h t = took_load old new count i all (slice_index_or all i d) l (in_range all i d (slice_index_or all i d) l) f h t
+took old new count i all d l f h t =
+    took_load old new count i all (slice_index_or all i d) l (in_range all i d (slice_index_or all i d) l) f h t

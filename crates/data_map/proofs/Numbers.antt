@@ -14,7 +14,8 @@ pub turned_back : (g t c : ℕ) → t < g → c < g → ((c + g - t) % g + t) % 
 turned_back g t c t_below c_below = elim (cases_lt c t) [
   | inl before ↦
       let step : (c + g - t) % g ≡ c + g - t = mod-eq_of_lt (omega (arith, before, t_below)) in
-      ap (λ y. (y + t) % g) step ∙ wrapped_high g (c + g - t + t) (omega (arith, t_below)) (omega (arith, t_below, c_below)) ∙ omega (arith, t_below)
+      ap (λ y. (y + t) % g) step ∙ wrapped_high g (c + g - t + t) (omega (arith, t_below)) (omega (arith, t_below, c_below))
+          ∙ omega (arith, t_below)
   | inr from ↦
       let step : (c + g - t) % g ≡ c + g - t - g = wrapped_high g (c + g - t) (omega (arith, from)) (omega (arith, c_below)) in
       ap (λ y. (y + t) % g) step ∙ mod-eq_of_lt (omega (arith, from, c_below)) ∙ omega (arith, from)
@@ -37,23 +38,28 @@ round_whole d n s =
     let q : s / (d * n) ≡ s / d / n = sym (div-div-eq-div-mul s d n) in
     let inner : (s / d / n) * n + s / d % n ≡ s / d = div-add-mod' (s / d) n in
     let outer : (s / d) * d + s % d ≡ s = div-add-mod' s d in
-    let turn : (s / d / n) * (d * n) ≡ ((s / d / n) * n) * d = ap (λ x. (s / d / n) * x) (mul_comm d n) ∙ sym (mul_assoc (s / d / n) n d) in
+    let turn : (s / d / n) * (d * n) ≡ ((s / d / n) * n) * d =
+        ap (λ x. (s / d / n) * x) (mul_comm d n) ∙ sym (mul_assoc (s / d / n) n d) in
     ap (λ x. x * (d * n) + (s / d % n) * d + s % d) q
     ∙ ap (λ x. x + (s / d % n) * d + s % d) turn
     ∙ ap (λ x. x + s % d) (sym (add-mul ((s / d / n) * n) (s / d % n) d) ∙ ap (λ x. x * d) inner)
     ∙ outer
 
 in_groups : (d n a b j : ℕ) → a * (d * n) + b * d + j ≡ (a * n + b) * d + j
-in_groups d n a b j = ap (λ x. x + b * d + j) (ap (λ x. a * x) (mul_comm d n) ∙ sym (mul_assoc a n d)) ∙ ap (λ x. x + j) (sym (add-mul (a * n) b d))
+in_groups d n a b j =
+    ap (λ x. x + b * d + j) (ap (λ x. a * x) (mul_comm d n) ∙ sym (mul_assoc a n d)) ∙ ap (λ x. x + j) (sym (add-mul (a * n) b d))
 
 pub round_group : (d n a b j : ℕ) → b < n → j < d → (a * (d * n) + b * d + j) / d % n ≡ b
-round_group d n a b j group row = ap (λ x. x / d % n) (in_groups d n a b j) ∙ ap (λ x. x % n) (div-mul-add (a * n + b) d j row) ∙ mod-mul-add a n b group
+round_group d n a b j group row =
+    ap (λ x. x / d % n) (in_groups d n a b j) ∙ ap (λ x. x % n) (div-mul-add (a * n + b) d j row) ∙ mod-mul-add a n b group
 
-pub round_row : (d n a b j : ℕ) → b < n → j < d → (a * (d * n) + b * d + j) / (d * n) * d + (a * (d * n) + b * d + j) % d ≡ a * d + j
+pub round_row : (d n a b j : ℕ) → b < n → j < d →
+    (a * (d * n) + b * d + j) / (d * n) * d + (a * (d * n) + b * d + j) % d ≡ a * d + j
 round_row d n a b j group row =
     let whole = in_groups d n a b j in
     let first : (a * (d * n) + b * d + j) / (d * n) ≡ a =
-    sym (div-div-eq-div-mul (a * (d * n) + b * d + j) d n) ∙ ap (λ x. x / d / n) whole ∙ ap (λ x. x / n) (div-mul-add (a * n + b) d j row) ∙ div-mul-add a n b group in
+    sym (div-div-eq-div-mul (a * (d * n) + b * d + j) d n) ∙ ap (λ x. x / d / n) whole
+        ∙ ap (λ x. x / n) (div-mul-add (a * n + b) d j row) ∙ div-mul-add a n b group in
     let last : (a * (d * n) + b * d + j) % d ≡ j = ap (λ x. x % d) whole ∙ mod-mul-add (a * n + b) d j row in
     ap (λ x. x * d + (a * (d * n) + b * d + j) % d) first ∙ ap (λ x. a * d + x) last
 
@@ -67,7 +73,8 @@ row_most d n s =
 pub stripe_most : (d n a b j : ℕ) → b < n → j < d → a * (d * n) + b * d + j ≤ (a * d + j + d) * n
 stripe_most d n a b j group row =
     let turn : a * (d * n) ≡ (a * d) * n = sym (mul_assoc a d n) in
-    let split : (a * d + j + d) * n ≡ (a * d) * n + (j * n + d * n) = add-mul (a * d + j) d n ∙ ap (λ x. x + d * n) (add-mul (a * d) j n) ∙ omega arith in
+    let split : (a * d + j + d) * n ≡ (a * d) * n + (j * n + d * n) =
+        add-mul (a * d + j) d n ∙ ap (λ x. x + d * n) (add-mul (a * d) j n) ∙ omega arith in
     let more : b + 1 ≤ n = omega (arith, group) in
     let less : (b + 1) * d ≤ n * d = mul-le-mul_right d more in
     omega (arith, turn, split, less, add-mul b 1 d, mul_comm n d, row)

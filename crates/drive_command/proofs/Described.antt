@@ -1,11 +1,9 @@
 -- A text that a drive may read has its key: so the drive is always made.
 use Rattle.std.proofs.Common.{◌≡◌, ◌≢◌, ◌∙◌, ap, refl, sym}
-use Rattle.std.specs.Prelude.{ℕ, ℤ, pos, codes, Bool, true, false, not, ◌-◌, ◌||◌, ◌&&◌, nat_le, nat_eq, if◌then◌else◌, List, [], ◌∷◌, length, map, Option, Some, None, is_some, is_none, option_map, Ok, Err, cond}
+use Rattle.std.specs.Prelude.{ℕ, ℤ, pos, codes, Bool, true, false, ◌-◌, ◌||◌, ◌&&◌, nat_le, nat_eq, if◌then◌else◌, List, [], ◌∷◌, length, map, Option, Some, None, is_some, is_none, option_map, Ok, Err, cond}
 use Rattle.std.specs.List.{find, list_any}
 use Rattle.std.specs.Option.{option_and_then, option_map_or}
-use Rattle.std.specs.Result.{result_ok}
 use Rattle.std.proofs.lemmas.Bool.{or_parts}
-use Rattle.hex.specs.Hex.{decode_sized}
 use Rattle.toml.specs.Data.{Members}
 use Rattle.osd_lists.proofs.Tests.{not_false}
 use Rattle.cluster_text.specs.declared.cluster.Cluster.{Cluster}
@@ -15,22 +13,18 @@ use Rattle.cluster_text.specs.declared.cluster.Reader.TheVariants.{Drive}
 use Rattle.cluster_text.specs.declared.errors.ClusterErr.TheVariants.{Refused}
 use Rattle.cluster_text.specs.declared.errors.ClusterKind.TheVariants.{Unknown, Missing, WrongType, Repeated}
 use Rattle.cluster_text.specs.declared.fields.TheConstants.{MAX_DRIVES}
-use Rattle.cluster_text.specs.Fields.{◌>>=◌, address_at, drive_in, file_in, format_in, in_range, key_in, key_of, natural_of, number_at}
+use Rattle.cluster_text.specs.Fields.{◌>>=◌, address_at, drive_in, file_in, format_in, in_range, key_in, natural_of, number_at}
 use Rattle.cluster_text.specs.Document.{all_in, cluster_in, cluster_of, document_of, has_good_counts, judged, judged_document, repeats, unrepeated}
 use Rattle.cluster_text.specs.Shape.{has_unknown, is_drive, is_number, is_wrong, is_wrong_drive, lacks, lacks_drive_key}
 use Rattle.cluster_text.specs.Tables.{has, integer_at, tables_at, text_at}
+use Rattle.cluster_text.proofs.Keys.{bound, key_there, has_text}
 use Rattle.osd_drive.specs.State.{new_drive}
 use Rattle.drive_command.specs.Own.{core_from, core_in, keys_of}
 
--- ---- tests and options
-
-bound : {A B : Type 0} (o : Option A) (f : A → Option B) (y : B) → (o >>= f) ≡ Some y → (x : A) × (o ≡ Some x) × (f x ≡ Some y)
-bound (Some x) f y h = (x, refl, h)
-bound None f y h = cc h
-
 -- ---- a text that is judged good
 
-from_document : (n : ℕ) (o : Option Members) (c : Cluster) → judged_document (Drive n) o ≡ Ok c → (top : Members) × (judged (Drive n) top ≡ Ok c)
+from_document : (n : ℕ) (o : Option Members) (c : Cluster) → judged_document (Drive n) o ≡ Ok c →
+    (top : Members) × (judged (Drive n) top ≡ Ok c)
 from_document n None c h = cc h
 from_document n (Some top) c h = (top, h)
 
@@ -39,23 +33,31 @@ from_unrepeated true x c h = cc h
 from_unrepeated false x c h = cc h
 
 from_tests : (unknown lacking wrong : Bool) (o : Option Cluster) (c : Cluster)
-    → (if unknown then Err (Refused Unknown) else if lacking then Err (Refused Missing) else if wrong then Err (Refused WrongType) else unrepeated o) ≡ Ok c
+    → (if unknown then Err (Refused Unknown) else if lacking then Err (Refused Missing) else if wrong then Err
+        (Refused WrongType) else unrepeated o) ≡ Ok c
     → (lacking ≡ false) × (wrong ≡ false) × (o ≡ Some c)
 from_tests true lacking wrong o c h = cc h
 from_tests false true wrong o c h = cc h
 from_tests false false true o c h = cc h
 from_tests false false false None c h = cc h
 from_tests false false false (Some x) c h =
-    (refl, refl, ap (λ (y : Cluster). Some y) (from_unrepeated (repeats (map (λ d. d.number) x.drives) || repeats (map (λ f. f.number) x.files)) x c h))
+    (refl, refl,
+        ap (λ (y : Cluster). Some y)
+            (from_unrepeated (repeats (map (λ d. d.number) x.drives) || repeats (map (λ f. f.number) x.files)) x c h))
 
 -- the drives of the tables
-drives_of : (top : Members) (ds fs : List Members) (c : Cluster) → cluster_in top ds fs ≡ Some c → all_in drive_in ds ≡ Some c.drives
+drives_of : (top : Members) (ds fs : List Members) (c : Cluster) → cluster_in top ds fs ≡ Some c →
+    all_in drive_in ds ≡ Some c.drives
 unfolding cluster_in
 drives_of top ds fs c h =
-    go (has_good_counts ds fs) (address_at (codes "server") top) (format_in top) (all_in drive_in ds) (all_in (file_in (length ds)) fs) h
+    go (has_good_counts ds fs) (address_at (codes "server") top) (format_in top) (all_in drive_in ds)
+        (all_in (file_in (length ds)) fs) h
   where
-    go : (good : Bool) (server : Option (List ℕ)) (format : Option ℕ) (drives : Option (List ClusterDrive)) (files : Option (List ClusterFile))
-        → (if good then (server >>= (λ s. format >>= (λ f. drives >>= (λ d. files >>= (λ x. Some (record { server = s; format = f; drives = d; files = x }))))))
+    go : (good : Bool) (server : Option (List ℕ)) (format : Option ℕ) (drives : Option (List ClusterDrive))
+        (files : Option (List ClusterFile))
+        → (if good then (server >>=
+            (λ s. format >>=
+            (λ f. drives >>= (λ d. files >>= (λ x. Some (record { server = s; format = f; drives = d; files = x }))))))
         else None) ≡ Some c → drives ≡ Some c.drives
     go false server format drives files e = cc e
     go true None format drives files e = cc e
@@ -92,21 +94,12 @@ natural_is (pos m) n h = let same : m ≡ n = cc h in ap pos same
 natural_is other n h = cc h
 
 -- the number that a table has
-number_is : (t : Members) (n : ℕ) → number_at (codes "number") 0 (MAX_DRIVES - 1) t ≡ Some n → integer_at (codes "number") t ≡ Some (pos n)
+number_is : (t : Members) (n : ℕ) → number_at (codes "number") 0 (MAX_DRIVES - 1) t ≡ Some n →
+    integer_at (codes "number") t ≡ Some (pos n)
 number_is t n h =
     let a = bound (integer_at (codes "number") t >>= natural_of) (in_range 0 (MAX_DRIVES - 1)) n h in
     let b = bound (integer_at (codes "number") t) natural_of a.0 a.1 in
     b.1 ∙ ap (λ (z : ℤ). Some z) (natural_is b.0 a.0 b.2 ∙ ap pos (in_range_is 0 (MAX_DRIVES - 1) a.0 n a.2))
-
-key_there : (digits : Option (List ℕ)) (key : Option (List ℕ)) → is_none digits ≡ false → key_of digits ≡ Some key → is_some key ≡ true
-key_there None key there h = cc there
-key_there (Some digits) key there h =
-    let a = bound (result_ok (decode_sized digits 20)) (λ k. Some (Some k)) key h in
-    let same : Some a.0 ≡ key = cc a.2 in rw (← same) refl
-
-has_text : (there none : Bool) → not there ≡ false → (there && none) ≡ false → none ≡ false
-has_text true none there h = h
-has_text false none there h = cc there
 
 -- the table of a drive gives its number and its key; the limit of its capacity is written out, since its constant is private
 row : (n : ℕ) (t : Members) (d : ClusterDrive) → drive_in t ≡ Some d → lacks_drive_key true t ≡ false → is_wrong_drive t ≡ false
@@ -133,8 +126,10 @@ core_some n d h = go d.key h
     go (Some k) e = refl
     go None e = cc e
 
-found : (n : ℕ) (ts : List Members) (ds : List ClusterDrive) → all_in drive_in ts ≡ Some ds → list_any (lacks_drive_key true) ts ≡ false
-    → list_any is_wrong_drive ts ≡ false → list_any (is_drive n) ts ≡ true → is_some (option_and_then (core_from n) (find (λ d. nat_eq d.number n) ds)) ≡ true
+found : (n : ℕ) (ts : List Members) (ds : List ClusterDrive) → all_in drive_in ts ≡ Some ds →
+    list_any (lacks_drive_key true) ts ≡ false
+    → list_any is_wrong_drive ts ≡ false → list_any (is_drive n) ts ≡ true →
+        is_some (option_and_then (core_from n) (find (λ d. nat_eq d.number n) ds)) ≡ true
 found n [] ds h lack wrong any = cc any
 found n (t ∷ ts) ds h lack wrong any =
     let a = bound (drive_in t) _ ds h in
@@ -146,7 +141,9 @@ found n (t ∷ ts) ds h lack wrong any =
     rw (← same) (go (nat_eq (a.0).number n) refl a.0 b.0 r.0 (sym r.1) (λ rest. found n ts b.0 b.1 l.1 w.1 rest))
   where
     go : (test : Bool) → {x : Bool} → x ≡ test → (d : ClusterDrive) (rest : List ClusterDrive) → is_some d.key ≡ true
-        → x ≡ is_drive n t → (list_any (is_drive n) ts ≡ true → is_some (option_and_then (core_from n) (find (λ d. nat_eq d.number n) rest)) ≡ true)
+        → x ≡ is_drive n t →
+            (list_any (is_drive n) ts ≡ true →
+            is_some (option_and_then (core_from n) (find (λ d. nat_eq d.number n) rest)) ≡ true)
         → is_some (option_and_then (core_from n) (cond x (Some d) (find (λ d. nat_eq d.number n) rest))) ≡ true
     go true is d rest some tests more = rw is (core_some n d some)
     go false is d rest some tests more = rw is (more (ap (λ b. b || list_any (is_drive n) ts) (sym (sym tests ∙ is)) ∙ any))

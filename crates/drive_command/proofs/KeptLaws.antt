@@ -2,6 +2,7 @@
 use Rattle.std.proofs.Common.{◌≡◌, ◌≤◌, ◌⊎◌, inl, inr, ⊎_elim, false, ℕ, List, [], ◌∷◌, ◌++◌, refl, ◌∙◌, sym, ap, subst, append_assoc, arith}
 use Rattle.std.proofs.lemmas.List.{append-nil}
 use Rattle.osd_disk.specs.Crashes.{LeavesOnly}
+use Rattle.osd_disk.proofs.Moments.{leaves_then}
 use Rattle.osd_drive.specs.State.{DriveState}
 use Rattle.osd_drive.specs.Effects.{drive_after}
 use Rattle.drive_command.specs.Connections.{Handled, after_all}
@@ -22,28 +23,22 @@ module _ {H : Type 0} (s : Ghosts H) where
   none_of d (h ∷ hs) c stands = inl stands
 
   -- some of these are some of more
-  some_before : (d : DriveState) (hs gs cut_off : List Handled) (c : List ℕ) → Some_of d (hs ++ []) c → Some_of d ((hs ++ gs) ++ cut_off) c
+  some_before : (d : DriveState) (hs gs cut_off : List Handled) (c : List ℕ) → Some_of d (hs ++ []) c →
+      Some_of d ((hs ++ gs) ++ cut_off) c
   some_before d [] gs cut_off c stands = none_of d (gs ++ cut_off) c stands
   some_before d (h ∷ hs) gs cut_off c (inl stands) = inl stands
   some_before d (h ∷ hs) gs cut_off c (inr stands) = inr (some_before (drive_after d h.time h.message) hs gs cut_off c stands)
 
   -- and all of these with some behind them
-  some_behind : (d : DriveState) (hs gs cut_off : List Handled) (c : List ℕ) → Some_of (after_all d hs) (gs ++ cut_off) c → Some_of d ((hs ++ gs) ++ cut_off) c
+  some_behind : (d : DriveState) (hs gs cut_off : List Handled) (c : List ℕ) → Some_of (after_all d hs) (gs ++ cut_off) c →
+      Some_of d ((hs ++ gs) ++ cut_off) c
   some_behind d [] gs cut_off c stands = stands
   some_behind d (h ∷ hs) gs cut_off c stands = inr (some_behind (drive_after d h.time h.message) hs gs cut_off c stands)
 
-  leaves_then : (old mid new : H) (P Q R : List ℕ → Type 0) → LeavesOnly s.moment s.left_since old mid P → LeavesOnly s.moment s.left_since mid new Q
-      → ((c : List ℕ) → P c → R c) → ((c : List ℕ) → Q c → R c) → LeavesOnly s.moment s.left_since old new R
-  leaves_then old mid new P Q R p q first second = record {
-    later = omega (arith, p.later, q.later);
-    each = λ c left. ⊎_elim (λ before. first c (p.each c before)) (second c) (q.before (s.moment old) c p.later left);
-    before = λ t c le left. ⊎_elim (λ earlier. ⊎_elim inl (λ here. inr (first c here)) (p.before t c le earlier)) (λ here. inr (second c here))
-        (q.before t c (omega (arith, le, p.later)) left);
-  }
-
   since_then : (mid new : H) (d : DriveState) (hs gs cut_off : List Handled) (t : ℕ)
       → StandsSince s.stands_for (s.left_since mid) (s.moment mid) d hs [] t → t ≤ s.moment mid → s.moment mid ≤ s.moment new
-      → ((u : ℕ) (c : List ℕ) → u ≤ s.moment mid → s.left_since new u c → s.left_since mid u c ⊎ Some_of (after_all d hs) (gs ++ cut_off) c)
+      → ((u : ℕ) (c : List ℕ) → u ≤ s.moment mid → s.left_since new u c →
+          s.left_since mid u c ⊎ Some_of (after_all d hs) (gs ++ cut_off) c)
       → StandsSince s.stands_for (s.left_since new) (s.moment new) (after_all d hs) gs cut_off (s.moment mid)
       → StandsSince s.stands_for (s.left_since new) (s.moment new) d (hs ++ gs) cut_off t
   since_then mid new d [] [] cut_off t first le later before behind =
@@ -56,7 +51,8 @@ module _ {H : Type 0} (s : Ghosts H) where
     behind.4,
   )
   since_then mid new d (h ∷ hs) gs cut_off t first le later before behind = (
-    λ c left. ⊎_elim (λ past. some_before d (h ∷ hs) gs cut_off c (first.0 c past)) (λ here. some_behind d (h ∷ hs) gs cut_off c here) (before t c le left),
+    λ c left. ⊎_elim (λ past. some_before d (h ∷ hs) gs cut_off c (first.0 c past))
+        (λ here. some_behind d (h ∷ hs) gs cut_off c here) (before t c le left),
     first.1,
     first.2,
     omega (arith, first.3, later),
@@ -66,22 +62,30 @@ module _ {H : Type 0} (s : Ghosts H) where
   joined : (hs gs cut_off : List Handled) (old mid new : H) → HasHandled s hs [] old mid → (s.keeps old → s.keeps mid)
       → HasHandled s gs cut_off mid new → HasHandled s (hs ++ gs) cut_off old new
   joined hs gs cut_off old mid new x kept y =
-      let between : s.drive mid ≡ after_all (s.drive old) hs = x.state ∙ ap (λ (ks : List Handled). after_all (s.drive old) ks) (append-nil hs) in record {
-        state = y.state ∙ ap (λ (d : DriveState). after_all d (gs ++ cut_off)) between ∙ after_all-then (s.drive old) hs (gs ++ cut_off)
+      let between : s.drive mid ≡ after_all (s.drive old) hs =
+          x.state ∙ ap (λ (ks : List Handled). after_all (s.drive old) ks) (append-nil hs) in record {
+        state = y.state ∙ ap (λ (d : DriveState). after_all d (gs ++ cut_off)) between
+            ∙ after_all-then (s.drive old) hs (gs ++ cut_off)
             ∙ ap (λ (ks : List Handled). after_all (s.drive old) ks) (sym (append_assoc hs gs cut_off));
         few = y.few;
-        crash = λ k. leaves_then old mid new (Some_of (s.drive old) (hs ++ [])) (Some_of (after_all (s.drive old) hs) (gs ++ cut_off))
+        crash = λ k. leaves_then s.moment s.left_since old mid new (Some_of (s.drive old) (hs ++ []))
+            (Some_of (after_all (s.drive old) hs) (gs ++ cut_off))
             (Some_of (s.drive old) ((hs ++ gs) ++ cut_off)) (x.crash k)
-            (subst (λ (d : DriveState). LeavesOnly s.moment s.left_since mid new (Some_of d (gs ++ cut_off))) between (y.crash (kept k)))
+            (subst (λ (d : DriveState). LeavesOnly s.moment s.left_since mid new (Some_of d (gs ++ cut_off))) between
+                (y.crash (kept k)))
             (some_before (s.drive old) hs gs cut_off) (some_behind (s.drive old) hs gs cut_off);
         since = λ k.
-            let before = subst (λ (d : DriveState). LeavesOnly s.moment s.left_since mid new (Some_of d (gs ++ cut_off))) between (y.crash (kept k)) in
+            let before =
+                subst (λ (d : DriveState). LeavesOnly s.moment s.left_since mid new (Some_of d (gs ++ cut_off))) between
+                    (y.crash (kept k)) in
             since_then mid new (s.drive old) hs gs cut_off (s.moment old) (x.since k) (x.crash k).later before.later before.before
-            (subst (λ (d : DriveState). StandsSince s.stands_for (s.left_since new) (s.moment new) d gs cut_off (s.moment mid)) between (y.since (kept k)));
+            (subst (λ (d : DriveState). StandsSince s.stands_for (s.left_since new) (s.moment new) d gs cut_off (s.moment mid))
+                between (y.since (kept k)));
       }
 
   -- before any record
-  pub went-none : (h : H) → ((c : List ℕ) → s.keeps h → s.left_since h (s.moment h) c → s.stands_for (s.drive h) c) → s.is_over h ≡ false → WentOn s h h
+  pub went-none : (h : H) → ((c : List ℕ) → s.keeps h → s.left_since h (s.moment h) c → s.stands_for (s.drive h) c) →
+      s.is_over h ≡ false → WentOn s h h
   went-none h stays on = record {
     handled = [];
     carries = record {
@@ -101,7 +105,8 @@ module _ {H : Type 0} (s : Ghosts H) where
 
   -- more records behind some
   pub carried-then : (old mid new : H) → WentOn s old mid → HandlesSome s mid new → HandlesSome s old new
-  carried-then old mid new w more = (w.handled ++ more.0, more.1, joined w.handled more.0 more.1 old mid new w.carries w.keeps more.2)
+  carried-then old mid new w more =
+      (w.handled ++ more.0, more.1, joined w.handled more.0 more.1 old mid new w.carries w.keeps more.2)
 
   -- and all of them answered
   pub went-then : (old mid new : H) → WentOn s old mid → WentOn s mid new → WentOn s old new
@@ -114,5 +119,6 @@ module _ {H : Type 0} (s : Ghosts H) where
   }
 
   -- the drive is as the records leave it
-  pub state-some : (old new : H) → HandlesSome s old new → (handled : List Handled) × (s.drive new ≡ after_all (s.drive old) handled)
+  pub state-some : (old new : H) → HandlesSome s old new →
+      (handled : List Handled) × (s.drive new ≡ after_all (s.drive old) handled)
   state-some old new x = (x.0 ++ x.1, x.2.state)

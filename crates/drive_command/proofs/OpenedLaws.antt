@@ -1,50 +1,19 @@
 -- Why a store isn't made or opened, from what its crate and its disk say.
-use Rattle.std.proofs.Common.{◌≡◌, ℕ, List, [], length, Bool, inl, inr, refl, ◌∙◌, sym, ap, subst, arith}
-use Rattle.std.specs.Prelude.{IsTrue, ◌<◌}
+use Rattle.std.proofs.Common.{◌≡◌, ℕ, List, inr, sym, subst}
+use Rattle.std.specs.Prelude.{IsTrue}
 use Rattle.osd_bytes.specs.Causes.{Rose}
 use Rattle.cluster_text.specs.declared.stop.CommandStop.TheVariants as cause
 use Rattle.osd_disk.specs.Crashes.{Elapses, Narrows, OnlyRead}
 use Rattle.osd_disk.proofs.Moments.{leaves_as_before, nothing_read, read_again, read_more}
 use Rattle.osd_disk.specs.declared.disk.Disk.{Ghosts as DiskGhosts}
-use Rattle.osd_disk.specs.declared.disk.DiskErr.{DiskErr}
 use Rattle.osd_disk.specs.declared.disk.DiskErr.TheVariants as failure
 use Rattle.osd_drive.specs.State.{DriveState}
-use Rattle.drive_store.specs.declared.errors.StoreErr.{StoreErr}
 use Rattle.drive_store.specs.declared.errors.StoreErr.TheVariants as store
-use Rattle.drive_store.specs.Errors.{HasErrCause, NotAStoreSays, NotEmptySays}
-use Rattle.drive_store.specs.Opening.{IsNoStoreAt}
 use Rattle.drive_command.specs.declared.stored_stop.StoredStop.{StoredStop}
 use Rattle.drive_command.specs.declared.stored_stop.StoredStop.TheVariants.{Command, DiskFault, BadStore}
 use Rattle.drive_command.specs.Opened.{IsRefusedAt, LeavesOpenable, StopsOpening}
-use Rattle.drive_command.specs.StoredStops.{stop_of_disk, stop_of_store}
 
 module _ {D : Type 0} (s : DiskGhosts D) (first : DriveState) where
-  -- a call of the disk failed
-  pub disk_failed : (disk left : D) (e : DiskErr) → (e ≡ failure.Fault → Rose (s.faults disk) (s.faults left))
-      → StopsOpening s first disk left (stop_of_disk e)
-  disk_failed disk left failure.Fault rose = rose refl
-  disk_failed disk left failure.Memory rose = tt
-
-  -- the store wasn't opened
-  pub not_opened : (disk left : D) (e : StoreErr)
-      → NotAStoreSays (λ at. IsTrue (s.tells disk) → IsNoStoreAt first.keys (s.seen disk) at) e
-      → s.seen left ≡ s.seen disk → HasErrCause (s.faults disk) (s.faults left) e
-      → StopsOpening s first disk left (stop_of_store e)
-  not_opened disk left (store.NotEmpty size) says same cause = absurd says
-  not_opened disk left store.DiskFault says same cause = cause.failed refl
-  not_opened disk left (store.NotAStore at) says same cause = λ told. (same, inl (says told))
-  not_opened disk left store.Memory says same cause = tt
-
-  -- the store wasn't made, on a disk that has no bytes
-  pub not_made : (disk left : D) (e : StoreErr)
-      → NotEmptySays (λ size. IsTrue (s.tells disk) → (size ≡ length (s.seen disk)) × (0 < size)) e
-      → (IsTrue (s.tells disk) → length (s.seen disk) ≡ 0) → HasErrCause (s.faults disk) (s.faults left) e
-      → StopsOpening s first disk left (stop_of_store e)
-  not_made disk left (store.NotEmpty size) says empty cause =
-      λ told. absurd (omega (arith, (says told).0, (says told).1, empty told))
-  not_made disk left store.DiskFault says empty cause = cause.failed refl
-  not_made disk left (store.NotAStore at) says empty cause = absurd says
-  not_made disk left store.Memory says empty cause = tt
 
   -- the disk was only opened and asked for its size before
   pub since_opened : (disk mid left : D) (stop : StoredStop) → s.tells mid ≡ s.tells disk → s.seen mid ≡ s.seen disk

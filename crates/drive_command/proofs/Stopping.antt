@@ -14,17 +14,22 @@ use Rattle.drive_command.proofs.Described.{described}
 use Rattle.drive_command.proofs.Rising.{rose}
 
 -- as the drive of a cluster, once the links are settled
-module _ (number connections : ℕ) (cluster : Cluster) (before now : Ends) (taken_before taken : Option (List ℕ)) (failed_before failed : ℕ) where
-  pub serving_in : (stop : CommandStop) (settled : Ends) (drive last : DriveState) → settled ≡ before → core_in number cluster ≡ Some drive
+module _ (number connections : ℕ) (cluster : Cluster) (before now : Ends) (taken_before taken : Option (List ℕ))
+    (failed_before failed : ℕ) where
+  pub serving_in : (stop : CommandStop) (settled : Ends) (drive last : DriveState) → settled ≡ before →
+      core_in number cluster ≡ Some drive
       → StopsServing connections drive last settled now taken_before taken failed_before failed stop
       → StopsIn number connections cluster before now taken_before taken failed_before failed stop
   serving_in stop settled drive last same own s =
-      go stop (subst (λ (x : Ends). StopsServing connections drive last x now taken_before taken failed_before failed stop) same s)
+      go stop (subst
+          (λ (x : Ends). StopsServing connections drive last x now taken_before taken failed_before failed stop) same s)
     where
       go : (stop : CommandStop) → StopsServing connections drive last before now taken_before taken failed_before failed stop
           → StopsIn number connections cluster before now taken_before taken failed_before failed stop
       go WriteFault s = (record { drive = drive; own = own; last = last; cuts = s.0 }, s.1)
-      go LinkFault s = inr (record { drive = drive; own = own; last = last; refused = s.1; rose = rose connections drive last before now s.1 }, s.0)
+      go LinkFault s =
+          inr (record { drive = drive; own = own; last = last; refused = s.1; rose = rose connections drive last before now s.1 },
+          s.0)
       go Memory s = s
       go (BadCluster kind) s = absurd s
       go ReadFault s = absurd s

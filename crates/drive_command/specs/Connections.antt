@@ -95,14 +95,16 @@ pub record Answers (puts still : Bool) (old new : DriveState) (before now : Ends
   pub told : TellsTime before.times now.times time
   pub state : new ≡ drive_after old time message
   pub last : now.last ≡ last_of old before.last (handled_at time message)
-  pub reply : PutsReply puts still (reply_bytes old time message) (noting (lines_of old before.last (handled_at time message)) before) now
+  pub reply : PutsReply puts still (reply_bytes old time message)
+      (noting (lines_of old before.last (handled_at time message)) before) now
   pub short : length (reply_bytes old time message) ≤ MAX_RECORD
 
 -- ---- the records of a connection
 
 -- these bytes were taken, and these records handled; what of their replies was put, and what wasn't; and the lines that
 -- were told of them, no others
-pub record Serves (puts : Bool) (old new : DriveState) (before now : Ends) (taken : List ℕ) (handled : List Handled) : Type 0 where
+pub record Serves (puts : Bool) (old new : DriveState) (before now : Ends) (taken : List ℕ)
+    (handled : List Handled) : Type 0 where
   pub put : List ℕ
   pub unput : List ℕ
   pub talked : Talked before.told now.told taken put (notes_of old before.last handled)

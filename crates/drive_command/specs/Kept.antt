@@ -20,7 +20,8 @@ StandsForSome stands_for d (h ∷ hs) c =
 -- others was handled to its end, from which on a crash leaves the drive with it.
 abbrev pub StandsSince : (stands_for : DriveState → List ℕ → Type 0) → (left_since : ℕ → List ℕ → Type 0) → (now : ℕ) → DriveState
     → (handled cut_off : List Handled) → (since : ℕ) → Type 0
-StandsSince stands_for left_since now d [] cut_off since = (c : List ℕ) → left_since since c → StandsForSome stands_for d cut_off c
+StandsSince stands_for left_since now d [] cut_off since =
+    (c : List ℕ) → left_since since c → StandsForSome stands_for d cut_off c
 StandsSince stands_for left_since now d (h ∷ hs) cut_off since =
     ((c : List ℕ) → left_since since c → StandsForSome stands_for d (h ∷ (hs ++ cut_off)) c)
     × (end : ℕ) × (since ≤ end) × (end ≤ now)
@@ -30,7 +31,8 @@ StandsSince stands_for left_since now d (h ∷ hs) cut_off since =
 -- kept before, a crash at any moment since leaves contents that stand for it after some of them, and for those that were
 -- handled till then.
 pub record Carries {H : Type 0} (drive : H → DriveState) (keeps : H → Type 0) (moment : H → ℕ)
-    (left_since : H → ℕ → List ℕ → Type 0) (stands_for : DriveState → List ℕ → Type 0) (handled cut_off : List Handled) (old new : H)
+    (left_since : H → ℕ → List ℕ → Type 0) (stands_for : DriveState → List ℕ → Type 0) (handled cut_off : List Handled)
+        (old new : H)
     : Type 0 where
   pub state : drive new ≡ after_all (drive old) (handled ++ cut_off)
   pub few : length cut_off ≤ 1

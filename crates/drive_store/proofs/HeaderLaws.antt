@@ -7,11 +7,13 @@ use Rattle.std.specs.Int.{w64, from_be_bytes}
 use Rattle.std.proofs.lemmas.Nat.{from_be_bytes-to_be_bytes_8}
 use Rattle.drive_store.specs.Header.{header_of}
 
-pub number_in : (number capacity : ℕ) → number < 2 ^ 64 → from_be_bytes w64 (slice_range (header_of number capacity) 8 16) ≡ number
+pub number_in : (number capacity : ℕ) → number < 2 ^ 64 →
+    from_be_bytes w64 (slice_range (header_of number capacity) 8 16) ≡ number
 unfolding header_of
 number_in number capacity fits = from_be_bytes-to_be_bytes_8 number fits
 
-pub capacity_in : (number capacity : ℕ) → capacity < 2 ^ 64 → from_be_bytes w64 (slice_range (header_of number capacity) 16 24) ≡ capacity
+pub capacity_in : (number capacity : ℕ) → capacity < 2 ^ 64 →
+    from_be_bytes w64 (slice_range (header_of number capacity) 16 24) ≡ capacity
 unfolding header_of
 capacity_in number capacity fits = from_be_bytes-to_be_bytes_8 capacity fits
 

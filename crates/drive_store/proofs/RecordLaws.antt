@@ -32,11 +32,13 @@ use Rattle.drive_store.specs.Stores.{IsStep, emptied}
 
 -- ---- many records
 
-pub replayed-more : (d : Option DriveState) (records : List (List ℕ)) (bytes : List ℕ) → replayed d (records ++ bytes ∷ []) ≡ after_record_of (replayed d records) bytes
+pub replayed-more : (d : Option DriveState) (records : List (List ℕ)) (bytes : List ℕ) →
+    replayed d (records ++ bytes ∷ []) ≡ after_record_of (replayed d records) bytes
 replayed-more d [] bytes = refl
 replayed-more d (r ∷ records) bytes = replayed-more (after_record_of d r) records bytes
 
-pub replayed-then : (d : Option DriveState) (records more : List (List ℕ)) → replayed d (records ++ more) ≡ replayed (replayed d records) more
+pub replayed-then : (d : Option DriveState) (records more : List (List ℕ)) →
+    replayed d (records ++ more) ≡ replayed (replayed d records) more
 replayed-then d [] more = refl
 replayed-then d (r ∷ records) more = replayed-then (after_record_of d r) records more
 
@@ -46,7 +48,8 @@ replayed-none (r ∷ records) = replayed-none records
 
 -- ---- the bytes of a command
 
-behind_test : (test : Bool) (why : CommandErr) (rest : Result Command CommandErr) (c : Command) → (if test then Err why else rest) ≡ Ok c → (test ≡ false) × (rest ≡ Ok c)
+behind_test : (test : Bool) (why : CommandErr) (rest : Result Command CommandErr) (c : Command) →
+    (if test then Err why else rest) ≡ Ok c → (test ≡ false) × (rest ≡ Ok c)
 behind_test true why rest c e = absurd (cc e)
 behind_test false why rest c e = (refl, e)
 
@@ -54,23 +57,28 @@ sized_is : (test : Bool) (why : CommandErr) (d c : Command) → (if test then Ok
 sized_is true why d c e = cc e
 sized_is false why d c e = absurd (cc e)
 
-by_capability : (bytes : List ℕ) (action : Action) (capability : Result Capability CapErr) (c : Command) → with_capability bytes action capability ≡ Ok c → c.payload ≡ drop BLOCK bytes
+by_capability : (bytes : List ℕ) (action : Action) (capability : Result Capability CapErr) (c : Command) →
+    with_capability bytes action capability ≡ Ok c → c.payload ≡ drop BLOCK bytes
 unfolding command_at
 by_capability bytes action (Ok capability) c e =
     let d = command_at action capability bytes in
-    sym (ap (λ (x : Command). x.payload) (sized_is (is_sized bytes d.action d.length (length d.payload)) (Length (length d.payload)) d c e))
+    sym (ap (λ (x : Command). x.payload)
+        (sized_is (is_sized bytes d.action d.length (length d.payload)) (Length (length d.payload)) d c e))
 by_capability bytes action (Err why) c e = absurd (cc e)
 
-by_stray : (bytes : List ℕ) (action : Action) (at : Option ℕ) (c : Command) → unless_reserved bytes action at ≡ Ok c → c.payload ≡ drop BLOCK bytes
+by_stray : (bytes : List ℕ) (action : Action) (at : Option ℕ) (c : Command) → unless_reserved bytes action at ≡ Ok c →
+    c.payload ≡ drop BLOCK bytes
 by_stray bytes action None c e = by_capability bytes action (Cap.reading (slice_range bytes 64 160)) c e
 by_stray bytes action (Some at) c e = absurd (cc e)
 
-by_action : (bytes : List ℕ) (action : Option Action) (c : Command) → with_action bytes action ≡ Ok c → c.payload ≡ drop BLOCK bytes
+by_action : (bytes : List ℕ) (action : Option Action) (c : Command) → with_action bytes action ≡ Ok c →
+    c.payload ≡ drop BLOCK bytes
 by_action bytes (Some action) c e = by_stray bytes action (stray bytes) c e
 by_action bytes None c e = absurd (cc e)
 
 -- a block, and the payload
-block_and_payload : (bytes : List ℕ) (c : Command) → reading bytes ≡ Ok c → (nat_lt (length bytes) BLOCK ≡ false) × (c.payload ≡ drop BLOCK bytes)
+block_and_payload : (bytes : List ℕ) (c : Command) → reading bytes ≡ Ok c →
+    (nat_lt (length bytes) BLOCK ≡ false) × (c.payload ≡ drop BLOCK bytes)
 unfolding reading
 block_and_payload bytes c e =
     let action = action_of (from_be_bytes w16 (slice_range bytes 4 6)) in
@@ -94,7 +102,8 @@ no_raise bytes c e = short bytes (grind (arith, (block_and_payload bytes c e).0)
     short (b ∷ []) long = absurd (omega (arith, long))
     short (b ∷ x ∷ rest) long = refl
 
-payload_fits : (a : Action) (attribute len payload : ℕ) → is_change_of a attribute ≡ true → (has_value a && nat_lt MAX_VALUE payload) ≡ false → nat_lt MAX_LENGTH len ≡ false
+payload_fits : (a : Action) (attribute len payload : ℕ) → is_change_of a attribute ≡ true →
+    (has_value a && nat_lt MAX_VALUE payload) ≡ false → nat_lt MAX_LENGTH len ≡ false
     → IsTrue (allows a len payload) → payload ≤ MAX_LENGTH
 payload_fits Create attribute len payload change value size allowed = grind (arith, value)
 payload_fits Read attribute len payload change value size allowed = absurd (cc change)
@@ -106,7 +115,8 @@ payload_fits SetTag attribute len payload change value size allowed = grind (ari
 -- ---- a change
 
 -- it fits into a record
-pub change_fits : (d : DriveState) (now : ℕ) (message : List ℕ) (c : Command) → IsChange d now message c → IsTrue (allows c.action c.length (length c.payload))
+pub change_fits : (d : DriveState) (now : ℕ) (message : List ℕ) (c : Command) → IsChange d now message c →
+    IsTrue (allows c.action c.length (length c.payload))
     → (BLOCK ≤ length message) × (length message ≤ BLOCK + MAX_LENGTH)
 change_fits d now message c is allowed =
     let clear = clear_late (view_of d.store c) c (ready d now c is.verdict).late in
@@ -115,13 +125,15 @@ change_fits d now message c is allowed =
     (omega (arith, long), omega (arith, long, few))
 
 -- the record of its bytes leads to the drive after it
-pub kept : (d : DriveState) (now : ℕ) (message : List ℕ) (c : Command) → IsChange d now message c → after_record d message ≡ Some (drive_after d now message)
+pub kept : (d : DriveState) (now : ℕ) (message : List ℕ) (c : Command) → IsChange d now message c →
+    after_record d message ≡ Some (drive_after d now message)
 unfolding after_record
 kept d now message c is =
     let late : late_fault d c ≡ Perform = (ready d now c is.verdict).late in
     rw (no_raise message c is.spelled, is.spelled, is.change, late, is.verdict) refl
 
-pub change_after : (d : DriveState) (now : ℕ) (message : List ℕ) (c : Command) → IsChange d now message c → drive_after d now message ≡ performed d c
+pub change_after : (d : DriveState) (now : ℕ) (message : List ℕ) (c : Command) → IsChange d now message c →
+    drive_after d now message ≡ performed d c
 change_after d now message c is = rw (is.spelled, is.verdict) refl
 
 -- ---- another command
@@ -130,7 +142,8 @@ stays_by : (v : Verdict) (d : DriveState) (c : Command) → (v ≡ Perform → p
 stays_by Perform d c same = same refl
 stays_by v d c same = refl
 
-same_effect : (a : Action) (attribute : ℕ) (s : StoreState) (c : Command) → is_change_of a attribute ≡ false → (a ≡ SetAttr → FIRST_USER_ATTRIBUTE ≤ attribute) → effect_of a s c ≡ s
+same_effect : (a : Action) (attribute : ℕ) (s : StoreState) (c : Command) → is_change_of a attribute ≡ false →
+    (a ≡ SetAttr → FIRST_USER_ATTRIBUTE ≤ attribute) → effect_of a s c ≡ s
 same_effect Create attribute s c no_change user = absurd (cc no_change)
 same_effect Read attribute s c no_change user = refl
 same_effect Write attribute s c no_change user = absurd (cc no_change)
@@ -139,10 +152,12 @@ same_effect SetAttr attribute s c no_change user = let least = user refl in absu
 same_effect SetTag attribute s c no_change user = absurd (cc no_change)
 
 -- it leaves the drive
-pub no_change : (d : DriveState) (now : ℕ) (message : List ℕ) (c : Command) → reading message ≡ Ok c → is_change c ≡ false → drive_after d now message ≡ d
+pub no_change : (d : DriveState) (now : ℕ) (message : List ℕ) (c : Command) → reading message ≡ Ok c → is_change c ≡ false →
+    drive_after d now message ≡ d
 no_change d now message c spelled other =
     rw spelled (stays_by (first_fault d now c) d c
-    (λ e. ap (λ (s : StoreState). record d { store = s }) (same_effect c.action c.attribute d.store c other (ready d now c e).attribute)))
+    (λ e. ap (λ (s : StoreState). record d { store = s })
+        (same_effect c.action c.attribute d.store c other (ready d now c e).attribute)))
 
 -- ---- what a record leaves
 
@@ -150,7 +165,8 @@ of_verdict : (v : Verdict) (f e : DriveState) → where_performed v f ≡ Some e
 of_verdict Perform f e is = cc is
 of_verdict v f e is = absurd (cc is)
 
-of_change : (change : Bool) (d e : DriveState) (c : Command) → (if change then where_performed (late_fault d c) (performed d c) else None) ≡ Some e → performed d c ≡ e
+of_change : (change : Bool) (d e : DriveState) (c : Command) →
+    (if change then where_performed (late_fault d c) (performed d c) else None) ≡ Some e → performed d c ≡ e
 of_change true d e c is = of_verdict (late_fault d c) (performed d c) e is
 of_change false d e c is = absurd (cc is)
 
@@ -158,17 +174,20 @@ of_reading : (r : Result Command CommandErr) (d e : DriveState) → after_readin
 of_reading (Ok c) d e is = (c, of_change (is_change c) d e c is)
 of_reading (Err why) d e is = absurd (cc is)
 
-of_raise : (raise : Bool) (r : Result Command CommandErr) (d e : DriveState) → (if raise then Some (raised d SECOND_FORMAT) else after_reading d r) ≡ Some e
+of_raise : (raise : Bool) (r : Result Command CommandErr) (d e : DriveState) →
+    (if raise then Some (raised d SECOND_FORMAT) else after_reading d r) ≡ Some e
     → (raised d SECOND_FORMAT ≡ e) ⊎ ((c : Command) × (performed d c ≡ e))
 of_raise true r d e is = inl (cc is)
 of_raise false r d e is = inr (of_reading r d e is)
 
 -- a record raises the least format, or is of a command that was performed
-of_record : (d e : DriveState) (bytes : List ℕ) → after_record d bytes ≡ Some e → (raised d SECOND_FORMAT ≡ e) ⊎ ((c : Command) × (performed d c ≡ e))
+of_record : (d e : DriveState) (bytes : List ℕ) → after_record d bytes ≡ Some e →
+    (raised d SECOND_FORMAT ≡ e) ⊎ ((c : Command) × (performed d c ≡ e))
 unfolding after_record
 of_record d e bytes is = of_raise (is_raise bytes) (reading bytes) d e is
 
-kept_capacity : (s : StoreState) (object : ℕ) (change : StoredObject → StoredObject) (there : Option StoredObject) → (changed_if_there s object change there).capacity ≡ s.capacity
+kept_capacity : (s : StoreState) (object : ℕ) (change : StoredObject → StoredObject) (there : Option StoredObject) →
+    (changed_if_there s object change there).capacity ≡ s.capacity
 kept_capacity s object change None = refl
 kept_capacity s object change (Some o) = refl
 
@@ -178,7 +197,8 @@ same_capacity Read s c = refl
 same_capacity Write s c = kept_capacity s c.object (after_write c.offset c.payload (lane_for c 0)) (object_at s c.object)
 same_capacity GetAttr s c = refl
 same_capacity SetAttr s c = kept_capacity s c.object (after_set_attr c.attribute c.payload (lane_for c 0)) (object_at s c.object)
-same_capacity SetTag s c = kept_capacity s c.object (after_set_tag (lane_for c (next_tag (object_at s c.object)))) (object_at s c.object)
+same_capacity SetTag s c =
+    kept_capacity s c.object (after_set_tag (lane_for c (next_tag (object_at s c.object)))) (object_at s c.object)
 
 pub made_so : (d : DriveState) (c : Command) → emptied (performed d c) ≡ emptied d
 made_so d c = ap (λ (n : ℕ). new_drive d.number d.keys n) (same_capacity c.action d.store c)
@@ -200,15 +220,18 @@ no_lower d e bytes is = by (of_record d e bytes is)
     by (inr p) = omega (arith, ap (λ (x : DriveState). x.least) p.1)
 
 -- so it is the first one or a later one, whatever the records are
-pub has_format : (records : List (List ℕ)) (d e : DriveState) → FIRST_FORMAT ≤ d.least → replayed (Some d) records ≡ Some e → FIRST_FORMAT ≤ e.least
+pub has_format : (records : List (List ℕ)) (d e : DriveState) → FIRST_FORMAT ≤ d.least → replayed (Some d) records ≡ Some e →
+    FIRST_FORMAT ≤ e.least
 has_format [] d e first is = omega (arith, first, ap (λ (x : DriveState). x.least) (same d e is))
   where
     same : (d e : DriveState) → Some d ≡ Some e → d ≡ e
     same d e is = cc is
-has_format (r ∷ records) d e first is = by (after_record d r) refl is (λ (f : DriveState) low more. has_format records f e low more)
+has_format (r ∷ records) d e first is =
+    by (after_record d r) refl is (λ (f : DriveState) low more. has_format records f e low more)
   where
     by : (o : Option DriveState) → after_record d r ≡ o → replayed o records ≡ Some e
-        → ((f : DriveState) → FIRST_FORMAT ≤ f.least → replayed (Some f) records ≡ Some e → FIRST_FORMAT ≤ e.least) → FIRST_FORMAT ≤ e.least
+        → ((f : DriveState) → FIRST_FORMAT ≤ f.least → replayed (Some f) records ≡ Some e → FIRST_FORMAT ≤ e.least) →
+            FIRST_FORMAT ≤ e.least
     by (Some f) one more rest = rest f (omega (arith, first, no_lower d f r one)) more
     by None one more rest = absurd (cc (sym (replayed-none records) ∙ more))
 
@@ -225,9 +248,11 @@ not_raised d format low = ap (λ (n : ℕ). record d { least = n }) (most d.leas
     most a b le = omega (arith, le)
 
 -- a change is a step
-pub change_step : (d e : DriveState) (now : ℕ) (message entry : List ℕ) (c : Command) → IsChange d now message c → e ≡ performed d c → entry ≡ message → IsStep d entry e
+pub change_step : (d e : DriveState) (now : ℕ) (message entry : List ℕ) (c : Command) → IsChange d now message c →
+    e ≡ performed d c → entry ≡ message → IsStep d entry e
 change_step d e now message entry c is made same = record {
-  leads = ap (λ (bytes : List ℕ). after_record d bytes) same ∙ kept d now message c is ∙ ap (λ (x : DriveState). Some x) (change_after d now message c is ∙ sym made);
+  leads = ap (λ (bytes : List ℕ). after_record d bytes) same ∙ kept d now message c is
+      ∙ ap (λ (x : DriveState). Some x) (change_after d now message c is ∙ sym made);
   same = ap (λ (x : DriveState). emptied x) made ∙ made_so d c;
 }
 
@@ -242,6 +267,7 @@ pub raised_two : (d : DriveState) (format : ℕ) → format ≡ SECOND_FORMAT �
 raised_two d format two = ap (λ (n : ℕ). raised d n) two
 
 -- which no other format than the second one is, and not where it is the least already
-pub raises_nothing : (d : DriveState) (format : ℕ) → FIRST_FORMAT ≤ d.least → (format ≡ 1) ⊎ (format ≡ SECOND_FORMAT) → (format ≡ SECOND_FORMAT → SECOND_FORMAT ≤ d.least) → raised d format ≡ d
+pub raises_nothing : (d : DriveState) (format : ℕ) → FIRST_FORMAT ≤ d.least → (format ≡ 1) ⊎ (format ≡ SECOND_FORMAT) →
+    (format ≡ SECOND_FORMAT → SECOND_FORMAT ≤ d.least) → raised d format ≡ d
 raises_nothing d format first (inl one) low = not_raised d format (omega (arith, one, first))
 raises_nothing d format first (inr two) low = not_raised d format (omega (arith, two, low two))

@@ -3,12 +3,11 @@ use Rattle.std.proofs.Common.{◌≡◌, ◌⊎◌, ◌<◌, ◌≤◌, ◌^◌,
 use Rattle.osd_disk.specs.Crashes.{LeavesOnly}
 use Rattle.gate_log.specs.declared.log.GateLog.{GateLog}
 use Rattle.gate_log.specs.Logs.{IsLog}
-use Rattle.gate_log.specs.Standing.{IsAtRest, disk_of}
+use Rattle.gate_log.specs.Standing.{IsAtRest}
 use Rattle.osd_drive.specs.declared.limits.TheConstants.{FIRST_FORMAT}
 use Rattle.osd_drive.specs.State.{DriveState}
 use Rattle.drive_store.specs.Records.{after_record_of, replayed}
-use Rattle.drive_store.specs.Stores.{IsStep, IsStoreOf, KeepsDrive, LeadTo, StandForEither, emptied, header_for}
-use Rattle.drive_store.specs.Resting.{kept_leaves}
+use Rattle.drive_store.specs.Stores.{IsStep, KeepsDrive, LeadTo, StandForEither, emptied, header_for}
 use Rattle.drive_store.proofs.RecordLaws.{has_format, replayed-more}
 
 -- drives that were made alike have the same header
@@ -16,7 +15,8 @@ pub one_header : (d e : DriveState) → emptied e ≡ emptied d → header_for e
 one_header d e same = ap (λ (x : DriveState). header_for x) same
 
 -- one record more
-pub lead_more : (records : List (List ℕ)) (d e : DriveState) (bytes : List ℕ) → LeadTo records d → IsStep d bytes e → LeadTo (records ++ bytes ∷ []) e
+pub lead_more : (records : List (List ℕ)) (d e : DriveState) (bytes : List ℕ) → LeadTo records d → IsStep d bytes e →
+    LeadTo (records ++ bytes ∷ []) e
 lead_more records d e bytes l s = record {
   number_fits = subst (λ (x : DriveState). x.number < 2 ^ 32) (sym s.same) l.number_fits;
   capacity_fits = subst (λ (x : DriveState). x.store.capacity < 2 ^ 64) (sym s.same) l.capacity_fits;
@@ -35,9 +35,11 @@ with_or_without records d e bytes l s c (inr log) = inr (record {
   lead = lead_more records d e bytes l s;
 })
 
-module _ {D : Type 0} (tells : D → Bool) (seen : D → List ℕ) (may_leave : D → List ℕ → Type 0) (moment : D → ℕ) (left_since : D → ℕ → List ℕ → Type 0) where
+module _ {D : Type 0} (tells : D → Bool) (seen : D → List ℕ) (may_leave : D → List ℕ → Type 0) (moment : D → ℕ)
+    (left_since : D → ℕ → List ℕ → Type 0) where
   -- what has P has Q
-  pub weaker : (old new : D) (P Q : List ℕ → Type 0) → LeavesOnly moment left_since old new P → ((c : List ℕ) → P c → Q c) → LeavesOnly moment left_since old new Q
+  pub weaker : (old new : D) (P Q : List ℕ → Type 0) → LeavesOnly moment left_since old new P → ((c : List ℕ) → P c → Q c) →
+      LeavesOnly moment left_since old new Q
   weaker old new P Q leaves so = record {
     later = leaves.later;
     each = λ c left. so c (leaves.each c left);
@@ -45,11 +47,14 @@ module _ {D : Type 0} (tells : D → Bool) (seen : D → List ℕ) (may_leave : 
   }
 
   -- for a drive that is the same
-  pub either_so : (old new : D) (d e f : DriveState) → f ≡ e → LeavesOnly moment left_since old new (StandForEither d e) → LeavesOnly moment left_since old new (StandForEither d f)
-  either_so old new d e f same leaves = subst (λ (x : DriveState). LeavesOnly moment left_since old new (StandForEither d x)) (sym same) leaves
+  pub either_so : (old new : D) (d e f : DriveState) → f ≡ e → LeavesOnly moment left_since old new (StandForEither d e) →
+      LeavesOnly moment left_since old new (StandForEither d f)
+  either_so old new d e f same leaves =
+      subst (λ (x : DriveState). LeavesOnly moment left_since old new (StandForEither d x)) (sym same) leaves
 
   -- a disk at rest, whose last record leads to this drive
-  pub kept_more : (records : List (List ℕ)) (d e : DriveState) (bytes : List ℕ) (log : GateLog D) → LeadTo records d → IsStep d bytes e
+  pub kept_more : (records : List (List ℕ)) (d e : DriveState) (bytes : List ℕ) (log : GateLog D) → LeadTo records d →
+      IsStep d bytes e
       → IsAtRest tells seen may_leave (header_for d) (records ++ bytes ∷ []) log → KeepsDrive tells seen may_leave e log
   kept_more records d e bytes log l s rest = record {
     records = records ++ bytes ∷ [];
@@ -57,17 +62,9 @@ module _ {D : Type 0} (tells : D → Bool) (seen : D → List ℕ) (may_leave : 
     lead = lead_more records d e bytes l s;
   }
 
-  -- where no call is made
-  pub still : ((disk : D) (c : List ℕ) → left_since disk (moment disk) c → may_leave disk c) → (d : DriveState) (log : GateLog D)
-      → KeepsDrive tells seen may_leave d log → LeavesOnly moment left_since (disk_of log) (disk_of log) (IsStoreOf d)
-  still only_now d log k = record {
-    later = omega arith;
-    each = λ c left. kept_leaves tells seen may_leave d log k c (only_now (disk_of log) c left);
-    before = λ t c le left. inl left;
-  }
-
   -- where the drive stays
-  pub kept_so : (d e : DriveState) (log : GateLog D) → e ≡ d → KeepsDrive tells seen may_leave d log → KeepsDrive tells seen may_leave e log
+  pub kept_so : (d e : DriveState) (log : GateLog D) → e ≡ d → KeepsDrive tells seen may_leave d log →
+      KeepsDrive tells seen may_leave e log
   kept_so d e log same k = subst (λ (x : DriveState). KeepsDrive tells seen may_leave x log) (sym same) k
 
   -- a drive that is kept takes the first format or a later one

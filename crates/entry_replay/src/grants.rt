@@ -47,7 +47,8 @@ fn can_hold(state: &State, kept: &Kept, grant: &Grant) -> bool
 // The grant may be issued.
 fn can_grant(state: &State, grant: &Grant) -> bool
     requires { IsReady state.now }
-    ensures { result ≡ can_at (can_grant (server_of state.now) grant.now) (file_at (files_in state.now.files.entries) grant.now.file) }
+    ensures { result ≡ can_at (can_grant (server_of state.now) grant.now)
+        (file_at (files_in state.now.files.entries) grant.now.file) }
 {
     match state.files.get(&grant.file) {
         Some(file) => can_hold(state, &file.kept, grant),

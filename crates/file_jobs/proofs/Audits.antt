@@ -8,7 +8,8 @@ use Rattle.server_rules.specs.declared.files.Kept.{Kept}
 use Rattle.server_rules.specs.declared.jobs.Awaited.{Awaited}
 use Rattle.server_rules.specs.Commands.{Ask, Which, is_meant, to_all, to_each}
 
-few_each : (f : Kept) (which : Which) (ask : Ask) (cs : List Component) (k nonce : ℕ) → length (to_each f which ask cs k nonce) ≤ length cs
+few_each : (f : Kept) (which : Which) (ask : Ask) (cs : List Component) (k nonce : ℕ) →
+    length (to_each f which ask cs k nonce) ≤ length cs
 unfolding to_each
 few_each f which ask [] k nonce = omega arith
 few_each f which ask (at ∷ cs) k nonce = elim (cases_Bool (not at.missing && is_meant f which k)) [
@@ -17,5 +18,6 @@ few_each f which ask (at ∷ cs) k nonce = elim (cases_Bool (not at.missing && i
 ]
 
 -- no more than the file has components
-pub few_asked : (f : Kept) (which : Which) (ask : Ask) (nonce : ℕ) (cs : List Awaited) → cs ≡ to_all f which ask nonce → length f.components ≤ MAX_FILE_COMPONENTS → length cs + 0 ≤ MAX_FILE_COMPONENTS
+pub few_asked : (f : Kept) (which : Which) (ask : Ask) (nonce : ℕ) (cs : List Awaited) → cs ≡ to_all f which ask nonce →
+    length f.components ≤ MAX_FILE_COMPONENTS → length cs + 0 ≤ MAX_FILE_COMPONENTS
 few_asked f which ask nonce cs e few = rw e (omega (arith, few_each f which ask f.components 0 nonce, few))

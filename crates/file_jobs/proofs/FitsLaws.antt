@@ -24,7 +24,8 @@ pub some_is : (t u : Target) → Some u ≡ Some t → t ≡ u
 some_is t u e = cc e
 
 -- the target of a rebuild is one of the components
-pub target_fits : (k : Kept) (sent : ℕ) (work : Work) (t : Target) → target_in work ≡ Some t → Fits k sent work → t.component < length k.components
+pub target_fits : (k : Kept) (sent : ℕ) (work : Work) (t : Target) → target_in work ≡ Some t → Fits k sent work →
+    t.component < length k.components
 target_fits k sent Creates t e f = absurd (cc e)
 target_fits k sent Fences t e f = absurd (cc e)
 target_fits k sent (Fetches todo short) t e f = absurd (cc e)
@@ -36,7 +37,8 @@ target_fits k sent Lengths t e f = absurd (cc e)
 target_fits k sent (Checks todo x) t e f = absurd (cc e)
 
 -- no rebuild: it doesn't look at the components
-pub fits_others : (k l : Kept) (m n : ℕ) (work : Work) → target_in work ≡ None → l.tag ≡ k.tag → n ≤ m → Fits k m work → Fits l n work
+pub fits_others : (k l : Kept) (m n : ℕ) (work : Work) → target_in work ≡ None → l.tag ≡ k.tag → n ≤ m → Fits k m work →
+    Fits l n work
 fits_others k l m n Creates e t s f = tt
 fits_others k l m n Fences e t s f = omega (arith, t, f)
 fits_others k l m n (Fetches todo short) e t s f = tt
@@ -48,13 +50,15 @@ fits_others k l m n Lengths e t s f = omega (arith, s, f)
 fits_others k l m n (Checks todo x) e t s f = tt
 
 -- what a part looks at is the same
-pub fits_same : (k l : Kept) (m n : ℕ) (work : Work) → l.tag ≡ k.tag → l.map ≡ k.map → l.components ≡ k.components → n ≤ m → Fits k m work → Fits l n work
+pub fits_same : (k l : Kept) (m n : ℕ) (work : Work) → l.tag ≡ k.tag → l.map ≡ k.map → l.components ≡ k.components → n ≤ m →
+    Fits k m work → Fits l n work
 fits_same k l m n Creates t e c s f = tt
 fits_same k l m n Fences t e c s f = omega (arith, t, f)
 fits_same k l m n (Fetches todo short) t e c s f = tt
 fits_same k l m n (Stores todo short b) t e c s f = tt
 fits_same k l m n (Targets u) t e c s f = rw c f
-fits_same k l m n (Gathers u todo) t e c s f = (record { component = rw c f.0.component; pieces = rw e f.0.pieces }, rw (e, c) f.1)
+fits_same k l m n (Gathers u todo) t e c s f =
+    (record { component = rw c f.0.component; pieces = rw e f.0.pieces }, rw (e, c) f.1)
 fits_same k l m n (Fills u todo) t e c s f = record { component = rw c f.component; pieces = rw e f.pieces }
 fits_same k l m n Lengths t e c s f = omega (arith, s, f)
 fits_same k l m n (Checks todo x) t e c s f = tt
@@ -62,7 +66,8 @@ fits_same k l m n (Checks todo x) t e c s f = tt
 -- ---- a component became missing
 
 -- as many components as before, of which more are missing
-pub fits_lost : (k l : Kept) (sent : ℕ) (work : Work) → l.tag ≡ k.tag → l.map ≡ k.map → length l.components ≡ length k.components → Fits k sent work → FitsAfterLoss l sent work
+pub fits_lost : (k l : Kept) (sent : ℕ) (work : Work) → l.tag ≡ k.tag → l.map ≡ k.map →
+    length l.components ≡ length k.components → Fits k sent work → FitsAfterLoss l sent work
 fits_lost k l sent Creates t e c f = tt
 fits_lost k l sent Fences t e c f = omega (arith, t, f)
 fits_lost k l sent (Fetches todo short) t e c f = tt
@@ -86,7 +91,8 @@ fits_again k sent Lengths e f = f
 fits_again k sent (Checks todo x) e f = tt
 
 -- the target of a rebuild is still one of the components
-pub target_after : (k : Kept) (sent : ℕ) (work : Work) (t : Target) → target_in work ≡ Some t → FitsAfterLoss k sent work → t.component < length k.components
+pub target_after : (k : Kept) (sent : ℕ) (work : Work) (t : Target) → target_in work ≡ Some t → FitsAfterLoss k sent work →
+    t.component < length k.components
 target_after k sent Creates t e f = absurd (cc e)
 target_after k sent Fences t e f = absurd (cc e)
 target_after k sent (Fetches todo short) t e f = absurd (cc e)
@@ -98,15 +104,18 @@ target_after k sent Lengths t e f = absurd (cc e)
 target_after k sent (Checks todo x) t e f = absurd (cc e)
 
 -- its pieces may begin again
-pub can_fill_after : (k : Kept) (sent : ℕ) (work : Work) (r : RebuildState) → work ≡ fill_work_of r → FitsAfterLoss k sent work → CanFill k r.target r.todo
+pub can_fill_after : (k : Kept) (sent : ℕ) (work : Work) (r : RebuildState) → work ≡ fill_work_of r → FitsAfterLoss k sent work →
+    CanFill k r.target r.todo
 can_fill_after k sent work r e f = by_stage r.stage r (rw e at f)
   where
-    by_stage : (stage : FillStage) (s : RebuildState) → FitsAfterLoss k sent (fill_work_at stage s.target s.todo) → CanFill k s.target s.todo
+    by_stage : (stage : FillStage) (s : RebuildState) → FitsAfterLoss k sent (fill_work_at stage s.target s.todo) →
+        CanFill k s.target s.todo
     by_stage Gathering s f = f
     by_stage Filling s f = f
 
 -- before its pieces it waits on as before
-pub waits_after : (k : Kept) (sent : ℕ) (work : RunningWork) → ((r : RebuildState) → work ≡ InPieces r → ⊥) → FitsAfterLoss k sent (work_of work) → Fits k sent (work_of work)
+pub waits_after : (k : Kept) (sent : ℕ) (work : RunningWork) → ((r : RebuildState) → work ≡ InPieces r → ⊥) →
+    FitsAfterLoss k sent (work_of work) → Fits k sent (work_of work)
 waits_after k sent IsMade n f = tt
 waits_after k sent IsFenced n f = f
 waits_after k sent (InRepair r) n f = fits_repair k sent r
@@ -133,7 +142,8 @@ few_left p (c ∷ cs) = elim (cases_Bool (p c)) [
 ]
 
 -- that at a place isn't
-pub one_less : (p : Awaited → Bool) (cs : List Awaited) (place : ℕ) (a : Awaited) → slice_get cs place ≡ Some a → p a ≡ false → length (filter p cs) + 1 ≤ length cs
+pub one_less : (p : Awaited → Bool) (cs : List Awaited) (place : ℕ) (a : Awaited) → slice_get cs place ≡ Some a → p a ≡ false →
+    length (filter p cs) + 1 ≤ length cs
 one_less p [] place a e f = absurd (cc e)
 one_less p (c ∷ cs) zero a e f =
     let same : c ≡ a = cc e in
@@ -148,7 +158,8 @@ pub not_other : (n : ℕ) → not (n == n) ≡ false
 not_other n = grind (arith, nat_tests)
 
 -- one more reply was heard, and one command less is awaited
-pub heard_one : (p : Awaited → Bool) (cs : List Awaited) (place : ℕ) (a : Awaited) (heard : List Heard) (h : Heard) → slice_get cs place ≡ Some a → p a ≡ false →
+pub heard_one : (p : Awaited → Bool) (cs : List Awaited) (place : ℕ) (a : Awaited) (heard : List Heard) (h : Heard) →
+    slice_get cs place ≡ Some a → p a ≡ false →
     length (filter p cs) + length (heard ++ h ∷ []) ≤ length cs + length heard
 heard_one p cs place a heard h e f = omega (arith, one_less p cs place a e f, one_more heard)
   where

@@ -19,7 +19,8 @@ use Rattle.file_jobs.specs.Steps.{Around, going, turned}
 use Rattle.file_jobs.specs.Works.{sends}
 
 -- by what it is to the command at that place
-pub heard_is : (g : Going) (j : Job) (k : Kept) (r : Reply) (cs : List Awaited) (place : ℕ) (a x : Awaited) (kind : Hearing) → slice_get cs place ≡ Some x → slice_get cs place ≡ Some a → kind ≡ hearing k x r →
+pub heard_is : (g : Going) (j : Job) (k : Kept) (r : Reply) (cs : List Awaited) (place : ℕ) (a x : Awaited) (kind : Hearing) →
+    slice_get cs place ≡ Some x → slice_get cs place ≡ Some a → kind ≡ hearing k x r →
     hears g j a r kind ≡ hears g j a r (hearing k a r)
 heard_is g j k r cs place a x kind u v e =
     let same : x ≡ a = cc (u, v) in
@@ -31,11 +32,14 @@ waits_on_still k m s j e = ap (λ (x : Option Job). going k m (record s { job = 
 
 -- ---- the job that awaits it
 
-by_job : (g : Going) (drive : ℕ) (r : Reply) (o : Option Job) (j : Job) (a : Awaited) → o ≡ Some j → find (answers drive r) j.awaited ≡ Some a → heard_in g drive r o ≡ Some (hears g j a r (hearing g.file.kept a r))
+by_job : (g : Going) (drive : ℕ) (r : Reply) (o : Option Job) (j : Job) (a : Awaited) → o ≡ Some j →
+    find (answers drive r) j.awaited ≡ Some a → heard_in g drive r o ≡ Some (hears g j a r (hearing g.file.kept a r))
 by_job g drive r o j a e f = rw e (rw f refl)
 
-pub is_heard : (g : Going) (drive : ℕ) (r : Reply) (o : Option Job) (j : Job) (place : ℕ) (x : Going) → o ≡ Some j → FoundIn drive r place o →
-    ((a : Awaited) → slice_get j.awaited place ≡ Some a → x ≡ hears g j a r (hearing g.file.kept a r)) → heard_in g drive r o ≡ Some x
+pub is_heard : (g : Going) (drive : ℕ) (r : Reply) (o : Option Job) (j : Job) (place : ℕ) (x : Going) → o ≡ Some j →
+    FoundIn drive r place o →
+    ((a : Awaited) → slice_get j.awaited place ≡ Some a → x ≡ hears g j a r (hearing g.file.kept a r)) →
+        heard_in g drive r o ≡ Some x
 is_heard g drive r None j place x e f h = absurd f
 is_heard g drive r (Some i) j place x e f h =
     let same : i ≡ j = cc e in
@@ -44,16 +48,22 @@ is_heard g drive r (Some i) j place x e f h =
     ∙ ap Some (sym (h at.0 (ap (λ (y : Job). slice_get y.awaited place) (sym same) ∙ at.1)))
 
 -- the reply is heard, and its command isn't awaited any more
-pub heard_job : (j i : Job) (a x y : Awaited) (r : Reply) (rest : List Awaited) (heard : List Heard) → i ≡ record { kind = j.kind; work = j.work; awaited = rest; heard = heard } → x ≡ a → y ≡ a → rest ≡ others j.awaited y.command.nonce →
-    heard ≡ j.heard ++ (record { component = x.component; payload = r.payload } ∷ []) → i ≡ record j { awaited = others j.awaited a.command.nonce; heard = heard_with j a r }
+pub heard_job : (j i : Job) (a x y : Awaited) (r : Reply) (rest : List Awaited) (heard : List Heard) →
+    i ≡ record { kind = j.kind; work = j.work; awaited = rest; heard = heard } → x ≡ a → y ≡ a →
+    rest ≡ others j.awaited y.command.nonce →
+    heard ≡ j.heard ++ (record { component = x.component; payload = r.payload } ∷ []) →
+        i ≡ record j { awaited = others j.awaited a.command.nonce; heard = heard_with j a r }
 heard_job j i a x y r rest heard e ex ey er eh = e ∙ rw (er, eh, ex, ey) refl
 
 -- the command is answered, and the job goes on without it
-pub answered_job : (g : Going) (j i : Job) (a : Awaited) (r : Reply) → i ≡ record j { awaited = others j.awaited a.command.nonce; heard = heard_with j a r } →
+pub answered_job : (g : Going) (j i : Job) (a : Awaited) (r : Reply) →
+    i ≡ record j { awaited = others j.awaited a.command.nonce; heard = heard_with j a r } →
     waits_or_on g i i.work i.awaited i.heard ≡ hears g j a r Done
 answered_job g j i a r e = rw e refl
 
 -- the command goes again, and the job waits for it
-pub renewed_job : (k : Kept) (m is : Effects) (s : Around) (j : Job) (a : Awaited) (cs : List Awaited) → is ≡ sends m (again_in_2 a m.nonce ∷ []) → cs ≡ map (renewed a (again_in_2 a m.nonce)) j.awaited →
-    turned (Rests (record { kind = j.kind; work = j.work; awaited = cs; heard = j.heard })) (record k { format = FORMAT_SHA256 }) is s ≡ renews (going k m s) j a
+pub renewed_job : (k : Kept) (m is : Effects) (s : Around) (j : Job) (a : Awaited) (cs : List Awaited) →
+    is ≡ sends m (again_in_2 a m.nonce ∷ []) → cs ≡ map (renewed a (again_in_2 a m.nonce)) j.awaited →
+    turned (Rests (record { kind = j.kind; work = j.work; awaited = cs; heard = j.heard }))
+        (record k { format = FORMAT_SHA256 }) is s ≡ renews (going k m s) j a
 renewed_job k m is s j a cs e f = rw (e, f) refl

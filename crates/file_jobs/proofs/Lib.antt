@@ -1,4 +1,3 @@
-pub mod Turns
 pub mod Missing
 pub mod Rising
 pub mod Finding

@@ -17,7 +17,8 @@ use Rattle.file_jobs.specs.Sound.{Fits, HasSoundJob, IsAlone, IsSoundJob, RestsA
 use Rattle.file_jobs.specs.Steps.{Around, Makes}
 
 -- where it sends nothing it is over
-pub mends : (kind : JobKind) (g h : Going) (cs : List Awaited) (s : RepairState) (short : List ℕ) → cs ≡ [] → short ≡ s.short → h ≡ mended g short → after_repair kind h ≡ rests_repairing cs g kind s
+pub mends : (kind : JobKind) (g h : Going) (cs : List Awaited) (s : RepairState) (short : List ℕ) → cs ≡ [] → short ≡ s.short →
+    h ≡ mended g short → after_repair kind h ≡ rests_repairing cs g kind s
 unfolding repairs
 mends kind g h [] s short e f x = ap (after_repair kind) (x ∙ ap (mended g) f)
 mends kind g h (c ∷ cs) s short e f x = absurd (cc e)
@@ -31,28 +32,32 @@ fits_repair k sent s = at_stage k s s.stage
     at_stage k s (Storing broken) = tt
 
 -- the job that rests is as it should be
-pub sound_from : (turn : Turn) (was is : Effects) (k : Kept) (job : Job) → IsSoundJob k job → RestsAs job turn → RestsSound turn was k is
+pub sound_from : (turn : Turn) (was is : Effects) (k : Kept) (job : Job) → IsSoundJob k job → RestsAs job turn →
+    RestsSound turn was k is
 sound_from Over was is k job s h = tt
 sound_from (Rests j) was is k job s h = subst (IsSoundJob k) (sym h) s
 sound_from (Mended x) was is k job s h = absurd h
 sound_from (Places from) was is k job s h = absurd h
 
 -- where a note came first
-pub sound_after : (turn : Turn) (was mid is : Effects) (k : Kept) → Stays was mid → RestsSound turn mid k is → RestsSound turn was k is
+pub sound_after : (turn : Turn) (was mid is : Effects) (k : Kept) → Stays was mid → RestsSound turn mid k is →
+    RestsSound turn was k is
 sound_after Over was mid is k s h = tt
 sound_after (Rests j) was mid is k s h = h
 sound_after (Mended x) was mid is k s h = (h.0 ∙ s.0, h.1 ∙ s.1)
 sound_after (Places from) was mid is k s h = (h.0 ∙ s.0, h.1 ∙ s.1)
 
 -- where more is to be sent, the numbers are as low as before
-pub sound_low : (turn : Turn) (was is : Effects) (k : Kept) → was.nonce < 2 ^ 63 → was.object < 2 ^ 63 → RestsSound turn was k is → RestsLow turn k is
+pub sound_low : (turn : Turn) (was is : Effects) (k : Kept) → was.nonce < 2 ^ 63 → was.object < 2 ^ 63 →
+    RestsSound turn was k is → RestsLow turn k is
 sound_low Over was is k n o h = tt
 sound_low (Rests j) was is k n o h = h
 sound_low (Mended x) was is k n o h = (omega (arith, n, h.0), omega (arith, o, h.1))
 sound_low (Places from) was is k n o h = (omega (arith, n, h.0), omega (arith, o, h.1))
 
 -- nothing is sent where a repair is over
-pub mended_stays : (old new : Kept) (was is : Effects) (short : List ℕ) → Makes (λ g. mended g short) old was new is → Stays was is
+pub mended_stays : (old new : Kept) (was is : Effects) (short : List ℕ) → Makes (λ g. mended g short) old was new is →
+    Stays was is
 mended_stays old new was is short m =
     let a : Around = record { spent = false; job = None; drives = []; chosen = [] } in
     (ap (λ (g : Going). g.effects.nonce) (m a), ap (λ (g : Going). g.effects.object) (m a))

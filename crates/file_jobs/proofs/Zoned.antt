@@ -20,7 +20,8 @@ use Rattle.file_jobs.proofs.Placed.{tail_of}
 
 -- ---- where they are
 
-one_placed : (l : DriveLoad) (zone : Option ℕ) (rest : List ZoneLoad) → all_placed (and_zoned l zone rest) ≡ and_in_zone l.drive zone (all_placed rest)
+one_placed : (l : DriveLoad) (zone : Option ℕ) (rest : List ZoneLoad) →
+    all_placed (and_zoned l zone rest) ≡ and_in_zone l.drive zone (all_placed rest)
 one_placed l None rest = refl
 one_placed l (Some z) rest = refl
 
@@ -35,16 +36,19 @@ placed_alike (l ∷ ls) (d ∷ ds) e =
     one_placed l l.zone (zone_loads ls) ∙ rw (t.0, t.3, placed_alike ls ds t.2) refl
 
 one_online : (l : DriveLoad) (zone : Option ℕ) (rest : List ZoneLoad) →
-    online_placed (and_zoned l zone rest) ≡ (if l.online then and_in_zone l.drive zone (online_placed rest) else online_placed rest)
+    online_placed
+        (and_zoned l zone rest) ≡ (if l.online then and_in_zone l.drive zone (online_placed rest) else online_placed rest)
 one_online l None rest = elim (cases_Bool l.online) [ inl t ↦ rw t refl | inr f ↦ rw f refl ]
 one_online l (Some z) rest = elim (cases_Bool l.online) [ inl t ↦ rw t refl | inr f ↦ rw f refl ]
 
-pub drive_online : (d : Drive) (ds : List Drive) → in_zones (online (d ∷ ds)) ≡ (if d.online then and_in_zone d.number d.zone (in_zones (online ds)) else in_zones (online ds))
+pub drive_online : (d : Drive) (ds : List Drive) →
+    in_zones (online (d ∷ ds)) ≡ (if d.online then and_in_zone d.number d.zone (in_zones (online ds)) else in_zones (online ds))
 unfolding in_zones
 drive_online d ds = elim (cases_Bool d.online) [ inl t ↦ rw t refl | inr f ↦ rw f refl ]
 
 -- and so are those that are online
-pub online_alike : (loads : List DriveLoad) (ds : List Drive) → AreLoadsOf loads ds → online_placed (zone_loads loads) ≡ in_zones (online ds)
+pub online_alike : (loads : List DriveLoad) (ds : List Drive) → AreLoadsOf loads ds →
+    online_placed (zone_loads loads) ≡ in_zones (online ds)
 unfolding in_zones
 online_alike [] [] e = refl
 online_alike [] (d ∷ ds) e = absurd (cc e)
@@ -85,7 +89,8 @@ and_assoc false b c = refl
 
 drive_taker : (cs : List Component) (has : Option ℕ → Bool) (d : Drive) (ds : List Drive) →
     map (λ e. e.number) (filter (λ e. has e.zone) (free_drives (d ∷ ds) cs))
-    ≡ and_numbers (d.online && (not (stood_on d.number cs) && has d.zone)) d.number (map (λ e. e.number) (filter (λ e. has e.zone) (free_drives ds cs)))
+    ≡ and_numbers (d.online && (not (stood_on d.number cs) && has d.zone)) d.number
+        (map (λ e. e.number) (filter (λ e. has e.zone) (free_drives ds cs)))
 unfolding and_numbers
 drive_taker cs has d ds = rw (← and_assoc d.online (not (stood_on d.number cs)) (has d.zone))
     (elim (cases_Bool (d.online && not (stood_on d.number cs))) [
@@ -93,9 +98,11 @@ drive_taker cs has d ds = rw (← and_assoc d.online (not (stood_on d.number cs)
       | inr f ↦ rw f refl
     ])
 
-takers_alike : (cs : List Component) (free room : ℕ → Bool) (has : Option ℕ → Bool) (loads : List DriveLoad) (ds : List Drive) → AreLoadsOf loads ds →
+takers_alike : (cs : List Component) (free room : ℕ → Bool) (has : Option ℕ → Bool) (loads : List DriveLoad) (ds : List Drive) →
+    AreLoadsOf loads ds →
     ((n : ℕ) → free n ≡ not (stood_on n cs)) → has None ≡ false → ((z : ℕ) → has (Some z) ≡ room z) →
-    map (λ l. l.drive) (filter (may_take free room) (zone_loads loads)) ≡ map (λ d. d.number) (filter (λ d. has d.zone) (free_drives ds cs))
+    map (λ l. l.drive) (filter (may_take free room) (zone_loads loads)) ≡ map (λ d. d.number)
+        (filter (λ d. has d.zone) (free_drives ds cs))
 takers_alike cs free room has [] [] e f none some = refl
 takers_alike cs free room has [] (d ∷ ds) e f none some = absurd (cc e)
 takers_alike cs free room has (l ∷ ls) [] e f none some = absurd (cc e)
@@ -127,7 +134,8 @@ unfolding first_of
 first_in [] = refl
 first_in (l ∷ ls) = earlier_in l ls (first_of ls) (first_in ls)
 
-found_among : (ds : List Drive) (n : ℕ) → list_any (λ m. m == n) (map (λ d. d.number) ds) ≡ true → is_some (find (λ d. d.number == n) ds) ≡ true
+found_among : (ds : List Drive) (n : ℕ) → list_any (λ m. m == n) (map (λ d. d.number) ds) ≡ true →
+    is_some (find (λ d. d.number == n) ds) ≡ true
 found_among [] n t = absurd (cc t)
 found_among (d ∷ ds) n t = elim (cases_Bool (d.number == n)) [
   | inl here ↦ rw here refl
@@ -138,7 +146,8 @@ none_mapped : (ds : List Drive) → [] ≡ map (λ d. d.number) ds → ds ≡ []
 none_mapped [] e = refl
 none_mapped (d ∷ ds) e = absurd (cc e)
 
-among_alike : (o : Option ZoneLoad) (ls : List ZoneLoad) (ds : List Drive) → IsIn o ls → map (λ l. l.drive) ls ≡ map (λ d. d.number) ds → IsAmong ds (option_map (λ l. l.drive) o)
+among_alike : (o : Option ZoneLoad) (ls : List ZoneLoad) (ds : List Drive) → IsIn o ls →
+    map (λ l. l.drive) ls ≡ map (λ d. d.number) ds → IsAmong ds (option_map (λ l. l.drive) o)
 among_alike None ls ds i e = none_mapped ds (ap (λ (xs : List ZoneLoad). map (λ l. l.drive) xs) (sym i) ∙ e)
 among_alike (Some l) ls ds i e = found_among ds l.drive (ap (λ (ns : List ℕ). list_any (λ n. n == l.drive) ns) (sym e) ∙ i)
 
@@ -153,12 +162,14 @@ stood_alike n (at ∷ cs) k = elim (cases_Bool (at.drive == n)) [
 ]
 
 pub picked_taker : (f : Kept) (k : ℕ) (loads : List DriveLoad) (ds : List Drive) → AreLoadsOf loads ds →
-    IsAmong (takers_by true ds f k) (option_map (λ l. l.drive) (pick_of (ask_of f.map) k (holders_from f.components 0) (zone_loads loads)))
+    IsAmong (takers_by true ds f k)
+        (option_map (λ l. l.drive) (pick_of (ask_of f.map) k (holders_from f.components 0) (zone_loads loads)))
 picked_taker f k loads ds e =
     let hs = holders_from f.components 0 in
     let free = λ (n : ℕ). is_free n hs in
     let room = λ (z : ℕ). zone_takes (ask_of f.map) (all_placed (zone_loads loads)) k z hs in
-    among_alike (pick_of (ask_of f.map) k hs (zone_loads loads)) (filter (may_take free room) (zone_loads loads)) (takers_by true ds f k)
+    among_alike (pick_of (ask_of f.map) k hs (zone_loads loads)) (filter (may_take free room) (zone_loads loads))
+        (takers_by true ds f k)
     (first_in (filter (may_take free room) (zone_loads loads)))
     (takers_alike f.components free room (zone_has_room ds f k) loads ds e (λ n. ap not (stood_alike n f.components 0)) refl
     (λ z. ap (λ (ps : List InZone). zone_takes (ask_of f.map) ps k z hs) (sym (placed_alike loads ds e))))

@@ -37,14 +37,16 @@ passed : (b : Bool) (x : ℕ) (rest : List ℕ) (n : ℕ) → Contains rest n �
 passed true x rest n h = behind x rest n h
 passed false x rest n h = h
 
-picked_or_passed : (b : Bool) (x : ℕ) (rest : List ℕ) (n : ℕ) → Contains (cond b (x ∷ rest) rest) n → ((b ≡ true) × (x ≡ n)) ⊎ Contains rest n
+picked_or_passed : (b : Bool) (x : ℕ) (rest : List ℕ) (n : ℕ) → Contains (cond b (x ∷ rest) rest) n →
+    ((b ≡ true) × (x ≡ n)) ⊎ Contains rest n
 picked_or_passed true x rest n h = elim (front_or_behind x rest n h) [ inl here ↦ inl (refl, here) | inr later ↦ inr later ]
 picked_or_passed false x rest n h = inr h
 
 pub kept : (p : ℕ → Bool) (xs : List ℕ) (n : ℕ) → p n ≡ true → Contains xs n → Contains (filter p xs) n
 kept p [] n is h = h
 kept p (x ∷ xs) n is h = elim (front_or_behind x xs n h) [
-  | inl here ↦ subst (λ m. Contains (filter p (x ∷ xs)) m) here (picked (p x) x (filter p xs) (subst (λ m. p m ≡ true) (sym here) is))
+  | inl here ↦ subst (λ m. Contains (filter p (x ∷ xs)) m) here
+      (picked (p x) x (filter p xs) (subst (λ m. p m ≡ true) (sym here) is))
   | inr later ↦ passed (p x) x (filter p xs) n (kept p xs n is later)
 ]
 
@@ -56,7 +58,8 @@ from_kept p (x ∷ xs) n h = elim (picked_or_passed (p x) x (filter p xs) n h) [
 ]
 
 -- sizes raised to an end: those at the end or above were there, the others are the end
-end_or_old : (sizes : List ℕ) (top n : ℕ) → Contains (sizes ++ map (max top) sizes) n → Contains sizes n ⊎ ((n ≡ top) × ((s : ℕ) × Contains sizes s × (s < top)))
+end_or_old : (sizes : List ℕ) (top n : ℕ) → Contains (sizes ++ map (max top) sizes) n →
+    Contains sizes n ⊎ ((n ≡ top) × ((s : ℕ) × Contains sizes s × (s < top)))
 end_or_old sizes top n h = elim (Contains-append_cases sizes (map (max top) sizes) n h) [
   | inl old ↦ inl old
   | inr new ↦
@@ -67,11 +70,14 @@ end_or_old sizes top n h = elim (Contains-append_cases sizes (map (max top) size
       ]
 ]
 
-pub raised_with : (sizes : List ℕ) (top n : ℕ) → ((s : ℕ) × Contains sizes s × (s < top)) → Contains (sizes ++ top ∷ []) n ↔ Contains (sizes ++ map (max top) sizes) n
+pub raised_with : (sizes : List ℕ) (top n : ℕ) → ((s : ℕ) × Contains sizes s × (s < top)) →
+    Contains (sizes ++ top ∷ []) n ↔ Contains (sizes ++ map (max top) sizes) n
 raised_with sizes top n (s, inside, below) = (
   λ h. elim (Contains-push_cases sizes top n h) [
     | inl old ↦ Contains-append_left sizes (map (max top) sizes) n old
-    | inr new ↦ let is : max top s ≡ n = omega (arith, below, new) in Contains-append_right sizes (map (max top) sizes) n (subst (λ m. Contains (map (max top) sizes) m) is (mapped (max top) sizes s inside))
+    | inr new ↦ let is : max top s ≡ n = omega (arith, below, new) in
+        Contains-append_right sizes (map (max top) sizes) n
+            (subst (λ m. Contains (map (max top) sizes) m) is (mapped (max top) sizes s inside))
   ],
   λ h. elim (end_or_old sizes top n h) [
     | inl old ↦ Contains-append_left sizes (top ∷ []) n old
@@ -79,13 +85,15 @@ raised_with sizes top n (s, inside, below) = (
   ],
 )
 
-pub raised_among : (sizes : List ℕ) (top n : ℕ) → Contains sizes top → Contains sizes n ↔ Contains (sizes ++ map (max top) sizes) n
+pub raised_among : (sizes : List ℕ) (top n : ℕ) → Contains sizes top →
+    Contains sizes n ↔ Contains (sizes ++ map (max top) sizes) n
 raised_among sizes top n there = (
   λ h. Contains-append_left sizes (map (max top) sizes) n h,
   λ h. elim (end_or_old sizes top n h) [ inl old ↦ old | inr new ↦ subst (λ m. Contains sizes m) (sym new.0) there ],
 )
 
-pub raised_none : (sizes : List ℕ) (top n : ℕ) → ((s : ℕ) × Contains sizes s × (s < top) → ⊥) → Contains sizes n ↔ Contains (sizes ++ map (max top) sizes) n
+pub raised_none : (sizes : List ℕ) (top n : ℕ) → ((s : ℕ) × Contains sizes s × (s < top) → ⊥) →
+    Contains sizes n ↔ Contains (sizes ++ map (max top) sizes) n
 raised_none sizes top n none = (
   λ h. Contains-append_left sizes (map (max top) sizes) n h,
   λ h. elim (end_or_old sizes top n h) [ inl old ↦ old | inr new ↦ absurd (none new.1) ],

@@ -6,7 +6,8 @@ use Rattle.file_log.specs.Judge.{byte_for, taken_byte}
 use Rattle.file_log.proofs.Settled.{byte_before, byte_inside, byte_behind}
 
 -- beside its own position, one byte more of a piece changes nothing
-byte_beside : (offset : ℕ) (piece : List ℕ) (i p : ℕ) → i < length piece → (p ≡ offset + i → ⊥) → byte_for offset (take (i + 1) piece) p ≡ byte_for offset (take i piece) p
+byte_beside : (offset : ℕ) (piece : List ℕ) (i p : ℕ) → i < length piece → (p ≡ offset + i → ⊥) →
+    byte_for offset (take (i + 1) piece) p ≡ byte_for offset (take i piece) p
 byte_beside offset piece i p inside apart =
     let less = length-take-le i piece (omega (arith, inside)) in
     let more = length-take-le (i + 1) piece (omega (arith, inside)) in
@@ -15,7 +16,8 @@ byte_beside offset piece i p inside apart =
       | inr from ↦ elim (cases_lt (p - offset) i) [
         | inl old ↦
             byte_inside offset (take (i + 1) piece) p from (omega (arith, old, more)) ∙
-            ap Some (get_or-take (i + 1) piece (p - offset) 0 (omega (arith, old)) ∙ sym (get_or-take i piece (p - offset) 0 old)) ∙
+            ap Some (get_or-take (i + 1) piece (p - offset) 0 (omega (arith, old)) ∙ sym (get_or-take i piece (p - offset) 0 old))
+                ∙
             sym (byte_inside offset (take i piece) p from (omega (arith, old, less)))
         | inr past ↦ elim (cases_eq p (offset + i)) [
           | inl here ↦ absurd (apart here)
@@ -43,7 +45,8 @@ byte_more offset piece i p settles old middle new inside before step =
           let more = length-take-le (i + 1) piece (omega (arith, inside)) in
           let none = byte_behind offset (take i piece) p from (omega (arith, less, here)) in
           let place : p - offset ≡ i = omega (arith, here) in
-          let some = byte_inside offset (take (i + 1) piece) p from (omega (arith, more, here)) ∙ ap Some (get_or-take (i + 1) piece (p - offset) 0 (omega (arith, place)) ∙ ap (λ k. get_or piece k 0) place) in
+          let some = byte_inside offset (take (i + 1) piece) p from (omega (arith, more, here))
+              ∙ ap Some (get_or-take (i + 1) piece (p - offset) 0 (omega (arith, place)) ∙ ap (λ k. get_or piece k 0) place) in
           let was : middle ≡ old = before ∙ ap (λ b. taken_byte settles b old) none ∙ none_taken settles old in
           step ∙ ap (λ b. cond b (taken_byte settles (Some (get_or piece i 0)) middle) middle) (eq-eqb p (offset + i) here) ∙
           ap (λ (x : List ℕ). taken_byte settles (Some (get_or piece i 0)) x) was ∙ ap (λ b. taken_byte settles b old) (sym some)

@@ -9,7 +9,8 @@ use Rattle.gate_log.specs.Standing.{StandsAt}
 use Rattle.gate_log.proofs.Fronts.{closed, front_grows, piece_behind}
 use Rattle.gate_log.proofs.Crash.{IsBody, stage_crash, gate_crash, written_behind, written_gate, next_place}
 
-module _ {D : Type 0} (tells : D → Bool) (seen : D → List ℕ) (may_leave : D → List ℕ → Type 0) (moment : D → ℕ) (left_since : D → ℕ → List ℕ → Type 0)
+module _ {D : Type 0} (tells : D → Bool) (seen : D → List ℕ) (may_leave : D → List ℕ → Type 0) (moment : D → ℕ)
+    (left_since : D → ℕ → List ℕ → Type 0)
     (only_now : (d : D) (c : List ℕ) → left_since d (moment d) c → may_leave d c)
     (header : List ℕ) (bodies : List (List ℕ)) (body : List ℕ) (is_body : IsBody body) (old : D) (end : ℕ)
     (s : StandsAt tells seen may_leave header bodies old end 0) where
@@ -41,7 +42,8 @@ module _ {D : Type 0} (tells : D → Bool) (seen : D → List ℕ) (may_leave : 
 
       module _ (piece : List ℕ) (is : piece ≡ piece_of body)
           (written : IsTrue (tells old) → end + 1 ≤ length (seen old) → Holds (seen old) (end + 1) piece (seen one))
-          (told1 : tells one ≡ tells old) (same : seen two ≡ seen one) (durable : IsTrue (tells one) → Only (seen one) (may_leave two)) where
+          (told1 : tells one ≡ tells old) (same : seen two ≡ seen one)
+          (durable : IsTrue (tells one) → Only (seen one) (may_leave two)) where
         abbrev pub tail : List ℕ
         tail = drop (length piece) s.rest
 
@@ -63,7 +65,8 @@ module _ {D : Type 0} (tells : D → Bool) (seen : D → List ℕ) (may_leave : 
         module _ (three : D) (crash3 : Follows (Torn end 1) (may_leave two) (may_leave three))
             (time3 : Elapses (moment two) (moment three) (left_since two) (left_since three) (may_leave three)) where
           second : (c : List ℕ) → may_leave three c → P c
-          second = gate_crash header bodies s.front s.is_front end s.place body tail (may_leave two) (may_leave three) is_body only_staged crash3
+          second = gate_crash header bodies s.front s.is_front end s.place body tail (may_leave two)
+              (may_leave three) is_body only_staged crash3
 
           pub gated : Left three
           gated = goes_on moment left_since old two three P (may_leave three) settled time3 second
@@ -73,7 +76,8 @@ module _ {D : Type 0} (tells : D → Bool) (seen : D → List ℕ) (may_leave : 
             pub done : Left four
             done = goes_on moment left_since old three four P (may_leave four) gated time4 (λ c now. second c (keeps4 c now))
 
-            pub at_rest : (next : ℕ) → next ≡ end + length piece → tells two ≡ tells one → tells three ≡ tells two → tells four ≡ tells three
+            pub at_rest : (next : ℕ) → next ≡ end + length piece → tells two ≡ tells one → tells three ≡ tells two →
+                tells four ≡ tells three
                 → (IsTrue (tells two) → end ≤ length (seen two) → Holds (seen two) end (1 ∷ []) (seen three))
                 → seen four ≡ seen three → (IsTrue (tells three) → Only (seen three) (may_leave four))
                 → StandsAt tells seen may_leave header (bodies ++ body ∷ []) four next 0
@@ -86,9 +90,11 @@ module _ {D : Type 0} (tells : D → Bool) (seen : D → List ℕ) (may_leave : 
                 record {
                   told = subst IsTrue (sym told4) three_tells;
                   front = s.front ++ 1 ∷ (to_be_bytes w32 (length body) ++ body);
-                  is_front = front_grows header bodies s.front s.is_front 1 body (record { open_gate = omega arith; some = is_body.some; fits = is_body.fits });
+                  is_front = front_grows header bodies s.front s.is_front 1 body
+                      (record { open_gate = omega arith; some = is_body.some; fits = is_body.fits });
                   rest = tail;
                   contents = same4 ∙ opened ∙ piece_behind header bodies s.front s.is_front 1 body tail;
-                  place = ends ∙ ap (λ (l : List ℕ). end + length l) is ∙ next_place header bodies s.front s.is_front end s.place body;
+                  place = ends ∙ ap (λ (l : List ℕ). end + length l) is
+                      ∙ next_place header bodies s.front s.is_front end s.place body;
                   durable = subst (λ f. Only f (may_leave four)) (sym same4) (durable4 three_tells);
                 }

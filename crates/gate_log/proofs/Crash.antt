@@ -13,7 +13,8 @@ pub record IsBody (body : List ℕ) : Type 0 where
   pub some : 0 < length body
   pub fits : length body ≤ MAX_BODY
 
-module _ (header : List ℕ) (bodies : List (List ℕ)) (front : List ℕ) (f : IsFront header bodies front) (end : ℕ) (place : end ≡ length front) where
+module _ (header : List ℕ) (bodies : List (List ℕ)) (front : List ℕ) (f : IsFront header bodies front) (end : ℕ)
+    (place : end ≡ length front) where
   -- ---- the first write
 
   split : (rest : List ℕ) → front ++ 0 ∷ rest ≡ (front ++ 0 ∷ []) ++ rest
@@ -27,65 +28,87 @@ module _ (header : List ℕ) (bodies : List (List ℕ)) (front : List ℕ) (f : 
   torn_behind n rest c torn =
       let low : end + 1 ≡ min (end + 1) (length (front ++ 0 ∷ rest)) = omega (arith, place, length-append front (0 ∷ rest)) in
       let same : take (end + 1) c ≡ front ++ 0 ∷ [] =
-      ap (λ (k : ℕ). take k c) low ∙ torn.before ∙ ap (λ (l : List ℕ). take (end + 1) l) (split rest) ∙ take_at (front ++ 0 ∷ []) rest (end + 1) long in
+      ap (λ (k : ℕ). take k c) low ∙ torn.before ∙ ap (λ (l : List ℕ). take (end + 1) l) (split rest)
+      ∙ take_at (front ++ 0 ∷ []) rest (end + 1) long in
       closed header bodies front f c (drop (end + 1) c)
-      (sym (take-append-drop (end + 1) c) ∙ ap (λ (l : List ℕ). l ++ drop (end + 1) c) same ∙ append_assoc front (0 ∷ []) (drop (end + 1) c))
+      (sym (take-append-drop (end + 1) c) ∙ ap (λ (l : List ℕ). l ++ drop (end + 1) c) same
+      ∙ append_assoc front (0 ∷ []) (drop (end + 1) c))
 
-  pub written_behind : (piece rest c : List ℕ) → Holds (front ++ 0 ∷ rest) (end + 1) piece c → c ≡ front ++ 0 ∷ (piece ++ drop (length piece) rest)
+  pub written_behind : (piece rest c : List ℕ) → Holds (front ++ 0 ∷ rest) (end + 1) piece c →
+      c ≡ front ++ 0 ∷ (piece ++ drop (length piece) rest)
   written_behind piece rest c holds =
       holds
       ∙ ap (λ (l : List ℕ). take (end + 1) l ++ piece ++ drop (end + 1 + length piece) l) (split rest)
-      ∙ ap (λ (l : List ℕ). l ++ piece ++ drop (end + 1 + length piece) ((front ++ 0 ∷ []) ++ rest)) (take_at (front ++ 0 ∷ []) rest (end + 1) long)
+      ∙ ap (λ (l : List ℕ). l ++ piece ++ drop (end + 1 + length piece) ((front ++ 0 ∷ []) ++ rest))
+      (take_at (front ++ 0 ∷ []) rest (end + 1) long)
       ∙ ap (λ (l : List ℕ). (front ++ 0 ∷ []) ++ piece ++ l) (behind piece rest)
       ∙ append_assoc (front ++ 0 ∷ []) piece (drop (length piece) rest)
       ∙ append_assoc front (0 ∷ []) (piece ++ drop (length piece) rest)
     where
       behind : (p r : List ℕ) → drop (end + 1 + length p) ((front ++ 0 ∷ []) ++ r) ≡ drop (length p) r
       behind p r =
-          sym (drop-drop (length p) (end + 1) ((front ++ 0 ∷ []) ++ r)) ∙ ap (λ (l : List ℕ). drop (length p) l) (drop_at (front ++ 0 ∷ []) r (end + 1) long)
+          sym (drop-drop (length p) (end + 1) ((front ++ 0 ∷ []) ++ r))
+          ∙ ap (λ (l : List ℕ). drop (length p) l) (drop_at (front ++ 0 ∷ []) r (end + 1) long)
 
   -- ---- the second
 
   -- the record stands whole in each outcome
-  pub torn_gate : (body rest c : List ℕ) → IsBody body → Torn end 1 (front ++ 0 ∷ (piece_of body ++ rest)) c → IsLog header bodies c ⊎ IsLog header (bodies ++ body ∷ []) c
+  pub torn_gate : (body rest c : List ℕ) → IsBody body → Torn end 1 (front ++ 0 ∷ (piece_of body ++ rest)) c →
+      IsLog header bodies c ⊎ IsLog header (bodies ++ body ∷ []) c
   torn_gate body rest c is_body torn =
       let gate = get_or c end 0 in
       let old = front ++ 0 ∷ (piece_of body ++ rest) in
       let tail : drop (end + 1) old ≡ piece_of body ++ rest =
-      ap (λ (l : List ℕ). drop (end + 1) l) (split (piece_of body ++ rest)) ∙ drop_at (front ++ 0 ∷ []) (piece_of body ++ rest) (end + 1) long in
+      ap (λ (l : List ℕ). drop (end + 1) l) (split (piece_of body ++ rest))
+      ∙ drop_at (front ++ 0 ∷ []) (piece_of body ++ rest) (end + 1) long in
       let low : end < length c = omega (arith, place, torn.no_shorter, length-append front (0 ∷ (piece_of body ++ rest))) in
-      let back : drop end c ≡ gate ∷ (piece_of body ++ rest) = drop_more c end 0 low ∙ ap (λ (l : List ℕ). gate ∷ l) (torn.behind ∙ tail) in
+      let back : drop end c ≡ gate ∷ (piece_of body ++ rest) =
+      drop_more c end 0 low ∙ ap (λ (l : List ℕ). gate ∷ l) (torn.behind ∙ tail) in
       let inside : end ≡ min end (length old) = omega (arith, place, length-append front (0 ∷ (piece_of body ++ rest))) in
-      let start : take end c ≡ front = ap (λ (k : ℕ). take k c) inside ∙ torn.before ∙ take_at front (0 ∷ (piece_of body ++ rest)) end (sym place) in
+      let start : take end c ≡ front =
+      ap (λ (k : ℕ). take k c) inside ∙ torn.before ∙ take_at front (0 ∷ (piece_of body ++ rest)) end (sym place) in
       let is : c ≡ front ++ gate ∷ (piece_of body ++ rest) =
       sym (take-append-drop end c) ∙ ap (λ (l : List ℕ). l ++ drop end c) start ∙ ap (λ (l : List ℕ). front ++ l) back in
       by_gate gate is
     where
       by_gate : (g : ℕ) → c ≡ front ++ g ∷ (piece_of body ++ rest) → IsLog header bodies c ⊎ IsLog header (bodies ++ body ∷ []) c
       by_gate zero is = inl (closed header bodies front f c (piece_of body ++ rest) is)
-      by_gate (suc g) is = inr (opened header bodies front f (suc g) body c rest (record { open_gate = omega arith; some = is_body.some; fits = is_body.fits }) is)
+      by_gate (suc g) is =
+          inr (opened header bodies front f (suc g) body c rest
+          (record { open_gate = omega arith; some = is_body.some; fits = is_body.fits }) is)
 
-  pub stage_crash : (n : ℕ) (rest : List ℕ) (old new : List ℕ → Type 0) → Only (front ++ 0 ∷ rest) old → Follows (Torn (end + 1) n) old new → (c : List ℕ) → new c → IsLog header bodies c
+  pub stage_crash : (n : ℕ) (rest : List ℕ) (old new : List ℕ → Type 0) → Only (front ++ 0 ∷ rest) old →
+      Follows (Torn (end + 1) n) old new → (c : List ℕ) → new c → IsLog header bodies c
   stage_crash n rest old new only follows c left =
       let from = follows c left in
       torn_behind n rest c (subst (λ f. Torn (end + 1) n f c) (only from.0 from.1) from.2)
 
-  pub gate_crash : (body rest : List ℕ) (old new : List ℕ → Type 0) → IsBody body → Only (front ++ 0 ∷ (piece_of body ++ rest)) old → Follows (Torn end 1) old new
+  pub gate_crash : (body rest : List ℕ) (old new : List ℕ → Type 0) → IsBody body →
+      Only (front ++ 0 ∷ (piece_of body ++ rest)) old → Follows (Torn end 1) old new
       → (c : List ℕ) → new c → IsLog header bodies c ⊎ IsLog header (bodies ++ body ∷ []) c
   gate_crash body rest old new is_body only follows c left =
       let from = follows c left in
       torn_gate body rest c is_body (subst (λ f. Torn end 1 f c) (only from.0 from.1) from.2)
 
-  pub written_gate : (body rest c : List ℕ) → Holds (front ++ 0 ∷ (piece_of body ++ rest)) end (1 ∷ []) c → c ≡ front ++ 1 ∷ (piece_of body ++ rest)
+  pub written_gate : (body rest c : List ℕ) → Holds (front ++ 0 ∷ (piece_of body ++ rest)) end (1 ∷ []) c →
+      c ≡ front ++ 1 ∷ (piece_of body ++ rest)
   written_gate body rest c holds =
       let tail = piece_of body ++ rest in
       holds
       ∙ ap (λ (l : List ℕ). l ++ (1 ∷ []) ++ drop (end + 1) (front ++ 0 ∷ tail)) (take_at front (0 ∷ tail) end (sym place))
       ∙ append_assoc front (1 ∷ []) (drop (end + 1) (front ++ 0 ∷ tail))
-      ∙ ap (λ (l : List ℕ). front ++ 1 ∷ l) (ap (λ (l : List ℕ). drop (end + 1) l) (split tail) ∙ drop_at (front ++ 0 ∷ []) tail (end + 1) long)
+      ∙ ap (λ (l : List ℕ). front ++ 1 ∷ l)
+      (ap (λ (l : List ℕ). drop (end + 1) l) (split tail) ∙ drop_at (front ++ 0 ∷ []) tail (end + 1) long)
 
   -- where the next closed gate stands
   pub next_place : (body : List ℕ) → end + length (piece_of body) ≡ length (front ++ 1 ∷ (to_be_bytes w32 (length body) ++ body))
   next_place body =
       let number = to_be_bytes w32 (length body) in
-      omega (arith, place, length-append front (1 ∷ (number ++ body)), length-append number body, length-append number (body ++ 0 ∷ []), length-append body (0 ∷ []))
+      omega (
+        arith,
+        place,
+        length-append front (1 ∷ (number ++ body)),
+        length-append number body,
+        length-append number (body ++ 0 ∷ []),
+        length-append body (0 ∷ []),
+      )

@@ -16,14 +16,17 @@ use Rattle.gate_log.proofs.Records.{behind_gate}
 
 -- a header alone
 pub header_is_front : (header : List ℕ) → length header ≡ HEADER_SIZE → IsFront header [] header
-header_is_front header whole = record { whole = whole; records = []; are_records = tt; bodies_are = refl; front_is = sym (append-nil header) }
+header_is_front header whole =
+    record { whole = whole; records = []; are_records = tt; bodies_are = refl; front_is = sym (append-nil header) }
 
-module _ {D : Type 0} (tells : D → Bool) (seen : D → List ℕ) (may_leave : D → List ℕ → Type 0) (moment : D → ℕ) (left_since : D → ℕ → List ℕ → Type 0) where
+module _ {D : Type 0} (tells : D → Bool) (seen : D → List ℕ) (may_leave : D → List ℕ → Type 0) (moment : D → ℕ)
+    (left_since : D → ℕ → List ℕ → Type 0) where
   abbrev pub Stands : List ℕ → List (List ℕ) → D → ℕ → ℕ → Type 0
   Stands header bodies disk at gate = StandsAt tells seen may_leave header bodies disk at gate
 
   -- a log of which the header was read
-  pub begins : (header rest : List ℕ) (disk : D) (gate at : ℕ) → IsTrue (tells disk) → length header ≡ HEADER_SIZE → at ≡ HEADER_SIZE
+  pub begins : (header rest : List ℕ) (disk : D) (gate at : ℕ) → IsTrue (tells disk) → length header ≡ HEADER_SIZE →
+      at ≡ HEADER_SIZE
       → seen disk ≡ header ++ gate ∷ rest → Only (seen disk) (may_leave disk) → Stands header [] disk at gate
   begins header rest disk gate at told whole place is durable = record {
     told = told;
@@ -40,44 +43,38 @@ module _ {D : Type 0} (tells : D → Bool) (seen : D → List ℕ) (may_leave : 
     still : Only (seen new) (may_leave new)
     still c left = s.durable c (read.narrows c left) ∙ sym read.seen_same
 
-    -- where only was read it stands as before
-    pub stands_still : Stands header bodies new at gate
-    stands_still = record {
-      told = subst IsTrue (sym read.tells_same) s.told;
-      front = s.front;
-      is_front = s.is_front;
-      rest = s.rest;
-      contents = read.seen_same ∙ s.contents;
-      place = s.place;
-      durable = still;
-    }
-
     -- a record was read, and the gate behind it
     pub steps_on : (body rest : List ℕ) (next place : ℕ) → IsRecord (gate, body)
         → drop (at + 1) (seen old) ≡ to_be_bytes w32 (length body) ++ (body ++ next ∷ rest) → place ≡ at + (5 + length body)
         → Stands header (bodies ++ body ∷ []) new place next
     steps_on body rest next place is behind further =
         let number = to_be_bytes w32 (length body) in
-        let rest_is : s.rest ≡ number ++ (body ++ next ∷ rest) = sym (behind_gate s.front s.rest (seen old) gate at s.contents s.place) ∙ behind in
+        let rest_is : s.rest ≡ number ++ (body ++ next ∷ rest) =
+        sym (behind_gate s.front s.rest (seen old) gate at s.contents s.place) ∙ behind in
         let four : length number ≡ 4 = refl in
         record {
           told = subst IsTrue (sym read.tells_same) s.told;
           front = s.front ++ gate ∷ (number ++ body);
           is_front = front_grows header bodies s.front s.is_front gate body is;
           rest = rest;
-          contents = read.seen_same ∙ s.contents ∙ ap (λ (l : List ℕ). s.front ++ gate ∷ l) rest_is ∙ regroup header bodies s.front s.is_front gate next body rest;
-          place = omega (arith, further, s.place, four, length-append s.front (gate ∷ (number ++ body)), length-append number body);
+          contents = read.seen_same ∙ s.contents ∙ ap (λ (l : List ℕ). s.front ++ gate ∷ l) rest_is
+              ∙ regroup header bodies s.front s.is_front gate next body rest;
+          place = omega
+              (arith, further, s.place, four, length-append s.front (gate ∷ (number ++ body)), length-append number body);
           durable = still;
         }
 
   -- a log that was read to its end
-  pub stands_moved : (header : List ℕ) (bodies : List (List ℕ)) (d e : D) (at place gate : ℕ) → e ≡ d → place ≡ at → gate ≡ 0 → Stands header bodies d at gate → Stands header bodies e place 0
+  pub stands_moved : (header : List ℕ) (bodies : List (List ℕ)) (d e : D) (at place gate : ℕ) → e ≡ d → place ≡ at → gate ≡ 0 →
+      Stands header bodies d at gate → Stands header bodies e place 0
   stands_moved header bodies d e at place gate a b none s =
-      subst (λ (x : D). Stands header bodies x place 0) (sym a) (subst (λ (k : ℕ). Stands header bodies d k 0) (sym b) (subst (λ (g : ℕ). Stands header bodies d at g) none s))
+      subst (λ (x : D). Stands header bodies x place 0) (sym a)
+      (subst (λ (k : ℕ). Stands header bodies d k 0) (sym b) (subst (λ (g : ℕ). Stands header bodies d at g) none s))
 
 module _ {D : Type 0} (tells : D → Bool) (seen : D → List ℕ) (may_leave : D → List ℕ → Type 0) where
   -- behind an open gate stands no record
-  breaks_here : (header : List ℕ) (bodies : List (List ℕ)) (disk : D) (at gate : ℕ) → StandsAt tells seen may_leave header bodies disk at gate
+  breaks_here : (header : List ℕ) (bodies : List (List ℕ)) (disk : D) (at gate : ℕ) →
+      StandsAt tells seen may_leave header bodies disk at gate
       → 0 < gate → IsNoRecord (drop (at + 1) (seen disk)) → HasNoRecord (seen disk) at
   breaks_here header bodies disk at gate s open_gate none = record {
     header = header;
@@ -97,10 +94,15 @@ module _ {D : Type 0} (tells : D → Bool) (seen : D → List ℕ) (may_leave : 
 
   -- what a reader that has read some bodies is refused for
   abbrev pub BreaksAt : LogReader D → ℕ → Type 0
-  BreaksAt reader at = (header : List ℕ) (bodies : List (List ℕ)) → HasRead tells seen may_leave header bodies reader → IsBrokenAt (seen reader.disk) at
+  BreaksAt reader at =
+      (header : List ℕ) (bodies : List (List ℕ)) → HasRead tells seen may_leave header bodies reader →
+      IsBrokenAt (seen reader.disk) at
 
   pub refused_there : (reader : LogReader D) (e : LogErr) → 0 < reader.gate
-      → NotALogSays (λ place. (place ≡ reader.at) × (IsTrue (tells reader.disk) → reader.size ≡ length (seen reader.disk) → IsNoRecord (drop (reader.at + 1) (seen reader.disk)))) e
+      → NotALogSays
+      (λ place. (place ≡ reader.at) ×
+      (IsTrue (tells reader.disk) → reader.size ≡ length (seen reader.disk) →
+      IsNoRecord (drop (reader.at + 1) (seen reader.disk)))) e
       → NotALogSays (λ at. BreaksAt reader at) e
   refused_there reader (NotEmpty n) open_gate says = says
   refused_there reader (NotALog place) open_gate says =
@@ -120,16 +122,9 @@ module _ {D : Type 0} (tells : D → Bool) (seen : D → List ℕ) (may_leave : 
   refused_later first later bodies DiskFault same read says = says
   refused_later first later bodies Memory same read says = says
 
-  -- the same of the disk that it was opened on
-  pub refused_first : (told : Bool) (bytes header : List ℕ) (reader : LogReader D) (e : LogErr) → seen reader.disk ≡ bytes → (IsTrue told → Has header [] reader)
-      → NotALogSays (λ at. (header : List ℕ) → Has header [] reader → IsBrokenAt (seen reader.disk) at) e → NotALogSays (λ at. IsTrue told → IsBrokenAt bytes at) e
-  refused_first told bytes header reader (NotEmpty n) same begun says = says
-  refused_first told bytes header reader (NotALog place) same begun says = λ t. subst (λ (c : List ℕ). IsBrokenAt c place) same (says header (begun t))
-  refused_first told bytes header reader DiskFault same begun says = says
-  refused_first told bytes header reader Memory same begun says = says
-
 -- bytes that end before the first gate
-pub refused_short : (told : Bool) (bytes : List ℕ) (e : LogErr) → NotALogSays (λ at. (at ≡ HEADER_SIZE) × (IsTrue told → length bytes ≤ HEADER_SIZE)) e
+pub refused_short : (told : Bool) (bytes : List ℕ) (e : LogErr) →
+    NotALogSays (λ at. (at ≡ HEADER_SIZE) × (IsTrue told → length bytes ≤ HEADER_SIZE)) e
     → NotALogSays (λ at. IsTrue told → IsBrokenAt bytes at) e
 refused_short told bytes (NotEmpty n) says = says
 refused_short told bytes (NotALog at) says = λ t. inl (says.1 t, says.0)
@@ -138,7 +133,8 @@ refused_short told bytes Memory says = says
 
 -- the same of a disk that was only read meanwhile
 pub refused_same : (told now : Bool) (bytes seen : List ℕ) (e : LogErr) → now ≡ told → seen ≡ bytes
-    → NotALogSays (λ at. (at ≡ HEADER_SIZE) × (IsTrue now → length seen ≤ HEADER_SIZE)) e → NotALogSays (λ at. (at ≡ HEADER_SIZE) × (IsTrue told → length bytes ≤ HEADER_SIZE)) e
+    → NotALogSays (λ at. (at ≡ HEADER_SIZE) × (IsTrue now → length seen ≤ HEADER_SIZE)) e →
+    NotALogSays (λ at. (at ≡ HEADER_SIZE) × (IsTrue told → length bytes ≤ HEADER_SIZE)) e
 refused_same told now bytes seen e same is says =
     subst (λ (b : Bool). NotALogSays (λ at. (at ≡ HEADER_SIZE) × (IsTrue b → length bytes ≤ HEADER_SIZE)) e) same
     (subst (λ (l : List ℕ). NotALogSays (λ at. (at ≡ HEADER_SIZE) × (IsTrue now → length l ≤ HEADER_SIZE)) e) is says)

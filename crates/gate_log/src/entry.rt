@@ -26,7 +26,8 @@ impl Model for Entry {
 
     ghost view = { λ e. body_in e.piece };
 
-    ghost invariant = { λ e. (e.piece ≡ piece_of (body_in e.piece)) × ((0 < length (body_in e.piece)) × (length (body_in e.piece) ≤ MAX_BODY)) };
+    ghost invariant = { λ e. (e.piece ≡ piece_of (body_in e.piece)) ×
+        ((0 < length (body_in e.piece)) × (length (body_in e.piece) ≤ MAX_BODY)) };
 }
 
 impl Entry {

@@ -67,7 +67,8 @@ impl<D: Disk> GateLog<D> {
         ensures made { IfOk result (λ log. IsTrue (D.tells disk) → IsAtRest D.tells D.seen D.may_leave header.now [] log) }
         ensures empty { IfOk result (λ log. IsTrue (D.tells disk) → D.seen disk ≡ []) }
         ensures over { IfOk result (λ log. over_of log ≡ false) }
-        ensures refused { IfErr result (λ e. NotEmptySays (λ size. IsTrue (D.tells disk) → (size ≡ length (D.seen disk)) × (0 < size)) e.0) }
+        ensures refused { IfErr result
+            (λ e. NotEmptySays (λ size. IsTrue (D.tells disk) → (size ≡ length (D.seen disk)) × (0 < size)) e.0) }
         ensures cause { IfErr result (λ e. HasErrCause (D.faults disk) (D.faults e.1) e.0) }
         ensures no_fault { IfOk result (λ log. D.faults (disk_of log) ≡ D.faults disk) }
     {
@@ -91,9 +92,12 @@ impl<D: Disk> GateLog<D> {
     /// [`LogErr::DiskFault`] and [`LogErr::Memory`] of the disk, after which the log is over.
     pub fn append(&mut self, entry: &Entry) -> Result<(), LogErr>
         requires { over_of self.old ≡ false }
-        ensures any_moment { (header : List ℕ) (bodies : List (List ℕ)) → IsAtRest D.tells D.seen D.may_leave header bodies self.old
-            → LeavesOnly D.moment D.left_since (disk_of self.old) (disk_of self.new) (λ c. IsLog header bodies c ⊎ IsLog header (bodies ++ entry.now ∷ []) c) }
-        ensures added { OnOk result ((header : List ℕ) (bodies : List (List ℕ)) → IsAtRest D.tells D.seen D.may_leave header bodies self.old
+        ensures any_moment { (header : List ℕ) (bodies : List (List ℕ)) →
+            IsAtRest D.tells D.seen D.may_leave header bodies self.old
+            → LeavesOnly D.moment D.left_since (disk_of self.old) (disk_of self.new)
+            (λ c. IsLog header bodies c ⊎ IsLog header (bodies ++ entry.now ∷ []) c) }
+        ensures added { OnOk result
+            ((header : List ℕ) (bodies : List (List ℕ)) → IsAtRest D.tells D.seen D.may_leave header bodies self.old
             → IsAtRest D.tells D.seen D.may_leave header (bodies ++ entry.now ∷ []) self.new) }
         ensures error { IfErr result (λ e. IsOfDisk e) }
         ensures over { over_of self.new ≡ is_err result }

@@ -18,7 +18,8 @@ fn read_bodies<D: Disk>(alloc: Global, reader: &mut LogReader<D>) -> Result<Byte
     ensures read { IfOk result (λ bodies. (header : List ℕ) → HasRead D.tells D.seen D.may_leave header [] reader.old
         → HasRead D.tells D.seen D.may_leave header bodies reader.new) }
     ensures end { OnOk result (gate_of reader.new ≡ 0) }
-    ensures refused { IfErr result (λ e. NotALogSays (λ at. (header : List ℕ) → HasRead D.tells D.seen D.may_leave header [] reader.old
+    ensures refused { IfErr result
+        (λ e. NotALogSays (λ at. (header : List ℕ) → HasRead D.tells D.seen D.may_leave header [] reader.old
         → IsBrokenAt (D.seen (read_disk reader.old)) at) e) }
     ensures header { header_of reader.new ≡ header_of reader.old }
     ensures disk { OnlyRead D.tells D.seen D.may_leave D.moment D.left_since (read_disk reader.old) (read_disk reader.new) }
@@ -44,7 +45,8 @@ impl<D: Disk> GateLog<D> {
     /// [`LogErr::NotALog`] exactly where the disk's bytes are no log, [`LogErr::DiskFault`] and
     /// [`LogErr::Memory`] of the disk, and [`LogErr::Memory`]. The disk comes back.
     pub fn open(alloc: Global, disk: D) -> Result<(Self, Header, ByteLists), (LogErr, D)>
-        ensures opened { IfOk result (λ found. IsTrue (D.tells disk) → IsAtRest D.tells D.seen D.may_leave found.1.bytes found.2 found.0) }
+        ensures opened { IfOk result
+            (λ found. IsTrue (D.tells disk) → IsAtRest D.tells D.seen D.may_leave found.1.bytes found.2 found.0) }
         ensures over { IfOk result (λ found. over_of found.0 ≡ false) }
         ensures refused { IfErr result (λ e. NotALogSays (λ at. IsTrue (D.tells disk) → IsBrokenAt (D.seen disk) at) e.0) }
         ensures disk { IfOk result (λ found. OnlyRead D.tells D.seen D.may_leave D.moment D.left_since disk (disk_of found.0)) }

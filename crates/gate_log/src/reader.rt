@@ -60,7 +60,8 @@ impl<D: Disk> LogReader<D> {
     /// [`LogErr::NotALog`] with the place 24 exactly where the disk has no byte behind a header,
     /// [`LogErr::DiskFault`] and [`LogErr::Memory`] of the disk. The disk comes back.
     pub fn open(disk: D) -> Result<Self, (LogErr, D)>
-        ensures begun { IfOk result (λ reader. IsTrue (D.tells disk) → HasRead D.tells D.seen D.may_leave (header_of reader) [] reader) }
+        ensures begun { IfOk result
+            (λ reader. IsTrue (D.tells disk) → HasRead D.tells D.seen D.may_leave (header_of reader) [] reader) }
         ensures refused { IfErr result (λ e. NotALogSays (λ at. IsTrue (D.tells disk) → IsBrokenAt (D.seen disk) at) e.0) }
         ensures disk { IfOk result (λ reader. OnlyRead D.tells D.seen D.may_leave D.moment D.left_since disk (read_disk reader)) }
         ensures disk_back { IfErr result (λ e. OnlyRead D.tells D.seen D.may_leave D.moment D.left_since disk e.1) }
@@ -88,12 +89,15 @@ impl<D: Disk> LogReader<D> {
     /// behind it, [`LogErr::DiskFault`] of the disk, and [`LogErr::Memory`]. The reader stays where it
     /// is.
     pub fn next(&mut self, alloc: Global) -> Result<Option<Bytes>, LogErr>
-        ensures body { IfOk result (λ found. IfSome found (λ body. (header : List ℕ) (bodies : List (List ℕ)) → HasRead D.tells D.seen D.may_leave header bodies self.old
+        ensures body { IfOk result
+            (λ found. IfSome found
+            (λ body. (header : List ℕ) (bodies : List (List ℕ)) → HasRead D.tells D.seen D.may_leave header bodies self.old
             → HasRead D.tells D.seen D.may_leave header (bodies ++ body ∷ []) self.new)) }
         ensures size { IfOk result (λ found. IfSome found (λ body. (0 < length body) × (length body ≤ MAX_BODY))) }
         ensures further { IfOk result (λ found. IfSome found (λ body. place_of self.old < place_of self.new)) }
         ensures end { IfOk result (λ found. found ≡ None → (gate_of self.new ≡ 0) × ((header : List ℕ) (bodies : List (List ℕ))
-            → HasRead D.tells D.seen D.may_leave header bodies self.old → HasRead D.tells D.seen D.may_leave header bodies self.new)) }
+            → HasRead D.tells D.seen D.may_leave header bodies self.old →
+            HasRead D.tells D.seen D.may_leave header bodies self.new)) }
         ensures refused { IfErr result (λ e. NotALogSays (λ at. (header : List ℕ) (bodies : List (List ℕ))
             → HasRead D.tells D.seen D.may_leave header bodies self.old → IsBrokenAt (D.seen (read_disk self.old)) at) e) }
         ensures stays { OnErr result ((place_of self.new ≡ place_of self.old) × (gate_of self.new ≡ gate_of self.old)) }

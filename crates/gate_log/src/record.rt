@@ -32,7 +32,8 @@ pub struct Record {
 
 /// Writes a header and a closed gate on a disk that has no bytes.
 pub fn write_first<D: Disk>(disk: &mut D, header: &[u8; HEADER_SIZE]) -> Result<(), LogErr>
-    ensures refused { IfErr result (λ e. NotEmptySays (λ size. IsTrue (D.tells disk.old) → (size ≡ length (D.seen disk.old)) × (0 < size)) e) }
+    ensures refused { IfErr result
+        (λ e. NotEmptySays (λ size. IsTrue (D.tells disk.old) → (size ≡ length (D.seen disk.old)) × (0 < size)) e) }
     ensures tells { OnOk result (D.tells disk.new ≡ D.tells disk.old) }
     ensures whole { OnOk result (length header.now ≡ HEADER_SIZE) }
     ensures empty { OnOk result (IsTrue (D.tells disk.old) → D.seen disk.old ≡ []) }
@@ -146,7 +147,8 @@ fn read_number<D: Disk>(disk: &mut D, at: u64) -> Result<usize, LogErr>
     requires { at < 2 ^ 63 }
     ensures number { IfOk result (λ n. IsTrue (D.tells disk.old) → to_be_bytes w32 n ≡ take 4 (drop (at + 1) (D.seen disk.old))) }
     ensures range { IfOk result (λ n. n < 2 ^ 32) }
-    ensures refused { IfErr result (λ e. NotALogSays (λ place. (place ≡ at) × (IsTrue (D.tells disk.old) → length (D.seen disk.old) < at + 5)) e) }
+    ensures refused { IfErr result
+        (λ e. NotALogSays (λ place. (place ≡ at) × (IsTrue (D.tells disk.old) → length (D.seen disk.old) < at + 5)) e) }
     ensures disk { OnlyRead D.tells D.seen D.may_leave D.moment D.left_since disk.old disk.new }
     ensures cause { HasLogCause (D.faults disk.old) (D.faults disk.new) result }
 {
@@ -194,7 +196,9 @@ fn read_body<D: Disk>(alloc: Global, disk: &mut D, at: u64, len: usize) -> Resul
     ensures bytes { IfOk result (λ kept. IsTrue (D.tells disk.old)
         → take (len + 1) (drop (at + 5) (D.seen disk.old)) ≡ kept.body ++ kept.next_gate ∷ []) }
     ensures size { IfOk result (λ kept. length kept.body ≡ len) }
-    ensures refused { IfErr result (λ e. NotALogSays (λ place. (place ≡ at) × (IsTrue (D.tells disk.old) → length (D.seen disk.old) < at + 5 + (len + 1))) e) }
+    ensures refused { IfErr result
+        (λ e. NotALogSays
+        (λ place. (place ≡ at) × (IsTrue (D.tells disk.old) → length (D.seen disk.old) < at + 5 + (len + 1))) e) }
     ensures disk { OnlyRead D.tells D.seen D.may_leave D.moment D.left_since disk.old disk.new }
     ensures cause { HasLogCause (D.faults disk.old) (D.faults disk.new) result }
 {
@@ -217,7 +221,8 @@ pub fn read_record<D: Disk>(
 ) -> Result<Record, LogErr>
     requires { (at < size) × (size < 2 ^ 63) }
     ensures bytes { IfOk result (λ kept. IsTrue (D.tells disk.old)
-        → (rest : List ℕ) × (drop (at + 1) (D.seen disk.old) ≡ to_be_bytes w32 (length kept.body) ++ (kept.body ++ kept.next_gate ∷ rest))) }
+        → (rest : List ℕ) ×
+        (drop (at + 1) (D.seen disk.old) ≡ to_be_bytes w32 (length kept.body) ++ (kept.body ++ kept.next_gate ∷ rest))) }
     ensures size { IfOk result (λ kept. (0 < length kept.body) × (length kept.body ≤ MAX_BODY)) }
     ensures inside { IfOk result (λ kept. at + 5 + length kept.body < size) }
     ensures refused { IfErr result (λ e. NotALogSays (λ place. (place ≡ at)

@@ -63,12 +63,15 @@ exponent_lt a lt = ltb-true _ _ (at_each (λ a. nat_lt (get_or EXPONENTS a 0) 25
 pub exponent_at : (a : ℕ) → 0 < a → a < 256 → two_to (get_or EXPONENTS a 0) ≡ a
 exponent_at zero pos lt = absurd (omega arith)
 exponent_at (suc a) pos lt =
-    let there = eqb-true _ _ (at_each (λ a. nat_eq (get_or POWERS (get_or EXPONENTS (suc a) 0) 0) (suc a)) 255 a exponents (omega arith)) in
+    let there = eqb-true _ _
+        (at_each (λ a. nat_eq (get_or POWERS (get_or EXPONENTS (suc a) 0) 0) (suc a)) 255 a exponents (omega arith)) in
     rw (power_at _ (exponent_lt (suc a) lt)) at there
 
 -- the exponent of a power
 pub exponent_of_power : (n : ℕ) → n < 255 → get_or EXPONENTS (two_to n) 0 ≡ n
-exponent_of_power n lt = rw (power_at n lt) at (eqb-true _ _ (at_each (λ n. nat_eq (get_or EXPONENTS (get_or POWERS n 0) 0) n) 255 n exponents_back lt))
+exponent_of_power n lt =
+    rw (power_at n lt) at
+        (eqb-true _ _ (at_each (λ n. nat_eq (get_or EXPONENTS (get_or POWERS n 0) 0) n) 255 n exponents_back lt))
 
 positive : all_under (λ n. nat_lt 0 (get_or POWERS n 0)) 255 ≡ true
 positive = refl
@@ -83,4 +86,5 @@ double_steps = refl
 
 -- twice an element, by a sum that wraps
 pub wrapping_double : (x : ℕ) → x < 256 → bit_xor ((x + x) % 256) (cond (nat_le 128 x) 29 0) ≡ double x
-wrapping_double x lt = eqb-true _ _ (at_each (λ x. nat_eq (bit_xor ((x + x) % 256) (cond (nat_le 128 x) 29 0)) (double x)) 256 x double_steps lt)
+wrapping_double x lt =
+    eqb-true _ _ (at_each (λ x. nat_eq (bit_xor ((x + x) % 256) (cond (nat_le 128 x) 29 0)) (double x)) 256 x double_steps lt)

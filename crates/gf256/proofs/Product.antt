@@ -25,11 +25,14 @@ where_odd-xor b d a =
     let both : bit_xor b d % 2 ≡ bit_xor (b % 2) (d % 2) = xor_mod b d 1 in
     elim (odd_or_even b) [
       | inl p ↦ elim (odd_or_even d) [
-        | inl q ↦ where_odd_no (bit_xor b d) a (rw (p, q) at both) ∙ sym (rw (where_odd_yes b a p, where_odd_yes d a q) (xor_self a))
-        | inr q ↦ where_odd_yes (bit_xor b d) a (rw (p, q) at both) ∙ sym (rw (where_odd_yes b a p, where_odd_no d a q) (xor_zero_r a))
+        | inl q ↦ where_odd_no (bit_xor b d) a (rw (p, q) at both)
+            ∙ sym (rw (where_odd_yes b a p, where_odd_yes d a q) (xor_self a))
+        | inr q ↦ where_odd_yes (bit_xor b d) a (rw (p, q) at both)
+            ∙ sym (rw (where_odd_yes b a p, where_odd_no d a q) (xor_zero_r a))
       ]
       | inr p ↦ elim (odd_or_even d) [
-        | inl q ↦ where_odd_yes (bit_xor b d) a (rw (p, q) at both) ∙ sym (rw (where_odd_no b a p, where_odd_yes d a q) (xor_zero_l a))
+        | inl q ↦ where_odd_yes (bit_xor b d) a (rw (p, q) at both)
+            ∙ sym (rw (where_odd_no b a p, where_odd_yes d a q) (xor_zero_l a))
         | inr q ↦ where_odd_no (bit_xor b d) a (rw (p, q) at both) ∙ sym (rw (where_odd_no b a p, where_odd_no d a q) refl)
       ]
     ]
@@ -57,7 +60,8 @@ double_is a lt = elim (cases_lt a 128) [
 pub double-xor : (a b : ℕ) → a < 256 → b < 256 → double (bit_xor a b) ≡ bit_xor (double a) (double b)
 double-xor a b a_lt b_lt =
     let top : bit_xor a b / 128 ≡ bit_xor (a / 128) (b / 128) = xor_shr a b 7 in
-    rw (double_is (bit_xor a b) (xor_of_8 a b a_lt b_lt), double_is a a_lt, double_is b b_lt, xor_twice a b, top, where_odd-xor (a / 128) (b / 128) 0x11d)
+    rw (double_is (bit_xor a b) (xor_of_8 a b a_lt b_lt), double_is a a_lt, double_is b b_lt, xor_twice a b, top,
+        where_odd-xor (a / 128) (b / 128) 0x11d)
     (xor_swap (2 * a) (2 * b) (where_odd (a / 128) 0x11d) (where_odd (b / 128) 0x11d))
 
 double_zero : double 0 ≡ 0
@@ -76,7 +80,9 @@ where_odd-double b a = elim (odd_or_even b) [
 product_bits_lt : (n a b : ℕ) → a < 256 → product_bits n a b < 256
 unfolding product_bits
 product_bits_lt zero a b lt = omega arith
-product_bits_lt (suc n) a b lt = xor_of_8 (where_odd b a) (product_bits n (double a) (b / 2)) (where_odd_lt b a lt) (product_bits_lt n (double a) (b / 2) (double_lt a lt))
+product_bits_lt (suc n) a b lt =
+    xor_of_8 (where_odd b a) (product_bits n (double a) (b / 2)) (where_odd_lt b a lt)
+        (product_bits_lt n (double a) (b / 2) (double_lt a lt))
 
 -- a product is an element
 pub product_lt : (a b : ℕ) → a < 256 → product a b < 256
@@ -88,7 +94,8 @@ unfolding product_bits
 product_bits-double zero a b lt = sym double_zero
 product_bits-double (suc n) a b lt =
     rw (where_odd-double b a, product_bits-double n (double a) (b / 2) (double_lt a lt))
-    (sym (double-xor (where_odd b a) (product_bits n (double a) (b / 2)) (where_odd_lt b a lt) (product_bits_lt n (double a) (b / 2) (double_lt a lt))))
+    (sym (double-xor (where_odd b a) (product_bits n (double a) (b / 2)) (where_odd_lt b a lt)
+        (product_bits_lt n (double a) (b / 2) (double_lt a lt))))
 
 pub double_product : (a b : ℕ) → a < 256 → product (double a) b ≡ double (product a b)
 unfolding product

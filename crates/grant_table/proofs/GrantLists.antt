@@ -20,7 +20,8 @@ in_without number (g ∷ gs) d i = elim (cases_Bool (g.number == number)) [
   | inr z ↦ in_tail number gs d g (λ j. in_without number gs d j) (rw z at i)
 ]
   where
-    in_tail : (number : ℕ) (gs : List Grant) (d g : Grant) → (In d (without_number number gs) → In d gs) → In d (g ∷ without_number number gs) → In d (g ∷ gs)
+    in_tail : (number : ℕ) (gs : List Grant) (d g : Grant) → (In d (without_number number gs) → In d gs) →
+        In d (g ∷ without_number number gs) → In d (g ∷ gs)
     in_tail number gs d g more (inl e) = inl e
     in_tail number gs d g more (inr i) = inr (more i)
 
@@ -36,7 +37,9 @@ no_reason None (Some own) e = absurd (cc e)
 no_reason None None e = (refl, refl)
 
 pub apart_added : (gs : List Grant) (g : Grant) → Apart gs → refusal gs g ≡ None → Apart (gs ++ (g ∷ []))
-apart_added gs g h e = apart_more gs g h (no_reason (find (conflicts g) gs) (grant_of gs g.client) e).0 (no_reason (find (conflicts g) gs) (grant_of gs g.client) e).1
+apart_added gs g h e =
+    apart_more gs g h (no_reason (find (conflicts g) gs) (grant_of gs g.client) e).0
+        (no_reason (find (conflicts g) gs) (grant_of gs g.client) e).1
 
 -- ---- the place of a number
 
@@ -44,19 +47,22 @@ apart_added gs g h e = apart_more gs g h (no_reason (find (conflicts g) gs) (gra
 same_item : (i : ℕ) (xs : List Grant) (g h : Grant) → i < length xs → g ≡ get_or xs i g → h ≡ get_or xs i h → g ≡ h
 same_item i xs g h l a b = let u = drop-cons xs i g l in let v = drop-cons xs i h l in cc (u, v, a, b)
 
-pub found_at : (number i : ℕ) (xs : List Grant) (g h : Grant) → i < length xs → g ≡ get_or xs i g → h ≡ get_or xs i h → h.number ≡ number → find (has_number number) (drop i xs) ≡ Some g
+pub found_at : (number i : ℕ) (xs : List Grant) (g h : Grant) → i < length xs → g ≡ get_or xs i g → h ≡ get_or xs i h →
+    h.number ≡ number → find (has_number number) (drop i xs) ≡ Some g
 found_at number i xs g h l a b n =
     let d : drop i xs ≡ g ∷ drop (suc i) xs = drop-cons xs i g l ∙ ap (λ (x : Grant). x ∷ drop (suc i) xs) (sym a) in
     let m : (g.number == number) ≡ true = eq-eqb g.number number (ap (λ (x : Grant). x.number) (same_item i xs g h l a b) ∙ n) in
     rw d (rw m refl)
 
-pub left_at : (number i : ℕ) (xs : List Grant) (h : Grant) → i < length xs → h ≡ get_or xs i h → h.number ≡ number → without_number number (drop i xs) ≡ drop (suc i) xs
+pub left_at : (number i : ℕ) (xs : List Grant) (h : Grant) → i < length xs → h ≡ get_or xs i h → h.number ≡ number →
+    without_number number (drop i xs) ≡ drop (suc i) xs
 left_at number i xs h l b n =
     let d : drop i xs ≡ h ∷ drop (suc i) xs = drop-cons xs i h l ∙ ap (λ (x : Grant). x ∷ drop (suc i) xs) (sym b) in
     rw d (rw (eq-eqb h.number number n) refl)
 
 -- behind the last
-pub at_end : (number i : ℕ) (xs : List Grant) → length xs ≤ i → (find (has_number number) (drop i xs) ≡ None) × (take i xs ++ without_number number (drop i xs) ≡ xs)
+pub at_end : (number i : ℕ) (xs : List Grant) → length xs ≤ i →
+    (find (has_number number) (drop i xs) ≡ None) × (take i xs ++ without_number number (drop i xs) ≡ xs)
 at_end number i xs l =
     let d : drop i xs ≡ [] = drop_of_length-le xs l in
     (rw d refl, rw d (append-nil (take i xs) ∙ take_all i xs l))

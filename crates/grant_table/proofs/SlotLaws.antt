@@ -20,12 +20,15 @@ follow n = (grind (arith, nat_tests), λ s p. grind (arith, nat_tests, p))
 
 new_after : (last n : ℕ) → without_answer (admit_after last n) ≡ New → n ≡ last + 1
 unfolding admit_after
-new_after last n e = elim (cases_Bool ((n == last + 1) && nat_lt last GREATEST_SEQUENCE)) [ inl t ↦ grind (arith, nat_tests, t) | inr z ↦ absurd (cc (rw z at e)) ]
+new_after last n e =
+    elim (cases_Bool ((n == last + 1) && nat_lt last GREATEST_SEQUENCE))
+        [ inl t ↦ grind (arith, nat_tests, t) | inr z ↦ absurd (cc (rw z at e)) ]
 
 -- a new request has the number behind the last
 new_is_next : (last n : ℕ) → admitted last n ≡ New → n ≡ last + 1
 unfolding admitted
-new_is_next last n e = elim (cases_Bool ((n == last) && nat_lt 0 last)) [ inl t ↦ absurd (cc (rw t at e)) | inr z ↦ new_after last n (rw z at e) ]
+new_is_next last n e =
+    elim (cases_Bool ((n == last) && nat_lt 0 last)) [ inl t ↦ absurd (cc (rw t at e)) | inr z ↦ new_after last n (rw z at e) ]
 
 -- the last number, again
 last_again : (n : ℕ) → 0 < n → admitted n n ≡ Again
@@ -57,6 +60,7 @@ still s (r ∷ rs) e = still_by s r rs (λ t. still t rs) (admitted s.last r.seq
 
 pub alike : AnswerRepeatsAlike
 alike s r rs new none =
-    let at : after_all (after s r) rs ≡ record { last = r.sequence; kept = r.answer } = still (after s r) rs none ∙ ap (by_admit s r) new in
+    let at : after_all (after s r) rs ≡ record { last = r.sequence; kept = r.answer } =
+        still (after s r) rs none ∙ ap (by_admit s r) new in
     let some : 0 < r.sequence = omega (arith, new_is_next s.last r.sequence new) in
     rw at (record { again = last_again r.sequence some; kept = refl })

@@ -27,6 +27,7 @@ some_if None e = absurd (cc e)
 some_if (Some g) e = search rules
 
 -- the file's grants were found
-pub holds_there : (number file : ℕ) (t : Table) (gs : List Grant) → lookup (is_at (nat_cmp file)) t ≡ Some gs → is_some (find (has_number number) gs) ≡ true →
+pub holds_there : (number file : ℕ) (t : Table) (gs : List Grant) → lookup (is_at (nat_cmp file)) t ≡ Some gs →
+    is_some (find (has_number number) gs) ≡ true →
     IsSome (find (has_number number) (grants_of t file))
 holds_there number file t gs e s = rw e (some_if _ s)

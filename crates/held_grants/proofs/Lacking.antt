@@ -1,12 +1,11 @@
 -- Stripes that lack nothing.
-use Rattle.std.specs.Prelude.{ℕ, zero, suc, false, List, [], ◌∷◌, Some, None, refl, ◌≡◌, ◌<◌, ◌≤◌, ◌+◌, ◌*◌, is_some}
-use Rattle.std.proofs.Common.{arith, eq-eqb}
+use Rattle.std.specs.Prelude.{ℕ, zero, suc, false, List, [], ◌∷◌, None, refl, ◌≡◌, ◌≤◌, ◌+◌, ◌*◌, is_some}
+use Rattle.std.proofs.Common.{arith}
 use Rattle.std.proofs.lemmas.Bool.Decides.{nat_tests}
 use Rattle.data_map.specs.declared.check.RawMap.{RawMap}
-use Rattle.data_map.specs.Striping.{replicas, group_width, group_of}
-use Rattle.stripe_plan.specs.declared.plan.Span.{Span}
+use Rattle.data_map.specs.Striping.{group_width, group_of}
 use Rattle.stripe_plan.specs.Touched.{stripes}
-use Rattle.stripe_plan.specs.Lost.{source_from, source, is_out, out_from, positions_out, is_short, unwritable}
+use Rattle.stripe_plan.specs.Lost.{out_from, positions_out, is_short, unwritable}
 use Rattle.stripe_plan.proofs.WriteFollows.{no_stripes}
 use Rattle.stripe_plan.proofs.WriteLaws.{none_out}
 use Rattle.client_rules.specs.declared.calls.CallOp.{CallOp}
@@ -16,11 +15,6 @@ use Rattle.client_rules.specs.Grants.{missing_from}
 use Rattle.client_rules.specs.Layouts.{granted_span, is_lacking}
 
 -- ---- no component is out
-
-first_there : (k n : ℕ) → 0 < n → source_from [] k n ≡ Some k
-unfolding source_from
-first_there k zero l = absurd (omega (arith, l))
-first_there k (suc n) l = refl
 
 none_out_from : (m : RawMap) (p n : ℕ) → out_from m [] p n ≡ []
 unfolding out_from

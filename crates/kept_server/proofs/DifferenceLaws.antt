@@ -19,7 +19,8 @@ pub record SoFar (old left : Table) (entries all : List Entry) : Type 0 where
 
 -- one file more
 pub file_more : (old rest : Table) (n : ℕ) (f : FileState) (was : Option FileState) (es more all : List Entry) → AreEntries old →
-    SoFar old ((n, f) ∷ rest) es all → was ≡ entry_at old n → more ≡ es ++ file_entries (option_map file_of was) f.kept → SoFar old rest more all
+    SoFar old ((n, f) ∷ rest) es all → was ≡ entry_at old n → more ≡ es ++ file_entries (option_map file_of was) f.kept →
+        SoFar old rest more all
 file_more old rest n f was es more all o so found added =
     let others : List Entry = files_entries (files_in old) (files_in rest) in
     let at : file_at (files_in old) f.kept.number ≡ option_map file_of was =

@@ -8,7 +8,8 @@ use Rattle.server_entries.specs.declared.record.Record.{Record}
 use Rattle.server_entries.specs.Applying.{applied_to, replayed_to}
 use Rattle.kept_server.specs.Restoring.{restored}
 
-replayed-more : (s : Option Server) (rs : List Record) (r : Record) → replayed_to s (rs ++ r ∷ []) ≡ applied_to (replayed_to s rs) r.entries
+replayed-more : (s : Option Server) (rs : List Record) (r : Record) →
+    replayed_to s (rs ++ r ∷ []) ≡ applied_to (replayed_to s rs) r.entries
 replayed-more s [] r = refl
 replayed-more s (q ∷ rs) r = replayed-more (applied_to s q.entries) rs r
 

@@ -161,7 +161,8 @@ impl KeptServer {
     pub fn add_drive(&mut self, info: DriveInfo) -> Result<(), Memory>
         requires new { IsNew info.number self.old.server.drives }
         requires low { info.number < MAX_DRIVES }
-        ensures added { OnOk result (self.new.server ≡ record self.old.server { drives = add_drive self.old.server.drives (drive_of info) }) }
+        ensures added { OnOk result
+            (self.new.server ≡ record self.old.server { drives = add_drive self.old.server.drives (drive_of info) }) }
         ensures kept { Keeps self.old self.new }
         ensures quiet { IsQuiet self.old self.new }
         ensures stays_over { StaysOver self.old self.new }

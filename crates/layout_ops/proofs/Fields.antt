@@ -35,7 +35,8 @@ carried_ok : {A : Type 0} (r : Result A LayoutErr) (x : A) → carried r ≡ Ok 
 carried_ok (Ok y) x e = cc
 carried_ok (Err d) x e = absurd cc
 
-carry : {V : Type 0} (read : Rest → Result (V × Rest) LayoutErr) (spelling : V → List ℕ) (Fits : V → Type 0) → IsCodec read spelling Fits → IsCodec (λ i. carried (read i)) spelling Fits
+carry : {V : Type 0} (read : Rest → Result (V × Rest) LayoutErr) (spelling : V → List ℕ) (Fits : V → Type 0) →
+    IsCodec read spelling Fits → IsCodec (λ i. carried (read i)) spelling Fits
 carry read spelling Fits codec = record {
   again = λ v more at fits. let a = codec.again v more at fits in (a.0, ap carried a.1);
   found = λ i v j fits e. codec.found i v j fits (carried_ok (read i) (v, j) e);
@@ -78,14 +79,16 @@ file_handle_law = opaque_law 128 (omega arith)
 
 -- ---- numbers that decide
 
-expected_ok : (expected : ℕ) (refusal : ℕ → OpErr) (n : ℕ × Rest) (x : Unit {0} × Rest) → as_expected expected refusal n ≡ Ok x → (n.0 ≡ expected) × ((tt, n.1) ≡ x)
+expected_ok : (expected : ℕ) (refusal : ℕ → OpErr) (n : ℕ × Rest) (x : Unit {0} × Rest) → as_expected expected refusal n ≡ Ok x →
+    (n.0 ≡ expected) × ((tt, n.1) ≡ x)
 expected_ok expected refusal n x e =
     elim (chosen (eqb n.0 expected) (Ok (tt, n.1)) (Err (refusal n.0)) (Ok x) e) [
       | inl p ↦ (eqb-true n.0 expected p.0, ok_is _ _ p.1)
       | inr p ↦ absurd (err_is_not _ _ p.1)
     ]
 
-decided_found : (expected : ℕ) (refusal : ℕ → OpErr) (i : Rest) (v : Unit {0}) (j : Rest) → IsBytes i.left → (u32_field i >>= as_expected expected refusal) ≡ Ok (v, j) → ⊤ × (i.left ≡ u32_item expected ++ j.left)
+decided_found : (expected : ℕ) (refusal : ℕ → OpErr) (i : Rest) (v : Unit {0}) (j : Rest) → IsBytes i.left →
+    (u32_field i >>= as_expected expected refusal) ≡ Ok (v, j) → ⊤ × (i.left ≡ u32_item expected ++ j.left)
 decided_found expected refusal i v j bytes e =
     let s = step u32_field u32_item (λ n. n < 2 ^ 32) i (as_expected expected refusal) (v, j) u32_law bytes e in
     let n = expected_ok expected refusal s.0 (v, j) s.2 in
@@ -130,18 +133,21 @@ operation_small operation.LayoutCommit = omega arith
 operation_small operation.LayoutGet = omega arith
 operation_small operation.LayoutReturn = omega arith
 
-known_ok : (n : ℕ × Rest) (o : Option Operation) (x : Operation × Rest) → known n o ≡ Ok x → (v : Operation) × (o ≡ Some v) × ((v, n.1) ≡ x)
+known_ok : (n : ℕ × Rest) (o : Option Operation) (x : Operation × Rest) → known n o ≡ Ok x →
+    (v : Operation) × (o ≡ Some v) × ((v, n.1) ≡ x)
 known_ok n None x e = absurd cc
 known_ok n (Some v) x e = (v, refl, cc)
 
 pub operation_law : IsCodec operation_in (λ v. u32_item (operation_number v)) (λ v. ⊤)
 unfolding operation_in
 operation_law = record {
-  again = λ v more at fits. let a = u32_law.again (operation_number v) more at (operation_small v) in (a.0, rw (a.1, operation_back v) refl);
+  again = λ v more at fits. let a = u32_law.again (operation_number v) more at (operation_small v) in
+      (a.0, rw (a.1, operation_back v) refl);
   found = λ i v j fits e.
       let s = step u32_field u32_item (λ n. n < 2 ^ 32) i (λ n. known n (operation_of n.0)) (v, j) u32_law fits e in
       let n = known_ok s.0 (operation_of s.0.0) (v, j) s.2 in
-      subst (λ (p : Operation × Rest). ⊤ × (i.left ≡ u32_item (operation_number p.0) ++ p.1.left)) n.2 (tt, rw (operation_only s.0.0 n.0 n.1) s.1.front);
+      subst (λ (p : Operation × Rest). ⊤ × (i.left ≡ u32_item (operation_number p.0) ++ p.1.left)) n.2
+      (tt, rw (operation_only s.0.0 n.0 n.1) s.1.front);
 }
 
 order_only : (n : ℕ) (v : OrderKind) → order_of n ≡ Some v → order_number v ≡ n
@@ -167,7 +173,10 @@ order_small order.Audit = omega arith
 
 pub order_kind_law : IsCodec order_kind_field (λ v. u32_item (order_number v)) (λ v. ⊤)
 unfolding order_kind_field
-order_kind_law = carry (enum_part order_of) _ _ (part.enum_law order_of order_number (λ v. ⊤) (record { back = λ v fits. order_back v; small = λ v fits. order_small v; only = λ n v e. (order_only n v e, tt) }))
+order_kind_law =
+    carry (enum_part order_of) _ _
+    (part.enum_law order_of order_number (λ v. ⊤)
+    (record { back = λ v fits. order_back v; small = λ v fits. order_small v; only = λ n v e. (order_only n v e, tt) }))
 
 result_only : (n : ℕ) (v : OrderResult) → order_result_of n ≡ Some v → order_result_number v ≡ n
 result_only n answer.Started e = grind (arith, nat_tests)
@@ -189,40 +198,51 @@ result_small answer.Unknown = omega arith
 
 pub order_result_law : IsCodec order_result_field (λ v. u32_item (order_result_number v)) (λ v. ⊤)
 unfolding order_result_field
-order_result_law = carry (enum_part order_result_of) _ _ (part.enum_law order_result_of order_result_number (λ v. ⊤) (record { back = λ v fits. result_back v; small = λ v fits. result_small v; only = λ n v e. (result_only n v e, tt) }))
+order_result_law =
+    carry (enum_part order_result_of) _ _
+    (part.enum_law order_result_of order_result_number (λ v. ⊤)
+    (record { back = λ v fits. result_back v; small = λ v fits. result_small v; only = λ n v e. (result_only n v e, tt) }))
 
 -- ---- states and times
 
-stateid_again : (v : StateId) (more : List ℕ) (at : ℕ) → StateIdFits v → part.Ends (stateid_part (record { left = stateid_item v ++ more; at = at })) v more
+stateid_again : (v : StateId) (more : List ℕ) (at : ℕ) → StateIdFits v →
+    part.Ends (stateid_part (record { left = stateid_item v ++ more; at = at })) v more
 unfolding stateid_part
 stateid_again v more at fits =
     part.in_parts stateid_part (u32_item v.seqid ∷ fixed_item v.other ∷ []) at v more
-    (part.first _ _ _ _ _ part.u32_law v.seqid fits.seqid (λ _. part.last _ _ _ _ (part.fixed_law 12) v.other fits.other (λ _. refl)))
+    (part.first _ _ _ _ _ part.u32_law v.seqid fits.seqid
+    (λ _. part.last _ _ _ _ (part.fixed_law 12) v.other fits.other (λ _. refl)))
 
-stateid_found : (i : Rest) (v : StateId) (j : Rest) → IsBytes i.left → stateid_part i ≡ Ok (v, j) → StateIdFits v × (i.left ≡ stateid_item v ++ j.left)
+stateid_found : (i : Rest) (v : StateId) (j : Rest) → IsBytes i.left → stateid_part i ≡ Ok (v, j) →
+    StateIdFits v × (i.left ≡ stateid_item v ++ j.left)
 unfolding stateid_part
 stateid_found i v j bytes e =
     let a = step _ _ _ i _ (v, j) part.u32_law bytes e in
     let b = step _ _ _ a.0.1 _ (v, j) (part.fixed_law 12) a.1.bytes a.2 in
     let whole = gathered (u32_item a.0.0 ∷ fixed_item b.0.0 ∷ []) i.left b.0.1.left (a.1.front ∙ after _ _ _ b.1.front) in
-    subst (λ (p : StateId × Rest). StateIdFits p.0 × (i.left ≡ stateid_item p.0 ++ p.1.left)) (ok_is _ (v, j) b.2) (record { seqid = a.1.fits; other = b.1.fits }, whole)
+    subst (λ (p : StateId × Rest). StateIdFits p.0 × (i.left ≡ stateid_item p.0 ++ p.1.left)) (ok_is _ (v, j) b.2)
+    (record { seqid = a.1.fits; other = b.1.fits }, whole)
 
 stateid_codec : IsCodec stateid_part stateid_item StateIdFits
 stateid_codec = record { again = stateid_again; found = stateid_found }
 
-time_again : (v : Time) (more : List ℕ) (at : ℕ) → TimeFits v → part.Ends (time_part (record { left = time_item v ++ more; at = at })) v more
+time_again : (v : Time) (more : List ℕ) (at : ℕ) → TimeFits v →
+    part.Ends (time_part (record { left = time_item v ++ more; at = at })) v more
 unfolding time_part
 time_again v more at fits =
     part.in_parts time_part (i64_item v.seconds ∷ u32_item v.nanoseconds ∷ []) at v more
-    (part.first _ _ _ _ _ part.i64_law v.seconds fits.seconds (λ _. part.last _ _ _ _ part.u32_law v.nanoseconds fits.nanoseconds (λ _. refl)))
+    (part.first _ _ _ _ _ part.i64_law v.seconds fits.seconds
+    (λ _. part.last _ _ _ _ part.u32_law v.nanoseconds fits.nanoseconds (λ _. refl)))
 
-time_found : (i : Rest) (v : Time) (j : Rest) → IsBytes i.left → time_part i ≡ Ok (v, j) → TimeFits v × (i.left ≡ time_item v ++ j.left)
+time_found : (i : Rest) (v : Time) (j : Rest) → IsBytes i.left → time_part i ≡ Ok (v, j) →
+    TimeFits v × (i.left ≡ time_item v ++ j.left)
 unfolding time_part
 time_found i v j bytes e =
     let a = step _ _ _ i _ (v, j) part.i64_law bytes e in
     let b = step _ _ _ a.0.1 _ (v, j) part.u32_law a.1.bytes a.2 in
     let whole = gathered (i64_item a.0.0 ∷ u32_item b.0.0 ∷ []) i.left b.0.1.left (a.1.front ∙ after _ _ _ b.1.front) in
-    subst (λ (p : Time × Rest). TimeFits p.0 × (i.left ≡ time_item p.0 ++ p.1.left)) (ok_is _ (v, j) b.2) (record { seconds = a.1.fits; nanoseconds = b.1.fits }, whole)
+    subst (λ (p : Time × Rest). TimeFits p.0 × (i.left ≡ time_item p.0 ++ p.1.left)) (ok_is _ (v, j) b.2)
+    (record { seconds = a.1.fits; nanoseconds = b.1.fits }, whole)
 
 time_codec : IsCodec time_part time_item TimeFits
 time_codec = record { again = time_again; found = time_found }

@@ -54,6 +54,7 @@ envelope_writable (envelope.Order v) fits = tt
 envelope_writable (envelope.OrderAnswer v) fits = tt
 
 -- the same of an answer
-pub all_writable : (bytes : List ℕ) (r : Result Envelope OpErr) → IfOk r (λ v. EnvelopeFits v × (bytes ≡ envelope_item v)) → IfOk r EnvelopeWritable
+pub all_writable : (bytes : List ℕ) (r : Result Envelope OpErr) → IfOk r (λ v. EnvelopeFits v × (bytes ≡ envelope_item v)) →
+    IfOk r EnvelopeWritable
 all_writable bytes (Ok v) found = envelope_writable v found.0
 all_writable bytes (Err e) found = tt

@@ -1,5 +1,5 @@
 -- A file is made.
-use Rattle.std.specs.Prelude.{ℕ, Bool, true, false, List, [], ◌∷◌, Option, Some, None, Ok, ◌≡◌, ◌==◌, ◌+◌, ◌≤◌, nat_lt, is_some, length, if◌then◌else◌, refl}
+use Rattle.std.specs.Prelude.{ℕ, Bool, true, false, List, [], ◌∷◌, Option, Some, None, Ok, ◌≡◌, ◌==◌, ◌+◌, ◌≤◌, nat_lt, is_some, length, refl}
 use Rattle.std.specs.Option.{option_map}
 use Rattle.std.specs.Ordering.{nat_cmp}
 use Rattle.std.specs.declared.cmp.Ordering.TheVariants.{Less, Equal, Greater}
@@ -14,7 +14,6 @@ use Rattle.server_rules.specs.declared.files.Kept.{Kept}
 use Rattle.server_rules.specs.declared.limits.TheConstants.{MAX_FILE_COMPONENTS}
 use Rattle.file_jobs.specs.Sound.{IsSound}
 use Rattle.server_rules.specs.declared.server.Refusal.{Refusal}
-use Rattle.server_rules.specs.declared.server.Refusal.TheVariants.{FileExists}
 use Rattle.server_rules.specs.declared.server.Server.{Server}
 use Rattle.server_rules.specs.declared.server.Effects.{Effects}
 use Rattle.server_rules.specs.Going.{Going}
@@ -52,7 +51,8 @@ add_file-files [] n f a none e = refl
 add_file-files (x ∷ xs) n f a none e = elim (cases_Bool (is_at (nat_cmp n) x.0)) [
   | inl here ↦ absurd (some_none (rw here at none))
   | inr not_here ↦ elim (cases_Bool (nat_lt x.1.kept.number f.kept.number)) [
-    | inl less ↦ rw (less, behind_it n x.0 (rw (a.0.number, e) at less)) (ap (λ fs. file_of x.1 ∷ fs) (add_file-files xs n f a.1 (rw not_here at none) e))
+    | inl less ↦ rw (less, behind_it n x.0 (rw (a.0.number, e) at less))
+        (ap (λ fs. file_of x.1 ∷ fs) (add_file-files xs n f a.1 (rw not_here at none) e))
     | inr more ↦ rw (more, before_it n x.0 (rw (a.0.number, e) at more) not_here) refl
   ]
 ]
@@ -61,7 +61,8 @@ add_file-files (x ∷ xs) n f a none e = elim (cases_Bool (is_at (nat_cmp n) x.0
     some_none e = absurd (cc e)
 
 -- a file that was added is put in its own place
-pub put_added : (fs : List File) (f g : File) → file_at fs f.kept.number ≡ None → g.kept.number ≡ f.kept.number → put_file (add_file fs f) f.kept.number g ≡ add_file fs g
+pub put_added : (fs : List File) (f g : File) → file_at fs f.kept.number ≡ None → g.kept.number ≡ f.kept.number →
+    put_file (add_file fs f) f.kept.number g ≡ add_file fs g
 unfolding add_file file_at put_file
 put_added [] f g none e = rw (eq-eqb f.kept.number f.kept.number refl) refl
 put_added (x ∷ xs) f g none e = elim (cases_Bool (x.kept.number == f.kept.number)) [
@@ -81,11 +82,6 @@ put_added (x ∷ xs) f g none e = elim (cases_Bool (x.kept.number == f.kept.numb
 
 -- ---- the step
 
--- what a refusal looks at first
-where_none : (o : Option File) (rest : Option Refusal) → (if is_some o then Some FileExists else rest) ≡ None → o ≡ None
-where_none None rest e = refl
-where_none (Some f) rest e = absurd (cc e)
-
 -- where there is no file, there is no entry
 mapped_none : (o : Option FileState) → option_map file_of o ≡ None → o ≡ None
 mapped_none None e = refl
@@ -95,28 +91,37 @@ no_entry : (t : Table) (n : ℕ) → AreEntries t → file_at (files_in t) n ≡
 no_entry t n a e = mapped_none (entry_at t n) (sym (file_at-files t n a) ∙ e)
 
 -- the file that is put in the server
-new_files : (old : State) (n : ℕ) (u g : FileState) → AreEntries old.files.entries → file_at (files_in old.files.entries) n ≡ None →
+new_files : (old : State) (n : ℕ) (u g : FileState) → AreEntries old.files.entries →
+    file_at (files_in old.files.entries) n ≡ None →
     u.kept.number ≡ n → g.kept.number ≡ n →
-    put_file (add_file (files_in old.files.entries) (file_of u)) u.kept.number (file_of g) ≡ files_in (insert_entry nat_cmp old.files.entries n g)
+    put_file (add_file (files_in old.files.entries) (file_of u)) u.kept.number (file_of g) ≡ files_in
+        (insert_entry nat_cmp old.files.entries n g)
 new_files old n u g good none e h =
     put_added (files_in old.files.entries) (file_of u) (file_of g) (rw e none) (h ∙ sym e)
     ∙ add_file-files old.files.entries n g good (no_entry old.files.entries n good none) h
 
 -- what comes of a file that is made
-pub made_at : (old : State) (files : BTreeMap ℕ FileState) (new : State) (m : Effects) (f : NewFile) (ds : List ℕ) (u g : FileState) (out : Step) →
-    AreEntries old.files.entries → refusal (server_of old) f.number f.map f.zoned ≡ None → drives_for f.zoned old.drives f.map ds ≡ ds →
+pub made_at : (old : State) (files : BTreeMap ℕ FileState) (new : State) (m : Effects) (f : NewFile) (ds : List ℕ)
+    (u g : FileState) (out : Step) →
+    AreEntries old.files.entries → refusal (server_of old) f.number f.map f.zoned ≡ None →
+        drives_for f.zoned old.drives f.map ds ≡ ds →
     file_of u ≡ unmade (server_of old) f.number f.map f.tag f.zoned ds → g.kept.number ≡ u.kept.number →
     files.entries ≡ insert_entry nat_cmp old.files.entries f.number g →
-    Steps making u (record { nonce = old.next_nonce; object = old.next_object + length ds; sent = []; notes = []; mended = [] }) g m →
+    Steps making u
+        (record { nonce = old.next_nonce; object = old.next_object + length ds; sent = []; notes = []; mended = [] }) g m →
     Settles (record old { files = files }) m new out → Creates f old new out
 unfolding create_file
 made_at old files new m f ds u g out good none chosen same left put_in steps fin =
     let s : Server = server_of old in
     let w : Server = with_file s (file_of u) in
     let number : u.kept.number ≡ f.number = ap (λ (x : File). x.kept.number) same in
-    let many : length ds ≡ length u.kept.components = sym (ap (λ (x : File). length x.kept.components) same ∙ length_components ds old.next_object) in
+    let many : length ds ≡ length u.kept.components =
+        sym (ap (λ (x : File). length x.kept.components) same ∙ length_components ds old.next_object) in
     let go : at g m old.drives [] ≡ making (at_file w [] (file_of u)) =
-    steps old.drives [] ∙ ap (λ (k : ℕ). making (at u (record { nonce = old.next_nonce; object = old.next_object + k; sent = []; notes = []; mended = [] }) old.drives [])) many in
+    steps old.drives []
+        ∙ ap (λ (k : ℕ). making
+        (at u (record { nonce = old.next_nonce; object = old.next_object + k; sent = []; notes = []; mended = [] }) old.drives
+        [])) many in
     let put : files_in files.entries ≡ put_file (add_file s.files (file_of u)) u.kept.number (file_of g) =
     ap files_in put_in ∙ sym (new_files old f.number u g good (not_there s f.number f.map f.zoned none) number (left ∙ number)) in
     let did : Did out (server_of new) (makes_file s (file_of u)) =
@@ -128,7 +133,8 @@ made_at old files new m f ds u g out good none chosen same left put_in steps fin
     }) in (
       ds,
       makes_file s (file_of u),
-      ap (λ (r : Option Refusal). unless_refused r (makes_file s (unmade s f.number f.map f.tag f.zoned (drives_for f.zoned s.drives f.map ds)))) none
+      ap (λ (r : Option Refusal). unless_refused r
+          (makes_file s (unmade s f.number f.map f.tag f.zoned (drives_for f.zoned s.drives f.map ds)))) none
           ∙ ap (λ (p : List ℕ). Ok (makes_file s (unmade s f.number f.map f.tag f.zoned p))) chosen
           ∙ ap (λ (x : File). Ok (makes_file s x)) (sym same),
       did,
@@ -144,7 +150,8 @@ has_entry t n a = mapped_alike (entry_at t n) ∙ ap is_some (sym (file_at-files
     mapped_alike (Some f) = refl
 
 -- the new file is one of few components
-pub sound_new : (k : Kept) (ds : List ℕ) (object : ℕ) → k.components ≡ components_on ds object → length ds ≡ k.map.comps → k.map.comps ≤ MAX_FILE_COMPONENTS →
+pub sound_new : (k : Kept) (ds : List ℕ) (object : ℕ) → k.components ≡ components_on ds object → length ds ≡ k.map.comps →
+    k.map.comps ≤ MAX_FILE_COMPONENTS →
     k.high ≡ 0 → k.grants ≡ [] → k.ended ≡ [] → IsSound k
 sound_new k ds object e many few high live ended = record {
   few = rw (e, length_components ds object, many) few;
@@ -163,7 +170,8 @@ same_key : (n k : ℕ) → is_at (nat_cmp n) k ≡ true → n ≡ k
 same_key n k t = grind (arith, nat_tests, at_number n k, t)
 
 -- each file stands at its number
-pub entries_inserted : (t : Table) (n : ℕ) (f : FileState) → AreEntries t → IsEntry (n, f) → AreEntries (insert_entry nat_cmp t n f)
+pub entries_inserted : (t : Table) (n : ℕ) (f : FileState) → AreEntries t → IsEntry (n, f) →
+    AreEntries (insert_entry nat_cmp t n f)
 entries_inserted [] n f a i = (i, tt)
 entries_inserted (e ∷ es) n f a i = elim (cases_Bool (is_at (nat_cmp n) e.0)) [
   | inl here ↦ rw (same_it n e.0 here) (record { number = i.number ∙ same_key n e.0 here; sound = i.sound }, a.1)
@@ -204,14 +212,18 @@ others_inserted t n g none = inserted_out t n g none ∙ sym (none_without t n n
 -- none awaits anything at a number that no file has
 unlisted : (t : Table) (ks : Keys) (n : ℕ) → entry_at t n ≡ None → AreListed ks t → AreListedBut n ks t
 unlisted t ks n none a = λ x d m. elim (cases_Bool (n == m)) [
-  | inl here ↦ a x d m ∙ rw here (ap (λ (k : ℕ). file_awaits (entry_at t k) x d) (sym (same_number n m here)) ∙ ap (λ (o : Option FileState). file_awaits o x d) none)
+  | inl here ↦ a x d m
+      ∙ rw here (ap (λ (k : ℕ). file_awaits (entry_at t k) x d) (sym (same_number n m here))
+      ∙ ap (λ (o : Option FileState). file_awaits o x d) none)
   | inr there ↦ a x d m ∙ rw there refl
 ]
 
-pub none_before : (old : State) (n : ℕ) (raw : RawMap) (zoned : Bool) → IsGood old → refusal (server_of old) n raw zoned ≡ None → entry_at old.files.entries n ≡ None
+pub none_before : (old : State) (n : ℕ) (raw : RawMap) (zoned : Bool) → IsGood old → refusal (server_of old) n raw zoned ≡ None →
+    entry_at old.files.entries n ≡ None
 none_before old n raw zoned good none = no_entry old.files.entries n good.files (not_there (server_of old) n raw zoned none)
 
-pub good_before : (old : State) (n : ℕ) (raw : RawMap) (zoned : Bool) → IsGood old → refusal (server_of old) n raw zoned ≡ None → IsGoodBut n old
+pub good_before : (old : State) (n : ℕ) (raw : RawMap) (zoned : Bool) → IsGood old → refusal (server_of old) n raw zoned ≡ None →
+    IsGoodBut n old
 good_before old n raw zoned good none = record {
   files = good.files;
   grants = good.grants;
@@ -220,5 +232,6 @@ good_before old n raw zoned good none = record {
   counts = none_off old.files.entries old.counts n (none_before old n raw zoned good none) good.counts;
 }
 
-pub created_too : (f : NewFile) (old is new : State) (out : Step) → server_of new ≡ server_of is → Creates f old is out → Creates f old new out
+pub created_too : (f : NewFile) (old is new : State) (out : Step) → server_of new ≡ server_of is → Creates f old is out →
+    Creates f old new out
 created_too f old is new out e h = (h.0, h.1, h.2, subst (λ (s : Server). Did out s h.1) (sym e) h.3)

@@ -23,7 +23,8 @@ use Rattle.server_state.specs.States.{server_of, Did, IsGood, IsReady, Settles}
 use Rattle.layout_server.specs.Rounds.{each_file, GoesRound}
 
 -- the round of the rules
-declared_each : (drive : ℕ) (ds : List Drive) (fs : List File) (m : Effects) (chosen : List ℕ) → each_file (λ g. declares g drive) ds fs m chosen ≡ declares_each drive ds fs m chosen
+declared_each : (drive : ℕ) (ds : List Drive) (fs : List File) (m : Effects) (chosen : List ℕ) →
+    each_file (λ g. declares g drive) ds fs m chosen ≡ declares_each drive ds fs m chosen
 unfolding each_file declares_each
 declared_each drive ds [] m chosen = refl
 declared_each drive ds (f ∷ fs) m chosen =
@@ -45,23 +46,29 @@ pub still_drives : (ds : List Drive) (drive : ℕ) → AreDrives ds → AreDrive
 still_drives ds drive r = offline_rises 0 ds drive r
 
 -- what comes of it, once it was declared at each file
-pub declared_at : (old : State) (drives : List Drive) (files : BTreeMap ℕ FileState) (new : State) (m : Effects) (loads : List DriveLoad) (drive : ℕ) (out : Step) →
-    IsGood old → drives ≡ offline old.drives drive → AreLoadsOf loads drives → GoesRound (AreLoadsOf loads) (λ g. declares g drive) old.files.entries (begins (server_of old)) files.entries m →
+pub declared_at : (old : State) (drives : List Drive) (files : BTreeMap ℕ FileState) (new : State) (m : Effects)
+    (loads : List DriveLoad) (drive : ℕ) (out : Step) →
+    IsGood old → drives ≡ offline old.drives drive → AreLoadsOf loads drives →
+        GoesRound (AreLoadsOf loads) (λ g. declares g drive) old.files.entries (begins (server_of old)) files.entries m →
     Settles (record old { drives = drives; files = files }) m new out →
     ((chosen : List ℕ) × Did out (server_of new) (declare (server_of old) chosen drive)) × IsReady new
 unfolding declare
 declared_at old drives files new m loads drive out good off loaded did fin =
     let s : Server = server_of old in
     let h = did.round drives loaded in
-    let e : record { files = files_in files.entries; effects = m; chosen = [] } ≡ declares_each drive (offline old.drives drive) s.files (begins s) h.0 =
-    h.1 [] ∙ declared_each drive drives s.files (begins s) (h.0 ++ []) ∙ ap (λ (cs : List ℕ). declares_each drive drives s.files (begins s) cs) (append-nil h.0)
+    let e : record { files = files_in files.entries; effects = m; chosen = [] } ≡ declares_each drive
+        (offline old.drives drive) s.files (begins s) h.0 =
+    h.1 [] ∙ declared_each drive drives s.files (begins s) (h.0 ++ [])
+        ∙ ap (λ (cs : List ℕ). declares_each drive drives s.files (begins s) cs) (append-nil h.0)
     ∙ ap (λ (ds : List Drive). declares_each drive ds s.files (begins s) h.0) off in (
       (
         h.0,
         subst (λ (r : Round). Did out (server_of new) (step_round (record s { drives = offline old.drives drive }) r)) e
-            (subst (λ (ds : List Drive). Did out (server_of new) (step_round (record s { drives = ds }) (record { files = files_in files.entries; effects = m; chosen = [] }))) off
+            (subst (λ (ds : List Drive). Did out (server_of new)
+                (step_round (record s { drives = ds }) (record { files = files_in files.entries; effects = m; chosen = [] }))) off
             (record { state = ap server_of fin.state; sends = fin.sends; notes = fin.notes; mended = fin.mended })),
       ),
       subst (λ (z : State). IsReady z) (sym fin.state)
-          (record { files = did.entries; grants = good.grants; drives = subst (λ (ds : List Drive). AreDrives ds) (sym off) (still_drives old.drives drive good.drives) }),
+          (record { files = did.entries; grants = good.grants; drives =
+              subst (λ (ds : List Drive). AreDrives ds) (sym off) (still_drives old.drives drive good.drives) }),
     )

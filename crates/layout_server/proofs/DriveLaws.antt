@@ -18,11 +18,9 @@ added_at (e ∷ ds) d = elim (cases_Bool (nat_lt e.number d.number)) [
   | inr more ↦ rw more refl
 ]
 
-pub added_where : (ds : List Drive) (d : Drive) (n place : ℕ) → n ≡ d.number → place ≡ rank_in ds n → take place ds ++ d ∷ drop place ds ≡ add_drive ds d
-added_where ds d n place m p = rw (p, m) (added_at ds d)
-
 -- it stands in order
-add_rises : (least : ℕ) (ds : List Drive) (d : Drive) → RiseFrom least ds → least ≤ d.number → d.number < MAX_DRIVES → IsNew d.number ds → RiseFrom least (add_drive ds d)
+add_rises : (least : ℕ) (ds : List Drive) (d : Drive) → RiseFrom least ds → least ≤ d.number → d.number < MAX_DRIVES →
+    IsNew d.number ds → RiseFrom least (add_drive ds d)
 unfolding add_drive
 add_rises least [] d r l h n = (l, h, tt)
 add_rises least (e ∷ ds) d r l h n = elim (cases_Bool (nat_lt e.number d.number)) [
@@ -30,7 +28,8 @@ add_rises least (e ∷ ds) d r l h n = elim (cases_Bool (nat_lt e.number d.numbe
   | inr more ↦ rw more (l, h, (grind (arith, nat_tests, more, n.0), r.1, r.2))
 ]
 
-pub drives_added : (ds : List Drive) (d : Drive) → AreDrives ds → d.number < MAX_DRIVES → IsNew d.number ds → AreDrives (add_drive ds d)
+pub drives_added : (ds : List Drive) (d : Drive) → AreDrives ds → d.number < MAX_DRIVES → IsNew d.number ds →
+    AreDrives (add_drive ds d)
 drives_added ds d r h n = add_rises 0 ds d r (omega arith) h n
 
 -- there are at most as many as numbers

@@ -60,18 +60,22 @@ later_there None later e = refl
 later_there (Some g) later e = absurd (cc e)
 
 -- a file whose job awaits it hears it
-heard_first : (s : Server) (chosen : List ℕ) (drive : ℕ) (r : Reply) (n : ℕ) (f : FileState) (t : Table) → awaits drive r f.job ≡ true →
+heard_first : (s : Server) (chosen : List ℕ) (drive : ℕ) (r : Reply) (n : ℕ) (f : FileState) (t : Table) →
+    awaits drive r f.job ≡ true →
     heard_at s chosen drive r (files_in ((n, f) ∷ t)) ≡ on_reply (at_file s chosen (file_of f)) drive r
 unfolding heard_at
 heard_first s chosen drive r n f t e =
-    first_there (on_reply (at_file s chosen (file_of f)) drive r) (heard_at s chosen drive r (files_in t)) (hears_where (at_file s chosen (file_of f)) drive r ∙ e)
+    first_there (on_reply (at_file s chosen (file_of f)) drive r) (heard_at s chosen drive r (files_in t))
+        (hears_where (at_file s chosen (file_of f)) drive r ∙ e)
 
 -- any other leaves it to those behind
-heard_later : (s : Server) (chosen : List ℕ) (drive : ℕ) (r : Reply) (n : ℕ) (f : FileState) (t : Table) → awaits drive r f.job ≡ false →
+heard_later : (s : Server) (chosen : List ℕ) (drive : ℕ) (r : Reply) (n : ℕ) (f : FileState) (t : Table) →
+    awaits drive r f.job ≡ false →
     heard_at s chosen drive r (files_in ((n, f) ∷ t)) ≡ heard_at s chosen drive r (files_in t)
 unfolding heard_at
 heard_later s chosen drive r n f t e =
-    later_there (on_reply (at_file s chosen (file_of f)) drive r) (heard_at s chosen drive r (files_in t)) (hears_where (at_file s chosen (file_of f)) drive r ∙ e)
+    later_there (on_reply (at_file s chosen (file_of f)) drive r) (heard_at s chosen drive r (files_in t))
+        (hears_where (at_file s chosen (file_of f)) drive r ∙ e)
 
 -- where nothing heard it, no job awaits it
 pub none_awaits : (g : Going) (drive : ℕ) (r : Reply) → on_reply g drive r ≡ None → awaits drive r g.file.job ≡ true → ⊥
@@ -88,12 +92,14 @@ unfolding are_to
 same_awaits drive r None = refl
 same_awaits drive r (Some j) = refl
 
-awaiting_file : (o : Option FileState) (x d : ℕ) → file_awaits o x d ≡ true → (f : FileState) × (o ≡ Some f) × (job_awaits f.job x d ≡ true)
+awaiting_file : (o : Option FileState) (x d : ℕ) → file_awaits o x d ≡ true →
+    (f : FileState) × (o ≡ Some f) × (job_awaits f.job x d ≡ true)
 awaiting_file None x d e = absurd (cc e)
 awaiting_file (Some f) x d e = (f, refl, e)
 
 -- the first of these doesn't await it
-quiet_here : (e : ℕ × FileState) (es : Table) (drive : ℕ) (r : Reply) → file_awaits (entry_at (e ∷ es) e.0) r.nonce drive ≡ false → awaits drive r e.1.job ≡ false
+quiet_here : (e : ℕ × FileState) (es : Table) (drive : ℕ) (r : Reply) →
+    file_awaits (entry_at (e ∷ es) e.0) r.nonce drive ≡ false → awaits drive r e.1.job ≡ false
 quiet_here e es drive r q = same_awaits drive r e.1.job ∙ rw (is_at_same e.0) at q
 
 -- and so it is with those behind
@@ -110,7 +116,8 @@ quiet_behind e es x d m order q = elim (cases_Bool (is_at (nat_cmp m) e.0)) [
     same_key n k t = grind (arith, nat_tests, at_number n k, t)
 
 -- a file behind another has a greater number
-is_behind : (k n : ℕ) (es : Table) (f : FileState) → AllByRecursion (λ y. nat_cmp k y ≡ Less) (keys_of es) → entry_at es n ≡ Some f → k < n
+is_behind : (k n : ℕ) (es : Table) (f : FileState) → AllByRecursion (λ y. nat_cmp k y ≡ Less) (keys_of es) →
+    entry_at es n ≡ Some f → k < n
 is_behind k n [] f order found = absurd (cc found)
 is_behind k n (e ∷ es) f order found = elim (cases_Bool (is_at (nat_cmp n) e.0)) [
   | inl here ↦ less k n e.0 order.0 here
@@ -136,7 +143,8 @@ heard_by_first s chosen drive r (e ∷ es) n f sorted found here none =
       | inr not_it ↦
           let later : entry_at es n ≡ Some f = rw not_it at found in
           heard_later s chosen drive r e.0 e.1 es (quiet_here e es drive r (none e.0 (is_behind e.0 n es f order.0 later)))
-          ∙ heard_by_first s chosen drive r es n f order.1 later here (λ m l. quiet_behind e es r.nonce drive m order.0 (none m l))
+          ∙ heard_by_first s chosen drive r es n f order.1 later here
+              (λ m l. quiet_behind e es r.nonce drive m order.0 (none m l))
     ]
 
 heard_by_none : (s : Server) (chosen : List ℕ) (drive : ℕ) (r : Reply) (t : Table) → IsStrictlySortedBy nat_cmp (keys_of t) →
@@ -149,7 +157,8 @@ heard_by_none s chosen drive r (e ∷ es) sorted none =
     ∙ heard_by_none s chosen drive r es order.1 (λ m. quiet_behind e es r.nonce drive m order.0 (none m))
 
 -- the first file that the list names
-pub first_listed : (drive : ℕ) (r : Reply) (ks : Keys) (t : Table) (n : ℕ) → IsStrictlySortedBy nat_cmp (keys_of t) → AreListed ks t →
+pub first_listed : (drive : ℕ) (r : Reply) (ks : Keys) (t : Table) (n : ℕ) → IsStrictlySortedBy nat_cmp (keys_of t) →
+    AreListed ks t →
     IsFirst ks r.nonce drive n → AwaitedAt drive r n t
 first_listed drive r ks t n sorted listed first =
     let h = awaiting_file (entry_at t n) r.nonce drive (sym (listed r.nonce drive n) ∙ first.awaits) in
@@ -162,7 +171,8 @@ first_listed drive r ks t n sorted listed first =
 
 pub none_listed : (drive : ℕ) (r : Reply) (ks : Keys) (t : Table) → IsStrictlySortedBy nat_cmp (keys_of t) → AreListed ks t →
     ((m : ℕ) → has ks r.nonce drive m ≡ false) → AwaitedNowhere drive r t
-none_listed drive r ks t sorted listed none = λ s chosen. heard_by_none s chosen drive r t sorted (λ m. sym (listed r.nonce drive m) ∙ none m)
+none_listed drive r ks t sorted listed none =
+    λ s chosen. heard_by_none s chosen drive r t sorted (λ m. sym (listed r.nonce drive m) ∙ none m)
 
 -- what follows of a number, if there is one, and of none
 pub if_some : {P Q : ℕ → Type 0} (o : Option ℕ) → ((n : ℕ) → P n → Q n) → IfSome o P → IfSome o Q
@@ -180,8 +190,10 @@ heard_there : (heard : Bool) (loads : List DriveLoad) (drive : ℕ) (r : Reply) 
 heard_there true loads drive r f g was is w h = h
 heard_there false loads drive r f g was is w h = absurd (none_awaits (at f was [] []) drive r (h.0 [] []) w)
 
-pub heard_in_table : (loads : List DriveLoad) (drive : ℕ) (r : Reply) (n : ℕ) (old new : Table) (was is : Effects) (heard : Bool) (f g : FileState) →
-    entry_at old n ≡ Some f → new ≡ set_value (is_at (nat_cmp n)) old g → HearsReply heard loads drive r f was g is → LeavesFile f g →
+pub heard_in_table : (loads : List DriveLoad) (drive : ℕ) (r : Reply) (n : ℕ) (old new : Table) (was is : Effects) (heard : Bool)
+    (f g : FileState) →
+    entry_at old n ≡ Some f → new ≡ set_value (is_at (nat_cmp n)) old g → HearsReply heard loads drive r f was g is →
+        LeavesFile f g →
     HeardIn loads drive r n old was new is
 heard_in_table loads drive r n old new was is heard f g found put h l = λ e at_e w.
     let same : f ≡ e = cc (sym found ∙ at_e) in (
@@ -192,20 +204,18 @@ heard_in_table loads drive r n old new was is heard f g found put h l = λ e at_
       subst (λ (z : FileState). LeavesFile z g) same l,
     )
 
-pub heard_nowhere : (loads : List DriveLoad) (drive : ℕ) (r : Reply) (n : ℕ) (old new : Table) (was is : Effects) → entry_at old n ≡ None → HeardIn loads drive r n old was new is
-heard_nowhere loads drive r n old new was is none = λ e at_e w. absurd (no_entry (sym none ∙ at_e))
-  where
-    no_entry : {f : FileState} → None ≡ Some f → ⊥
-    no_entry e = absurd (cc e)
-
 -- ---- the step
 
 -- what comes of it, once its file heard it
-pub heard_step : (old : State) (files : BTreeMap ℕ FileState) (new : State) (m : Effects) (n : ℕ) (loads : List DriveLoad) (drive : ℕ) (r : Reply) (f g : FileState) (out : Step) →
+pub heard_step : (old : State) (files : BTreeMap ℕ FileState) (new : State) (m : Effects) (n : ℕ) (loads : List DriveLoad)
+    (drive : ℕ) (r : Reply) (f g : FileState) (out : Step) →
     AreEntries old.files.entries → entry_at old.files.entries n ≡ Some f →
-    ((s : Server) (chosen : List ℕ) → heard_at s chosen drive r (files_in old.files.entries) ≡ on_reply (at_file s chosen (file_of f)) drive r) →
-    files.entries ≡ set_value (is_at (nat_cmp n)) old.files.entries g → AreLoadsOf loads old.drives → HearsReply true loads drive r f (begins (server_of old)) g m → LeavesFile f g →
-    Settles (record old { files = files }) m new out → (chosen : List ℕ) × Did out (server_of new) (on_drive_reply (server_of old) chosen drive r)
+    ((s : Server) (chosen : List ℕ) →
+        heard_at s chosen drive r (files_in old.files.entries) ≡ on_reply (at_file s chosen (file_of f)) drive r) →
+    files.entries ≡ set_value (is_at (nat_cmp n)) old.files.entries g → AreLoadsOf loads old.drives →
+        HearsReply true loads drive r f (begins (server_of old)) g m → LeavesFile f g →
+    Settles (record old { files = files }) m new out →
+        (chosen : List ℕ) × Did out (server_of new) (on_drive_reply (server_of old) chosen drive r)
 unfolding on_drive_reply
 heard_step old files new m n loads drive r f g out good found at_it put_in loaded hears leaves fin =
     let s : Server = server_of old in
@@ -213,7 +223,8 @@ heard_step old files new m n loads drive r f g out good found at_it put_in loade
     let h = hears old.drives loaded in
     let chosen : List ℕ = h.0 in
     let heard : heard_at s chosen drive r s.files ≡ Some (at g m old.drives []) =
-    at_it s chosen ∙ ap (λ (cs : List ℕ). on_reply (at f (begins s) old.drives cs) drive r) (sym (append-nil chosen)) ∙ h.1 [] in (
+    at_it s chosen ∙ ap (λ (cs : List ℕ). on_reply (at f (begins s) old.drives cs) drive r) (sym (append-nil chosen)) ∙ h.1 [] in
+        (
       chosen,
       subst (λ (x : Option Going). Did out (server_of new) (by_heard s x)) (sym heard)
           (subst (λ (k : ℕ). Did out (server_of new) (step_at s k (at g m old.drives []))) (sym number)
@@ -221,8 +232,10 @@ heard_step old files new m n loads drive r f g out good found at_it put_in loade
     )
 
 -- the file that heard it, and what the step left of it
-pub heard_whole : (old : State) (files : BTreeMap ℕ FileState) (new : State) (m : Effects) (n : ℕ) (loads : List DriveLoad) (drive : ℕ) (r : Reply) (out : Step) →
-    IsGoodBut n old → AwaitedAt drive r n old.files.entries → AreLoadsOf loads old.drives → HeardIn loads drive r n old.files.entries (begins (server_of old)) files.entries m →
+pub heard_whole : (old : State) (files : BTreeMap ℕ FileState) (new : State) (m : Effects) (n : ℕ) (loads : List DriveLoad)
+    (drive : ℕ) (r : Reply) (out : Step) →
+    IsGoodBut n old → AwaitedAt drive r n old.files.entries → AreLoadsOf loads old.drives →
+        HeardIn loads drive r n old.files.entries (begins (server_of old)) files.entries m →
     Settles (record old { files = files }) m new out →
     ((chosen : List ℕ) × Did out (server_of new) (on_drive_reply (server_of old) chosen drive r)) × IsGoodBut n new
 heard_whole old files new m n loads drive r out good awaited loaded heard fin =
@@ -235,8 +248,10 @@ heard_whole old files new m n loads drive r out good awaited loaded heard fin =
     )
 
 -- none hears it, and nothing happens
-pub heard_none : (s : Server) (drive : ℕ) (r : Reply) (t : Table) (out : Step) → s.files ≡ files_in t → AwaitedNowhere drive r t → Did out s (still s) →
+pub heard_none : (s : Server) (drive : ℕ) (r : Reply) (t : Table) (out : Step) → s.files ≡ files_in t → AwaitedNowhere drive r t →
+    Did out s (still s) →
     (chosen : List ℕ) × Did out s (on_drive_reply s chosen drive r)
 unfolding on_drive_reply
 heard_none s drive r t out e nowhere did =
-    ([], subst (λ (x : Option Going). Did out s (by_heard s x)) (sym (ap (λ (fs : List File). heard_at s [] drive r fs) e ∙ nowhere s [])) did)
+    ([], subst (λ (x : Option Going). Did out s (by_heard s x))
+        (sym (ap (λ (fs : List File). heard_at s [] drive r fs) e ∙ nowhere s [])) did)

@@ -20,7 +20,8 @@ all_resent s = go s s.files
     go s (f ∷ fs) = ap (λ os. to_drives s.drives (awaited_by f.job) ++ os) (go s fs)
 
 -- what the job of the file that there is waits for
-pub waited_there : (t : Table) (n : ℕ) (f : FileState) → AreEntries t → entry_at t n ≡ Some f → waited f.job ≡ waited_of (file_at (files_in t) n)
+pub waited_there : (t : Table) (n : ℕ) (f : FileState) → AreEntries t → entry_at t n ≡ Some f →
+    waited f.job ≡ waited_of (file_at (files_in t) n)
 waited_there t n f a e = ap waited_of (sym (file_there t n f a e))
 
 pub none_waited : (t : Table) (n : ℕ) → AreEntries t → entry_at t n ≡ None → None ≡ waited_of (file_at (files_in t) n)

@@ -41,7 +41,8 @@ entries_behind (e ∷ es) n f a i = (a.0, entries_behind es n f a.1 i)
 abbrev pub AreAllBelow : Table → List ℕ → Type 0
 AreAllBelow t ks = AllByRecursion (AreBelow t) ks
 
-below_too : (t : Table) (n : ℕ) (f : FileState) (ks : List ℕ) → AreAllBelow t ks → AllByRecursion (λ k. nat_cmp n k ≡ Less) ks → AreAllBelow (t ++ (n, f) ∷ []) ks
+below_too : (t : Table) (n : ℕ) (f : FileState) (ks : List ℕ) → AreAllBelow t ks → AllByRecursion (λ k. nat_cmp n k ≡ Less) ks →
+    AreAllBelow (t ++ (n, f) ∷ []) ks
 below_too t n f [] a l = tt
 below_too t n f (k ∷ ks) a l = (both t a.0 l.0, below_too t n f ks a.1 l.1)
   where
@@ -55,9 +56,12 @@ abbrev pub with_files : List File → Round → Round
 with_files fs r = record r { files = fs ++ r.files }
 
 -- what was done so far, and what is left to be done
-pub record SoFar (fits : List Drive → Type 0) (step : Going → Going) (all : Table) (was : Effects) (done left : Table) (is : Effects) : Type 0 where
+pub record SoFar (fits : List Drive → Type 0) (step : Going → Going) (all : Table) (was : Effects) (done left : Table)
+    (is : Effects) : Type 0 where
   pub round : (ds : List Drive) → fits ds → (chosen : List ℕ)
-      × ((rest : List ℕ) → with_files (files_in done) (each_file step ds (files_in left) is rest) ≡ each_file step ds (files_in all) was (chosen ++ rest))
+      × ((rest : List ℕ) →
+          with_files (files_in done) (each_file step ds (files_in left) is rest) ≡ each_file step ds (files_in all) was
+              (chosen ++ rest))
   pub entries : AreEntries done
   pub others : AreEntries left
   pub below : AreAllBelow done (keys_of left)
@@ -67,7 +71,8 @@ none_below : (ks : List ℕ) → AreAllBelow [] ks
 none_below [] = tt
 none_below (k ∷ ks) = (tt, none_below ks)
 
-pub at_first : (fits : List Drive → Type 0) (step : Going → Going) (all : Table) (was : Effects) → AreEntries all → IsStrictlySortedBy nat_cmp (keys_of all) → SoFar fits step all was [] all was
+pub at_first : (fits : List Drive → Type 0) (step : Going → Going) (all : Table) (was : Effects) → AreEntries all →
+    IsStrictlySortedBy nat_cmp (keys_of all) → SoFar fits step all was [] all was
 at_first fits step all was a s = record {
   round = λ ds e. ([], λ rest. refl);
   entries = tt;
@@ -77,7 +82,8 @@ at_first fits step all was a s = record {
 }
 
 -- one file more
-one_more : (step : Going → Going) (ds : List Drive) (done left : Table) (n : ℕ) (f g : FileState) (was is : Effects) (chosen rest : List ℕ) →
+one_more : (step : Going → Going) (ds : List Drive) (done left : Table) (n : ℕ) (f g : FileState) (was is : Effects)
+    (chosen rest : List ℕ) →
     at g is ds rest ≡ step (at f was ds (chosen ++ rest)) →
     with_files (files_in (done ++ (n, g) ∷ [])) (each_file step ds (files_in left) is rest)
     ≡ with_files (files_in done) (each_file step ds (files_in ((n, f) ∷ left)) was (chosen ++ rest))
@@ -85,11 +91,13 @@ unfolding each_file
 one_more step ds done left n f g was is chosen rest e =
     let later : Round = each_file step ds (files_in left) is rest in
     let files : files_in (done ++ (n, g) ∷ []) ++ later.files ≡ files_in done ++ (file_of g ∷ later.files) =
-    ap (λ (fs : List File). fs ++ later.files) (map-append (λ (e : ℕ × FileState). file_of e.1) done ((n, g) ∷ [])) ∙ append_assoc (files_in done) (file_of g ∷ []) later.files in
+    ap (λ (fs : List File). fs ++ later.files) (map-append (λ (e : ℕ × FileState). file_of e.1) done ((n, g) ∷ []))
+        ∙ append_assoc (files_in done) (file_of g ∷ []) later.files in
     ap (λ (fs : List File). record later { files = fs }) files
     ∙ ap (λ (z : Going). with_files (files_in done) (then_files z (each_file step ds (files_in left) z.effects z.chosen))) e
 
-pub next_file : (fits : List Drive → Type 0) (step : Going → Going) (all : Table) (was : Effects) (done left : Table) (n : ℕ) (f g : FileState) (before behind : Effects) →
+pub next_file : (fits : List Drive → Type 0) (step : Going → Going) (all : Table) (was : Effects) (done left : Table) (n : ℕ)
+    (f g : FileState) (before behind : Effects) →
     SoFar fits step all was done ((n, f) ∷ left) before → DoesAt fits step f before g behind → IsEntry (n, g) →
     SoFar fits step all was (insert_entry nat_cmp done n g) left behind
 next_file fits step all was done left n f g before behind so does entry =
@@ -111,7 +119,8 @@ next_file fits step all was done left n f g before behind so does entry =
     })
 
 -- no file is left
-pub at_last : (fits : List Drive → Type 0) (step : Going → Going) (all : Table) (was : Effects) (done left : Table) (is : Effects) → left ≡ [] →
+pub at_last : (fits : List Drive → Type 0) (step : Going → Going) (all : Table) (was : Effects) (done left : Table)
+    (is : Effects) → left ≡ [] →
     SoFar fits step all was done left is → GoesRound fits step all was done is
 unfolding each_file
 at_last fits step all was done left is e so =
@@ -119,6 +128,7 @@ at_last fits step all was done left is e so =
     record {
       round = λ ds d.
           let h = last.round ds d in
-          (h.0, λ rest. ap (λ (fs : List File). record { files = fs; effects = is; chosen = rest }) (sym (append-nil (files_in done))) ∙ h.1 rest);
+          (h.0, λ rest. ap (λ (fs : List File). record { files = fs; effects = is; chosen = rest })
+              (sym (append-nil (files_in done))) ∙ h.1 rest);
       entries = so.entries;
     }

@@ -1,10 +1,9 @@
 -- Drives in zones: how many there are, what the placer is asked, and that a zone changes nothing else.
-use Rattle.std.specs.Prelude.{ℕ, Bool, true, false, List, [], ◌∷◌, Option, Some, None, ◌≡◌, ◌+◌, ◌*◌, ◌≤◌, ◌<◌, ◌==◌, ◌&&◌, ◌||◌, slice_get, slice_set, nat_lt, cond, length, count_by, is_none, is_some, All, IsTrue, Result, Ok, Err, IfOk, if◌then◌else◌, refl}
+use Rattle.std.specs.Prelude.{ℕ, Bool, true, false, List, [], ◌∷◌, Option, Some, None, ◌≡◌, ◌+◌, ◌*◌, ◌≤◌, ◌<◌, ◌==◌, ◌&&◌, ◌||◌, slice_get, slice_set, cond, length, count_by, is_none, is_some, All, IsTrue, Result, Ok, Err, IfOk, if◌then◌else◌, refl}
 use Rattle.std.specs.List.{list_any}
 use Rattle.std.specs.Result.{ForOk}
 use Rattle.std.proofs.Common.{arith, inl, inr, ap, sym, subst, ◌∙◌}
 use Rattle.std.proofs.lemmas.Bool.{cases_Bool, le-ltb, lt-ltb, ne_eqb}
-use Rattle.std.proofs.lemmas.Bool.Decides.{nat_tests}
 use Rattle.std.proofs.lemmas.List.Sums.{sum_by-cons}
 use Rattle.std.proofs.lemmas.List.{set-get_or}
 use Rattle.std.proofs.lemmas.Option.{get_or_from_slice_get}
@@ -33,13 +32,13 @@ use Rattle.file_jobs.specs.Placing.{AreLoadsOf}
 use Rattle.file_jobs.proofs.Placed.{tail_of}
 use Rattle.file_jobs.proofs.Zoned.{drive_online, online_alike}
 use Rattle.server_state.specs.Drives.{RiseFrom, AreDrives}
-use Rattle.layout_server.specs.Creating.{HasDrives}
 use Rattle.layout_server.specs.Zones.{is_in_zone, is_known, place_in}
 use Rattle.layout_server.proofs.PlacingLaws.{few_loads}
 
 -- ---- how many
 
-length_in_zone : (n : ℕ) (zone : Option ℕ) (rest : List InZone) → length (and_in_zone n zone rest) ≡ cond (is_some zone) 1 0 + length rest
+length_in_zone : (n : ℕ) (zone : Option ℕ) (rest : List InZone) →
+    length (and_in_zone n zone rest) ≡ cond (is_some zone) 1 0 + length rest
 length_in_zone n None rest = omega arith
 length_in_zone n (Some z) rest = omega arith
 
@@ -68,12 +67,14 @@ few_zoned (l ∷ ls) = one_of l.zone (few_zoned ls)
     one_of (Some z) few = omega (arith, few)
 
 -- none has the number, and so the drive before them hasn't
-none_before : (l : DriveLoad) (zone : Option ℕ) (rest : List ZoneLoad) (n : ℕ) → (l.drive == n) ≡ false → list_any (λ k. k.drive == n) rest ≡ false →
+none_before : (l : DriveLoad) (zone : Option ℕ) (rest : List ZoneLoad) (n : ℕ) → (l.drive == n) ≡ false →
+    list_any (λ k. k.drive == n) rest ≡ false →
     list_any (λ k. k.drive == n) (and_zoned l zone rest) ≡ false
 none_before l None rest n other none = none
 none_before l (Some z) rest n other none = rw other none
 
-none_below : (least n : ℕ) (ls : List DriveLoad) (ds : List Drive) → AreLoadsOf ls ds → RiseFrom least ds → n < least → list_any (λ k. k.drive == n) (zone_loads ls) ≡ false
+none_below : (least n : ℕ) (ls : List DriveLoad) (ds : List Drive) → AreLoadsOf ls ds → RiseFrom least ds → n < least →
+    list_any (λ k. k.drive == n) (zone_loads ls) ≡ false
 none_below least n [] ds e r low = refl
 none_below least n (l ∷ ls) [] e r low = absurd (cc e)
 none_below least n (l ∷ ls) (d ∷ ds) e r low =
@@ -81,7 +82,8 @@ none_below least n (l ∷ ls) (d ∷ ds) e r low =
     let other : (l.drive == n) ≡ false = rw t.0 (ne_eqb d.number n (λ same. absurd (omega (arith, same, low, r.0)))) in
     none_before l l.zone (zone_loads ls) n other (none_below (d.number + 1) n ls ds t.2 r.2 (omega (arith, low, r.0)))
 
-apart_before : (l : DriveLoad) (zone : Option ℕ) (rest : List ZoneLoad) → list_any (λ k. k.drive == l.drive) rest ≡ false → AreApart rest → AreApart (and_zoned l zone rest)
+apart_before : (l : DriveLoad) (zone : Option ℕ) (rest : List ZoneLoad) → list_any (λ k. k.drive == l.drive) rest ≡ false →
+    AreApart rest → AreApart (and_zoned l zone rest)
 unfolding AreApart
 apart_before l None rest none apart = apart
 apart_before l (Some z) rest none apart = (none, apart)
@@ -92,9 +94,11 @@ apart_from least [] ds e r = tt
 apart_from least (l ∷ ls) [] e r = absurd (cc e)
 apart_from least (l ∷ ls) (d ∷ ds) e r =
     let t = tail_of l ls d ds e in
-    apart_before l l.zone (zone_loads ls) (none_below (d.number + 1) l.drive ls ds t.2 r.2 (omega (arith, t.0))) (apart_from (d.number + 1) ls ds t.2 r.2)
+    apart_before l l.zone (zone_loads ls) (none_below (d.number + 1) l.drive ls ds t.2 r.2 (omega (arith, t.0)))
+        (apart_from (d.number + 1) ls ds t.2 r.2)
 
-pub can_spread : (ask : ZoneAsk) (ls : List DriveLoad) (ds : List Drive) → AreLoadsOf ls ds → All FitsZoneLoad (zone_loads ls) → FitsAsk ask → AreDrives ds →
+pub can_spread : (ask : ZoneAsk) (ls : List DriveLoad) (ds : List Drive) → AreLoadsOf ls ds → All FitsZoneLoad (zone_loads ls) →
+    FitsAsk ask → AreDrives ds →
     IsTrue (has_room ask (in_zones (online ds))) → CanSpread ask (zone_loads ls)
 can_spread ask ls ds e fits asked r room = record {
   few = omega (arith, few_zoned ls, few_loads ls ds e r);
@@ -107,10 +111,12 @@ can_spread ask ls ds e fits asked r room = record {
 -- what a checked map asks fits its types
 pub fits_ask : (m : RawMap) → IsChecked m → FitsAsk (ask_of m)
 fits_ask m c =
-    let lost : (parities m + 1) * replicas m ≤ group_width m * replicas m = mul-le (parities m + 1) (replicas m) (group_width m) (replicas m) (omega (arith, c.some_data)) (omega arith) in
+    let lost : (parities m + 1) * replicas m ≤ group_width m * replicas m =
+        mul-le (parities m + 1) (replicas m) (group_width m) (replicas m) (omega (arith, c.some_data)) (omega arith) in
     let wide : group_width m * replicas m ≤ positions m * replicas m =
     mul-le (group_width m) (replicas m) (positions m) (replicas m)
-    (omega (arith, whole_groups m c, mul-le 1 (group_width m) (groups m) (group_width m) (some_groups m c) (omega arith))) (omega arith) in
+    (omega (arith, whole_groups m c, mul-le 1 (group_width m) (groups m) (group_width m) (some_groups m c) (omega arith)))
+        (omega arith) in
     record {
       groups = omega (arith, div-le_self (positions m) (group_width m), few_positions m c);
       size = omega (arith, wide, whole_positions m c, c.few_components);
@@ -124,14 +130,17 @@ all_components m c =
     let grouped : groups m * (group_width m * replicas m) ≡ groups m * group_width m * replicas m = omega arith in
     grouped ∙ ap (λ (n : ℕ). n * replicas m) (whole_groups m c) ∙ whole_positions m c
 
-pub spread_if : (r : Result (List ℕ) Memory) (m : RawMap) (ls : List DriveLoad) (ds : List Drive) → AreLoadsOf ls ds → ForOk r (Spreads (ask_of m) (zone_loads ls)) →
+pub spread_if : (r : Result (List ℕ) Memory) (m : RawMap) (ls : List DriveLoad) (ds : List Drive) → AreLoadsOf ls ds →
+    ForOk r (Spreads (ask_of m) (zone_loads ls)) →
     IfOk r (λ chosen. drives_for true ds m chosen ≡ chosen)
 spread_if (Ok chosen) m ls ds e p =
-    let spread : spreads (ask_of m) (in_zones (online ds)) chosen ≡ true = subst (λ (ps : List InZone). spreads (ask_of m) ps chosen ≡ true) (online_alike ls ds e) (p chosen refl) in
+    let spread : spreads (ask_of m) (in_zones (online ds)) chosen ≡ true =
+        subst (λ (ps : List InZone). spreads (ask_of m) ps chosen ≡ true) (online_alike ls ds e) (p chosen refl) in
     rw spread refl
 spread_if (Err n) m ls ds e p = tt
 
-pub many_spread : (r : Result (List ℕ) Memory) (m : RawMap) (ls : List DriveLoad) → IsChecked m → ForOk r (Spreads (ask_of m) (zone_loads ls)) →
+pub many_spread : (r : Result (List ℕ) Memory) (m : RawMap) (ls : List DriveLoad) → IsChecked m →
+    ForOk r (Spreads (ask_of m) (zone_loads ls)) →
     IfOk r (λ chosen. length chosen ≡ m.comps)
 unfolding spreads
 many_spread (Ok chosen) m ls c p = same_number (length chosen) _ (first_true _ _ (p chosen refl)) ∙ all_components m c
@@ -139,39 +148,37 @@ many_spread (Err n) m ls c p = tt
 
 -- ---- whether there are drives
 
-pub has_drives : (zoned : Bool) (ds : List Drive) (m : RawMap) → nat_lt (usable zoned ds) m.comps ≡ false → by_zones m zoned ds ≡ None → HasDrives zoned ds m
-has_drives false ds m enough none = grind (arith, nat_tests, enough)
-has_drives true ds m enough none = elim (cases_Bool (has_room (ask_of m) (in_zones (online ds)))) [
-  | inl t ↦ t
-  | inr f ↦ absurd (cc (rw f at none))
-]
-
 -- whether the zones have room
 pub room_is : (m : RawMap) (ds : List Drive) → has_room (ask_of m) (in_zones (online ds)) ≡ is_none (by_zones m true ds)
 room_is m ds = elim (cases_Bool (has_room (ask_of m) (in_zones (online ds)))) [ inl t ↦ rw t refl | inr f ↦ rw f refl ]
 
 -- ---- why there is no file
 
-pub refused_map : (s : Server) (n : ℕ) (m : RawMap) (zoned : Bool) (e : MapErr) → is_some (file_at s.files n) ≡ false → checked_64 m ≡ Err e → refusal s n m zoned ≡ Some (BadMap e)
+pub refused_map : (s : Server) (n : ℕ) (m : RawMap) (zoned : Bool) (e : MapErr) → is_some (file_at s.files n) ≡ false →
+    checked_64 m ≡ Err e → refusal s n m zoned ≡ Some (BadMap e)
 unfolding refusal
 refused_map s n m zoned e new bad = rw (new, bad) refl
 
-pub refused_few : (s : Server) (n : ℕ) (m : RawMap) (zoned : Bool) → is_some (file_at s.files n) ≡ false → checked_64 m ≡ Ok m → usable zoned s.drives < m.comps →
+pub refused_few : (s : Server) (n : ℕ) (m : RawMap) (zoned : Bool) → is_some (file_at s.files n) ≡ false → checked_64 m ≡ Ok m →
+    usable zoned s.drives < m.comps →
     refusal s n m zoned ≡ Some (TooFewDrives (usable zoned s.drives))
 unfolding refusal
 refused_few s n m zoned new good few = rw (new, good, lt-ltb (usable zoned s.drives) m.comps few) refl
 
-not_spread : (m : RawMap) (zoned : Bool) (ds : List Drive) → is_none (by_zones m zoned ds) ≡ false → by_zones m zoned ds ≡ Some (NoSpread (usable zoned ds))
+not_spread : (m : RawMap) (zoned : Bool) (ds : List Drive) → is_none (by_zones m zoned ds) ≡ false →
+    by_zones m zoned ds ≡ Some (NoSpread (usable zoned ds))
 not_spread m false ds none = absurd (cc none)
 not_spread m true ds none = elim (cases_Bool (has_room (ask_of m) (in_zones (online ds)))) [
   | inl t ↦ absurd (cc (rw t at none))
   | inr f ↦ rw f refl
 ]
 
-pub refused_spread : (s : Server) (n : ℕ) (m : RawMap) (zoned : Bool) → is_some (file_at s.files n) ≡ false → checked_64 m ≡ Ok m → m.comps ≤ usable zoned s.drives →
+pub refused_spread : (s : Server) (n : ℕ) (m : RawMap) (zoned : Bool) → is_some (file_at s.files n) ≡ false →
+    checked_64 m ≡ Ok m → m.comps ≤ usable zoned s.drives →
     is_none (by_zones m zoned s.drives) ≡ false → refusal s n m zoned ≡ Some (NoSpread (usable zoned s.drives))
 unfolding refusal
-refused_spread s n m zoned new good enough none = rw (new, good, le-ltb (usable zoned s.drives) m.comps enough) (not_spread m zoned s.drives none)
+refused_spread s n m zoned new good enough none =
+    rw (new, good, le-ltb (usable zoned s.drives) m.comps enough) (not_spread m zoned s.drives none)
 
 -- ---- a drive that is put into a zone
 
@@ -195,7 +202,8 @@ put_nowhere least (d ∷ ds) n z r low =
 in_none : (least : ℕ) (ds : List Drive) (n : ℕ) → RiseFrom least ds → n < least → is_in_zone n ds ≡ false
 in_none least [] n r low = refl
 in_none least (d ∷ ds) n r low =
-    rw (ne_eqb d.number n (λ same. absurd (omega (arith, same, low, r.0)))) (in_none (d.number + 1) ds n r.2 (omega (arith, low, r.0)))
+    rw (ne_eqb d.number n (λ same. absurd (omega (arith, same, low, r.0))))
+        (in_none (d.number + 1) ds n r.2 (omega (arith, low, r.0)))
 
 pub known_inside : (ds : List Drive) (n : ℕ) → is_known n ds ≡ true → place_in ds n < length ds
 unfolding place_in
@@ -209,7 +217,8 @@ same_drive : (x y : Drive) → Some x ≡ Some y → x ≡ y
 same_drive x y e = cc e
 
 -- the drive of that number is the one that is in a zone, or isn't
-pub in_zone_at : (least : ℕ) (ds : List Drive) (n : ℕ) (d : Drive) → RiseFrom least ds → slice_get ds (place_in ds n) ≡ Some d → is_in_zone n ds ≡ is_some d.zone
+pub in_zone_at : (least : ℕ) (ds : List Drive) (n : ℕ) (d : Drive) → RiseFrom least ds → slice_get ds (place_in ds n) ≡ Some d →
+    is_in_zone n ds ≡ is_some d.zone
 unfolding place_in
 in_zone_at least [] n d r g = absurd (cc g)
 in_zone_at least (e ∷ ds) n d r g = elim (cases_Bool (e.number == n)) [
@@ -242,11 +251,16 @@ new_zone : (z : ℕ) (zone : Option ℕ) → is_some zone ≡ false → zone_or 
 new_zone z None none = refl
 new_zone z (Some y) none = absurd (cc none)
 
-pub stays_at : (ds : List Drive) (n z : ℕ) (d : Drive) → AreDrives ds → slice_get ds (place_in ds n) ≡ Some d → is_some d.zone ≡ true → put_in_zone ds n z ≡ ds
+pub stays_at : (ds : List Drive) (n z : ℕ) (d : Drive) → AreDrives ds → slice_get ds (place_in ds n) ≡ Some d →
+    is_some d.zone ≡ true → put_in_zone ds n z ≡ ds
 stays_at ds n z d r g some =
     put_at 0 ds n z d r g ∙ ap (λ (o : Option ℕ). slice_set ds (place_in ds n) (record d { zone = o })) (kept_zone z d.zone some)
-    ∙ ap (λ (e : Drive). slice_set ds (place_in ds n) e) (sym (get_or_from_slice_get ds (place_in ds n) d d g)) ∙ set-get_or ds (place_in ds n) d
+    ∙ ap (λ (e : Drive). slice_set ds (place_in ds n) e) (sym (get_or_from_slice_get ds (place_in ds n) d d g))
+        ∙ set-get_or ds (place_in ds n) d
 
-pub goes_at : (ds : List Drive) (n z : ℕ) (d : Drive) → AreDrives ds → slice_get ds (place_in ds n) ≡ Some d → is_some d.zone ≡ false →
+pub goes_at : (ds : List Drive) (n z : ℕ) (d : Drive) → AreDrives ds → slice_get ds (place_in ds n) ≡ Some d →
+    is_some d.zone ≡ false →
     slice_set ds (place_in ds n) (record d { zone = Some z }) ≡ put_in_zone ds n z
-goes_at ds n z d r g none = sym (put_at 0 ds n z d r g ∙ ap (λ (o : Option ℕ). slice_set ds (place_in ds n) (record d { zone = o })) (new_zone z d.zone none))
+goes_at ds n z d r g none =
+    sym (put_at 0 ds n z d r g
+    ∙ ap (λ (o : Option ℕ). slice_set ds (place_in ds n) (record d { zone = o })) (new_zone z d.zone none))

@@ -26,7 +26,8 @@ DoesAt fits step old was new is = (ds : List Drive) → fits ds → Asks step ds
 
 -- whichever drives fit, the files and what was done are those of the round, for some answers of the placer; the files
 -- stand at their numbers
-pub record GoesRound (fits : List Drive → Type 0) (step : Going → Going) (old : Table) (was : Effects) (new : Table) (is : Effects)
+pub record GoesRound (fits : List Drive → Type 0) (step : Going → Going) (old : Table) (was : Effects) (new : Table)
+    (is : Effects)
     : Type 0 where
   pub round : (ds : List Drive) → fits ds → (chosen : List ℕ)
       × ((rest : List ℕ) → record { files = files_in new; effects = is; chosen = rest }

@@ -9,7 +9,6 @@ use Rattle.world_history.specs.declared.messages.Sent.{Sent}
 use Rattle.world_history.specs.State.{World}
 use Rattle.world_history.specs.Moves.{Action, Delivers, TimesOut, Pends}
 use Rattle.world_history.specs.Plans.{Plan, Prompt, due, went_on, due_pending, quiet_of}
-use Rattle.world_history.specs.Refusals.{refusal}
 use Rattle.world_history.specs.Runs.{world_after, lines_of, IsOver, Carries}
 use Rattle.world_history.specs.History.{Goes, Stops, BreaksOff, OneEventMore, FullIsCut}
 use Rattle.world_history.specs.History.Begins.{Part}
@@ -21,15 +20,16 @@ use Rattle.layout_world.specs.declared.parties.Parties.{Parties}
 use Rattle.layout_world.specs.State.{WorldState, Settled, Shows}
 use Rattle.layout_world.specs.Going.{Moves, MovesIf, Ended, Filled, Broken, Comes, Finishes, FinishesSeen, Delivering, Quiets, behind}
 use Rattle.layout_world.specs.Acting.{Grows}
-use Rattle.layout_world.specs.Refusing.{IsRefusal}
 use Rattle.layout_world.specs.Steps.{Steps}
 use Rattle.layout_world.proofs.Settling.{settled_more, lowest_from, settled_end}
 use Rattle.layout_world.proofs.Going.{comes}
 
 -- ---- by the result
 
-pub quiets_err : (w : World) (e : Event) (before : List Line) (watch : WatchState) (first : ℕ) (client : Option ℕ) (plan : Plan) (p : Parties) (now : WatchState)
-    (after : List Line) (x : WorldErr) → Comes w e before watch plan p now after (Err x) → Quiets w e before watch first client p now after (Err x)
+pub quiets_err : (w : World) (e : Event) (before : List Line) (watch : WatchState) (first : ℕ) (client : Option ℕ) (plan : Plan)
+    (p : Parties) (now : WatchState)
+    (after : List Line) (x : WorldErr) → Comes w e before watch plan p now after (Err x) →
+        Quiets w e before watch first client p now after (Err x)
 quiets_err w e before watch first client plan p now after KeptFull c = c
 quiets_err w e before watch first client plan p now after Memory c = c
 quiets_err w e before watch first client plan p now after NoName c = absurd c
@@ -41,7 +41,8 @@ quiets_err w e before watch first client plan p now after Down c = absurd c
 quiets_err w e before watch first client plan p now after Running c = absurd c
 quiets_err w e before watch first client plan p now after (NoMessage k) c = absurd c
 
-pub finishes_err : (w : World) (e : Event) (before : List Line) (watch : WatchState) (plan : Plan) (p : Parties) (now : WatchState) (after : List Line)
+pub finishes_err : (w : World) (e : Event) (before : List Line) (watch : WatchState) (plan : Plan) (p : Parties)
+    (now : WatchState) (after : List Line)
     (x : WorldErr) → Comes w e before watch plan p now after (Err x) → Finishes w e before watch p now after (Err x)
 finishes_err w e before watch plan p now after KeptFull c = c
 finishes_err w e before watch plan p now after Memory c = c
@@ -54,8 +55,10 @@ finishes_err w e before watch plan p now after Down c = absurd c
 finishes_err w e before watch plan p now after Running c = absurd c
 finishes_err w e before watch plan p now after (NoMessage k) c = absurd c
 
-pub finishes_quiet : (w : World) (e : Event) (before : List Line) (watch : WatchState) (first : ℕ) (client : Option ℕ) (p : Parties) (now : WatchState)
-    (after : List Line) (x : WorldErr) → Quiets w e before watch first client p now after (Err x) → Finishes w e before watch p now after (Err x)
+pub finishes_quiet : (w : World) (e : Event) (before : List Line) (watch : WatchState) (first : ℕ) (client : Option ℕ)
+    (p : Parties) (now : WatchState)
+    (after : List Line) (x : WorldErr) → Quiets w e before watch first client p now after (Err x) →
+        Finishes w e before watch p now after (Err x)
 finishes_quiet w e before watch first client p now after KeptFull c = c
 finishes_quiet w e before watch first client p now after Memory c = c
 finishes_quiet w e before watch first client p now after NoName c = absurd c
@@ -68,15 +71,19 @@ finishes_quiet w e before watch first client p now after Running c = absurd c
 finishes_quiet w e before watch first client p now after (NoMessage k) c = absurd c
 
 -- where nothing is due behind a move in any world
-pub finishes_over : (w : World) (e : Event) (before : List Line) (watch : WatchState) (plan : Plan) (p : Parties) (now : WatchState) (after : List Line)
+pub finishes_over : (w : World) (e : Event) (before : List Line) (watch : WatchState) (plan : Plan) (p : Parties)
+    (now : WatchState) (after : List Line)
     (r : Result (Unit {0}) WorldErr) → ((v : World) → IsOver plan v) → Comes w e before watch plan p now after r
     → Finishes w e before watch p now after r
-finishes_over w e before watch plan p now after (Ok u) over c = record { plan = plan; far = c; over = over (world_after w c.moves) }
+finishes_over w e before watch plan p now after (Ok u) over c =
+    record { plan = plan; far = c; over = over (world_after w c.moves) }
 finishes_over w e before watch plan p now after (Err x) over c = finishes_err w e before watch plan p now after x c
 
 -- ---- what is due
 
-pub due_first : PendingIsShown → (w : World) (e : Event) (before : List Line) (watch : WatchState) (first : ℕ) (client : Option ℕ) (p : Parties) (now : WatchState)
+pub due_first : PendingIsShown →
+    (w : World) (e : Event) (before : List Line) (watch : WatchState) (first : ℕ) (client : Option ℕ) (p : Parties)
+        (now : WatchState)
     (next : ℕ) (lines : List Line) (d : Delivering w e before watch first client p now next lines) (number : ℕ)
     → PendingIs next p.network.messages (Some number)
     → due (behind (Prompt first client)) (world_after w d.far.moves) ≡ Some (Delivers number)
@@ -85,7 +92,9 @@ due_first law w e before watch first client p now next lines d number h =
     ap (λ (r : Option ℕ). due_pending now client r) (law p.network now first (Some number) d.far.shows.network
     (lowest_from first next p.network.messages (Some number) d.settled h))
 
-pub due_quiet : PendingIsShown → (w : World) (e : Event) (before : List Line) (watch : WatchState) (first : ℕ) (client : Option ℕ) (p : Parties) (now : WatchState)
+pub due_quiet : PendingIsShown →
+    (w : World) (e : Event) (before : List Line) (watch : WatchState) (first : ℕ) (client : Option ℕ) (p : Parties)
+        (now : WatchState)
     (lines : List Line) (d : Delivering w e before watch first client p now (length p.network.messages) lines)
     → due (behind (Prompt first client)) (world_after w d.far.moves) ≡ quiet_of (world_after w d.far.moves) client
 due_quiet law w e before watch first client p now lines d =
@@ -93,7 +102,8 @@ due_quiet law w e before watch first client p now lines d =
     ap (λ (r : Option ℕ). due_pending now client r)
     (law p.network now first None d.far.shows.network d.settled.none)
 
-pub delivered_all : (w : World) (e : Event) (before : List Line) (watch : WatchState) (first : ℕ) (client : Option ℕ) (p : Parties) (now : WatchState) (next : ℕ)
+pub delivered_all : (w : World) (e : Event) (before : List Line) (watch : WatchState) (first : ℕ) (client : Option ℕ)
+    (p : Parties) (now : WatchState) (next : ℕ)
     (lines : List Line) → Delivering w e before watch first client p now next lines
     → NonePending next (length p.network.messages) p.network.messages
     → Delivering w e before watch first client p now (length p.network.messages) lines
@@ -103,7 +113,8 @@ delivered_all w e before watch first client p now next lines d h = record {
 }
 
 -- the parties remember what is settled
-pub remembered : (w : World) (e : Event) (before : List Line) (watch : WatchState) (first : ℕ) (client : Option ℕ) (p q : Parties) (now : WatchState)
+pub remembered : (w : World) (e : Event) (before : List Line) (watch : WatchState) (first : ℕ) (client : Option ℕ) (p q : Parties)
+    (now : WatchState)
     (lines : List Line) → Delivering w e before watch first client p now (length p.network.messages) lines
     → q.network ≡ p.network
     → ((v : World) → Settled first (length p.network.messages) p.network.messages → Shows p v → Shows q v)
@@ -122,16 +133,19 @@ remembered w e before watch first client p q now lines d n keeps = record {
 }
 
 -- what is due of a call was done
-quiet_comes : (w : World) (e : Event) (before : List Line) (watch : WatchState) (first : ℕ) (client : Option ℕ) (p q : Parties) (now next : WatchState)
+quiet_comes : (w : World) (e : Event) (before : List Line) (watch : WatchState) (first : ℕ) (client : Option ℕ) (p q : Parties)
+    (now next : WatchState)
     (lines after : List Line) (r : Result (Unit {0}) WorldErr)
     (d : Delivering w e before watch first client p now (length p.network.messages) lines) (action : Action)
     → due (behind (Prompt first client)) (world_after w d.far.moves) ≡ Some action
-    → Moves action p q now next lines after r → Comes w e before watch (went_on (behind (Prompt first client)) action) q next after r
+    → Moves action p q now next lines after r →
+        Comes w e before watch (went_on (behind (Prompt first client)) action) q next after r
 quiet_comes w e before watch first client p q now next lines after r d action n m =
     comes w e before watch (behind (Prompt first client)) p now lines d.far action q next after r n
     (m (world_after w d.far.moves) d.far.shows)
 
-pub quiet_err : (w : World) (e : Event) (before : List Line) (watch : WatchState) (first : ℕ) (client : Option ℕ) (p q : Parties) (now next : WatchState)
+pub quiet_err : (w : World) (e : Event) (before : List Line) (watch : WatchState) (first : ℕ) (client : Option ℕ) (p q : Parties)
+    (now next : WatchState)
     (lines after : List Line) (x : WorldErr)
     (d : Delivering w e before watch first client p now (length p.network.messages) lines) (o : Option Action)
     → due (behind (Prompt first client)) (world_after w d.far.moves) ≡ o
@@ -141,7 +155,8 @@ quiet_err w e before watch first client p q now next lines after x d (Some actio
     finishes_err w e before watch (went_on (behind (Prompt first client)) action) q next after x
     (quiet_comes w e before watch first client p q now next lines after (Err x) d action n m)
 
-pub quiet_over : (w : World) (e : Event) (before : List Line) (watch : WatchState) (first : ℕ) (client : Option ℕ) (p q : Parties) (now next : WatchState)
+pub quiet_over : (w : World) (e : Event) (before : List Line) (watch : WatchState) (first : ℕ) (client : Option ℕ) (p q : Parties)
+    (now next : WatchState)
     (lines after : List Line) (d : Delivering w e before watch first client p now (length p.network.messages) lines)
     → due (behind (Prompt first client)) (world_after w d.far.moves) ≡ None
     → MovesIf None p q now next lines after (Ok tt) → Finishes w e before watch q next after (Ok tt)
@@ -152,7 +167,8 @@ quiet_over w e before watch first client p q now next lines after d n m =
     (subst (λ (x : WatchState). Finishes w e before watch p x after (Ok tt)) (sym m.1)
     (subst (λ (x : List Line). Finishes w e before watch p now x (Ok tt)) (sym m.2) here))
 
-pub quiet_pends : (w : World) (e : Event) (before : List Line) (watch : WatchState) (first : ℕ) (client : Option ℕ) (p q : Parties) (now next : WatchState)
+pub quiet_pends : (w : World) (e : Event) (before : List Line) (watch : WatchState) (first : ℕ) (client : Option ℕ)
+    (p q : Parties) (now next : WatchState)
     (lines after : List Line) (d : Delivering w e before watch first client p now (length p.network.messages) lines) (c : ℕ)
     → due (behind (Prompt first client)) (world_after w d.far.moves) ≡ Some (Pends c)
     → Moves (Pends c) p q now next lines after (Ok tt) → Finishes w e before watch q next after (Ok tt)
@@ -160,7 +176,8 @@ quiet_pends w e before watch first client p q now next lines after d c n m =
     finishes_over w e before watch (went_on (behind (Prompt first client)) (Pends c)) q next after (Ok tt) (λ v. refl)
     (quiet_comes w e before watch first client p q now next lines after (Ok tt) d (Pends c) n m)
 
-pub quiet_next : (w : World) (e : Event) (before : List Line) (watch : WatchState) (first : ℕ) (client : Option ℕ) (p q : Parties) (now next : WatchState)
+pub quiet_next : (w : World) (e : Event) (before : List Line) (watch : WatchState) (first : ℕ) (client : Option ℕ) (p q : Parties)
+    (now next : WatchState)
     (lines after : List Line) (d : Delivering w e before watch first client p now (length p.network.messages) lines) (c k : ℕ)
     → due (behind (Prompt first client)) (world_after w d.far.moves) ≡ Some (TimesOut c k)
     → Moves (TimesOut c k) p q now next lines after (Ok tt) → Grows p.network.messages q.network.messages
@@ -249,17 +266,3 @@ steps more cut w e before after old new (Ok u) fits h = record {
   moments = h.2 ∙ h.1.far.sees.1;
 }
 steps more cut w e before after old new (Err x) fits h = steps_err cut w e before after old new x old.watch h.0 h.1
-
--- a refusal changes nothing
-pub refuses : (w : World) (e : Event) (lines : List Line) (s : WorldState) (x : WorldErr) → IsRefusal x
-    → Some x ≡ refusal w e → Steps w e lines lines s s (Err x)
-refuses w e lines s KeptFull i c = absurd i
-refuses w e lines s Memory i c = absurd i
-refuses w e lines s NoName i c = record { cause_is = sym c; state = refl; lines = refl }
-refuses w e lines s Taken i c = record { cause_is = sym c; state = refl; lines = refl }
-refuses w e lines s Dead i c = record { cause_is = sym c; state = refl; lines = refl }
-refuses w e lines s Alive i c = record { cause_is = sym c; state = refl; lines = refl }
-refuses w e lines s NotKept i c = record { cause_is = sym c; state = refl; lines = refl }
-refuses w e lines s Down i c = record { cause_is = sym c; state = refl; lines = refl }
-refuses w e lines s Running i c = record { cause_is = sym c; state = refl; lines = refl }
-refuses w e lines s (NoMessage k) i c = record { cause_is = sym c; state = refl; lines = refl }

@@ -30,19 +30,22 @@ use Rattle.layout_world.specs.Machine.{IsWell, told_back}
 never : HasErrCause 0 0 DiskFault → ⊥
 never cause = let rose = cause.failed refl in omega (arith, rose)
 
-pub none_was_refused : (P : ℕ → Type 0) (e : JournalErr) → NotEmptySays P e → ((size : ℕ) → P size → ⊥) → HasErrCause 0 0 e → e ≡ Memory
+pub none_was_refused : (P : ℕ → Type 0) (e : JournalErr) → NotEmptySays P e → ((size : ℕ) → P size → ⊥) → HasErrCause 0 0 e →
+    e ≡ Memory
 none_was_refused P (NotEmpty size) says none cause = absurd (none size says)
 none_was_refused P DiskFault says none cause = absurd (never cause)
 none_was_refused P (NotAJournal at) says none cause = absurd says
 none_was_refused P Memory says none cause = refl
 
-pub all_was_taken : (P : ℕ → Type 0) (e : JournalErr) → NotAJournalSays P e → ((at : ℕ) → P at → ⊥) → HasErrCause 0 0 e → e ≡ Memory
+pub all_was_taken : (P : ℕ → Type 0) (e : JournalErr) → NotAJournalSays P e → ((at : ℕ) → P at → ⊥) → HasErrCause 0 0 e →
+    e ≡ Memory
 all_was_taken P (NotEmpty size) says none cause = absurd says
 all_was_taken P DiskFault says none cause = absurd (never cause)
 all_was_taken P (NotAJournal at) says none cause = absurd (none at says)
 all_was_taken P Memory says none cause = refl
 
-pub is_want : {T : Type 0} (e : JournalErr) (r : Result T JournalErr) → r ≡ Err e → IsOfDisk e → HasJournalCause 0 0 r → e ≡ Memory
+pub is_want : {T : Type 0} (e : JournalErr) (r : Result T JournalErr) → r ≡ Err e → IsOfDisk e → HasJournalCause 0 0 r →
+    e ≡ Memory
 is_want (NotEmpty size) r is of cause = absurd of
 is_want DiskFault r is of cause = let rose = cause.failed is in absurd (omega (arith, rose))
 is_want (NotAJournal at) r is of cause = absurd of
@@ -69,28 +72,35 @@ module _ (k : Ghosts Medium) where
   told_again (file.NoSpread online) = refl
   told_again file.Memory = refl
 
-  refused_so : (old new : JournaledServer Medium) (n : ℕ) (m : RawMap) (zoned : Bool) (e : JournalFileErr) → IsRefused old new n m zoned e
+  refused_so : (old new : JournaledServer Medium) (n : ℕ) (m : RawMap) (zoned : Bool) (e : JournalFileErr) →
+      IsRefused old new n m zoned e
       → layout.IsRefused n m zoned (core_of old) (core_of new) (told_back e)
   refused_so old new n m zoned e r = λ other.
       (r.reason, r.refused, ap (λ (x : JournalFileErr). told_back x) r.told ∙ told_again (cause_of r.reason), r.stays.server)
 
   -- a call that makes no file leaves a journal, and says what a server without one says
-  pub refused_back : (old new : JournaledServer Medium) (n : ℕ) (m : RawMap) (tag : ℕ) (zoned : Bool) (e : JournalFileErr) → IsKept k old
+  pub refused_back : (old new : JournaledServer Medium) (n : ℕ) (m : RawMap) (tag : ℕ) (zoned : Bool) (e : JournalFileErr) →
+      IsKept k old
       → MakesNot k old new n m tag zoned e → layout.IsRefused n m zoned (core_of old) (core_of new) (told_back e) × IsWell k new
-  refused_back old new n m tag zoned made.FileExists kept h = (refused_so old new n m zoned made.FileExists h, well_still old new kept h.stays)
-  refused_back old new n m tag zoned (made.BadMap why) kept h = (refused_so old new n m zoned (made.BadMap why) h, well_still old new kept h.stays)
+  refused_back old new n m tag zoned made.FileExists kept h =
+      (refused_so old new n m zoned made.FileExists h, well_still old new kept h.stays)
+  refused_back old new n m tag zoned (made.BadMap why) kept h =
+      (refused_so old new n m zoned (made.BadMap why) h, well_still old new kept h.stays)
   refused_back old new n m tag zoned (made.TooFewDrives online) kept h =
       (refused_so old new n m zoned (made.TooFewDrives online) h, well_still old new kept h.stays)
-  refused_back old new n m tag zoned (made.NoSpread online) kept h = (refused_so old new n m zoned (made.NoSpread online) h, well_still old new kept h.stays)
+  refused_back old new n m tag zoned (made.NoSpread online) kept h =
+      (refused_so old new n m zoned (made.NoSpread online) h, well_still old new kept h.stays)
   refused_back old new n m tag zoned (made.Journal e) kept h = ((λ other. absurd (other refl)), well_over new h.1)
 
 -- ---- what is told of a server that is down
 
 -- a crash leaves what is kept of each file
-pub kept_there : (fs : List File) (n : ℕ) → option_map (λ (f : File). f.kept) (file_at (map crashed_file fs) n) ≡ option_map (λ (f : File). f.kept) (file_at fs n)
+pub kept_there : (fs : List File) (n : ℕ) →
+    option_map (λ (f : File). f.kept) (file_at (map crashed_file fs) n) ≡ option_map (λ (f : File). f.kept) (file_at fs n)
 unfolding file_at
 kept_there [] n = refl
-kept_there (f ∷ fs) n = elim (cases_Bool (f.kept.number == n)) [ inl here ↦ rw here refl | inr elsewhere ↦ rw elsewhere (kept_there fs n) ]
+kept_there (f ∷ fs) n =
+    elim (cases_Bool (f.kept.number == n)) [ inl here ↦ rw here refl | inr elsewhere ↦ rw elsewhere (kept_there fs n) ]
 
 -- where there is no server there is no file
 pub none_there : (n : ℕ) → None ≡ option_map (λ (f : File). f.kept) (file_at (new_server []).files n)

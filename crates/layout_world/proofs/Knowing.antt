@@ -1,8 +1,6 @@
 -- A drive that the server is to know.
 use Rattle.std.proofs.Common.{◌≡◌, ◌==◌, ℕ, Bool, List, [], ◌∷◌, true, false, nat_eq, find, is_some, inl, inr, refl, sym, ap}
 use Rattle.std.specs.List.{list_any}
-use Rattle.std.proofs.Common.{arith}
-use Rattle.std.proofs.lemmas.Bool.Decides.{nat_tests}
 use Rattle.std.proofs.lemmas.Bool.{cases_Bool, or_parts}
 use Rattle.osd_lists.proofs.Tests.{differ}
 use Rattle.server_rules.specs.declared.server.Drive.{Drive}
@@ -18,9 +16,6 @@ use Rattle.world_network.specs.declared.acts.Act.{Act}
 use Rattle.world_network.specs.Acts.{nothing}
 use Rattle.layout_world.specs.ServerActing.{Adds, Does}
 use Rattle.layout_world.proofs.ServerActed.{zoned}
-
-same_number : (n : ℕ) → nat_eq n n ≡ true
-same_number n = grind (arith, nat_tests)
 
 -- a number that no drive has is a new one
 pub new_by : (ds : List Drive) (number : ℕ) → list_any (λ d. nat_eq d.number number) ds ≡ false → IsNew number ds

@@ -3,7 +3,6 @@ mod Shown
 mod Performing
 mod Acted
 mod Delivered
-mod ServerHanded
 mod Moved
 mod Going
 mod Finishing

@@ -117,7 +117,8 @@ pub made_by : (old : WorldServerState) (core mid : Server) (n file : ℕ) (read 
 made_by old core mid n file read raw tag zoned out new act k e f g m h =
     made old m.0 file raw tag zoned m.1 new act (sym k) (rw (← g, ← f, ← e) m.2) (h m.1 m.3)
 
-pub refused_by : (old : WorldServerState) (core mid : Server) (n file : ℕ) (read raw : RawMap) (tag : ℕ) (zoned : Bool) (why : FileErr)
+pub refused_by : (old : WorldServerState) (core mid : Server) (n file : ℕ) (read raw : RawMap) (tag : ℕ) (zoned : Bool)
+    (why : FileErr)
     (new : WorldServerState) (act : Act) → true ≡ has_algorithm raw → core ≡ old.state → n ≡ file → read ≡ raw
     → IsRefused n read zoned core mid why → IsRefusedAs file why act → new.state ≡ mid → new.mended ≡ old.mended
     → Makes old file raw tag zoned new act

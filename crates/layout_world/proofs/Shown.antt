@@ -45,19 +45,6 @@ shows_server p x w s = record {
   mended = refl;
 }
 
-pub shows_clock : (p : Parties) (time : ℕ) (w : World) → Shows p w
-    → Shows (record p { clock = time }) (record w { clock = time })
-shows_clock p time w s = record {
-  drives = s.drives;
-  clients = s.clients;
-  server = s.server;
-  clock = refl;
-  down = s.down;
-  network = s.network;
-  settled = s.settled;
-  mended = s.mended;
-}
-
 pub shows_down : (p : Parties) (b : Bool) (w : World) → Shows p w → Shows (record p { down = b }) (with_down w b)
 shows_down p b w s = record {
   drives = s.drives;

@@ -1,9 +1,8 @@
 -- The records of a piece, byte by byte.
-use Rattle.std.proofs.Common.{◌≡◌, ℕ, ◌<◌, Bool, true, false, List, [], ◌∷◌, ◌++◌, length, take, drop, Option, None, Some, Ok, Err, refl, sym, ap, subst, ◌∙◌, append_assoc}
-use Rattle.std.proofs.lemmas.List.{append-nil, take-append-drop}
+use Rattle.std.proofs.Common.{◌≡◌, ℕ, ◌<◌, Bool, true, false, List, [], ◌∷◌, ◌++◌, length, take, drop, Option, None, Some, Ok, refl, sym, ap, subst, ◌∙◌, append_assoc}
+use Rattle.std.proofs.lemmas.List.{take-append-drop}
 use Rattle.std.specs.Prelude.{IsSome}
 use Rattle.osd_bytes.specs.Connections.{Talk, Traffic, Comes, Puts, Takes, after_putting, after_taking, newest, with_newest}
-use Rattle.osd_bytes.specs.declared.source.Fault.{Fault}
 use Rattle.osd_bytes.proofs.ExchangeLaws.{newest-last, with_newest-last}
 use Rattle.osd_bytes.proofs.EndLaws.{newest-with}
 use Rattle.osd_bytes.specs.Inboxes.{IsAtEnd, WasPut, WasTaken, begun_or_broken, with_newest_talk}
@@ -23,9 +22,11 @@ piece-reads before piece given records b e h reads =
 
 -- ---- what is taken
 
-taking-last : (talks : List Talk) (t : Talk) (n : ℕ) → after_taking n (talks ++ t ∷ []) ≡ talks ++ record t { left = drop n t.left } ∷ []
+taking-last : (talks : List Talk) (t : Talk) (n : ℕ) →
+    after_taking n (talks ++ t ∷ []) ≡ talks ++ record t { left = drop n t.left } ∷ []
 taking-last talks t n =
-    ap (λ (u : Talk). with_newest (talks ++ t ∷ []) (record u { left = drop n u.left })) (newest-last talks t) ∙ with_newest-last talks t (record t { left = drop n t.left })
+    ap (λ (u : Talk). with_newest (talks ++ t ∷ []) (record u { left = drop n u.left })) (newest-last talks t)
+        ∙ with_newest-last talks t (record t { left = drop n t.left })
 
 pub taken-nil : (o : Option Traffic) → WasTaken o o []
 taken-nil o = record { none = λ e. e; some = λ a talks t e. (t.left, refl, e) }
@@ -45,40 +46,28 @@ taken-piece o n buf k r = record {
           next.2 ∙ ap (λ (ts : List Talk). Some (record a { accepted = ts })) (taking-last talks t k),
         )
 
-pub taken-refused : (o n : Option Traffic) (buf : List ℕ) (f : Fault) → Takes o n (Err f) buf → WasTaken o n []
-taken-refused None n buf f r = rw r (taken-nil None)
-taken-refused (Some a) n buf f r = rw r (taken-nil (Some a))
-
 -- where nothing came, nothing more comes
 pub taken-end : (o n : Option Traffic) (buf : List ℕ) → 0 < length buf → Takes o n (Ok 0) buf → IsAtEnd n
 taken-end None n buf room r = rw r tt
 taken-end (Some a) n buf room r =
-    rw r.2 (ap (λ (t : Talk). t.left) (newest-with a.accepted (record (newest a.accepted) { left = drop 0 (newest a.accepted).left }) r.0) ∙ r.1.2 refl room)
+    rw r.2 (ap (λ (t : Talk). t.left)
+        (newest-with a.accepted (record (newest a.accepted) { left = drop 0 (newest a.accepted).left }) r.0) ∙ r.1.2 refl room)
 
 -- ---- what is put
 
-putting-last : (talks : List Talk) (t : Talk) (bytes : List ℕ) → after_putting bytes (talks ++ t ∷ []) ≡ talks ++ record t { put = t.put ++ bytes } ∷ []
+putting-last : (talks : List Talk) (t : Talk) (bytes : List ℕ) →
+    after_putting bytes (talks ++ t ∷ []) ≡ talks ++ record t { put = t.put ++ bytes } ∷ []
 putting-last talks t bytes =
-    ap (λ (u : Talk). with_newest (talks ++ t ∷ []) (record u { put = u.put ++ bytes })) (newest-last talks t) ∙ with_newest-last talks t (record t { put = t.put ++ bytes })
+    ap (λ (u : Talk). with_newest (talks ++ t ∷ []) (record u { put = u.put ++ bytes })) (newest-last talks t)
+        ∙ with_newest-last talks t (record t { put = t.put ++ bytes })
 
-pub put-nil : (o : Option Traffic) → WasPut o o []
-put-nil o = record {
-  none = λ e. e;
-  some = λ a talks t e. e ∙ ap (λ (p : List ℕ). Some (with_newest_talk a talks (record { left = t.left; put = p }))) (sym (append-nil t.put));
-}
-
-pub put-then : (o m n : Option Traffic) (sent bytes : List ℕ) (k : ℕ) → WasPut o m sent → Puts m n (Ok k) bytes → WasPut o n (sent ++ take k bytes)
+pub put-then : (o m n : Option Traffic) (sent bytes : List ℕ) (k : ℕ) → WasPut o m sent → Puts m n (Ok k) bytes →
+    WasPut o n (sent ++ take k bytes)
 put-then o m n sent bytes k w r = record {
   none = λ e. subst (λ (x : Option Traffic). Puts x n (Ok k) bytes) (w.none e) r;
   some = λ a talks t e.
       (subst (λ (x : Option Traffic). Puts x n (Ok k) bytes) (w.some a talks t e) r).1
-      ∙ ap (λ (ts : List Talk). Some (record a { accepted = ts })) (putting-last talks (record t { put = t.put ++ sent }) (take k bytes))
+      ∙ ap (λ (ts : List Talk). Some (record a { accepted = ts }))
+          (putting-last talks (record t { put = t.put ++ sent }) (take k bytes))
       ∙ ap (λ (p : List ℕ). Some (with_newest_talk a talks (record t { put = p }))) (append_assoc t.put sent (take k bytes));
 }
-
-put-same : (m n : Option Traffic) (bytes : List ℕ) (f : Fault) → Puts m n (Err f) bytes → n ≡ m
-put-same None n bytes f r = r
-put-same (Some a) n bytes f r = r
-
-pub put-refused : (o m n : Option Traffic) (sent bytes : List ℕ) (f : Fault) → WasPut o m sent → Puts m n (Err f) bytes → WasPut o n sent
-put-refused o m n sent bytes f w r = subst (λ (x : Option Traffic). WasPut o x sent) (sym (put-same m n bytes f r)) w

@@ -13,7 +13,8 @@ talked-nil o = record {
     refl,
     e ∙ ap (λ (p : List ℕ). Some (with_newest_talk a talks (record { left = t.left; put = p }))) (sym (append-nil t.put))
         ∙ ap
-        (λ (ns : List (List ℕ)). Some (with_newest_talk (record a { notes = ns }) talks (record { left = t.left; put = t.put ++ [] })))
+        (λ (ns : List (List ℕ)). Some
+            (with_newest_talk (record a { notes = ns }) talks (record { left = t.left; put = t.put ++ [] })))
         (sym (append-nil a.notes)),
   );
 }
@@ -40,7 +41,8 @@ talked-put o m n taken put bytes notes d w = record {
         l.0,
         l.1,
         w.some (with_notes notes a) talks (record { left = l.0; put = t.put ++ put }) l.2
-            ∙ ap (λ (p : List ℕ). Some (with_newest_talk (with_notes notes a) talks (record { left = l.0; put = p }))) (append_assoc t.put put bytes),
+            ∙ ap (λ (p : List ℕ). Some (with_newest_talk (with_notes notes a) talks (record { left = l.0; put = p })))
+                (append_assoc t.put put bytes),
       );
 }
 
@@ -54,7 +56,8 @@ talked-noted o m n taken put notes lines d w = record {
         l.1,
         w ∙ ap (λ (x : Option Traffic). after_notes lines x) l.2
             ∙ ap
-            (λ (ns : List (List ℕ)). Some (with_newest_talk (record a { notes = ns }) talks (record { left = l.0; put = t.put ++ put })))
+            (λ (ns : List (List ℕ)). Some
+                (with_newest_talk (record a { notes = ns }) talks (record { left = l.0; put = t.put ++ put })))
             (append_assoc a.notes notes lines),
       );
 }
@@ -63,6 +66,7 @@ pub talked-same : (o m n : Option Traffic) (taken put : List ℕ) (notes : List 
     → Talked o m taken put notes → n ≡ m → Talked o n taken put notes
 talked-same o m n taken put notes d e = subst (λ (x : Option Traffic). Talked o x taken put notes) (sym e) d
 
-pub told-then : (o m n : Option (List ℕ)) (times : List ℕ) (time : ℕ) → Told o times m → TellsTime m n time → Told o (times ++ time ∷ []) n
+pub told-then : (o m n : Option (List ℕ)) (times : List ℕ) (time : ℕ) → Told o times m → TellsTime m n time →
+    Told o (times ++ time ∷ []) n
 told-then o m n [] time e w = (n, subst (λ (x : Option (List ℕ)). TellsTime x n time) e w, refl)
 told-then o m n (t ∷ ts) time d w = (d.0, d.1, told-then d.0 m n ts time d.2 w)

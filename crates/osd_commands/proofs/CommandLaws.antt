@@ -26,20 +26,24 @@ use Rattle.osd_commands.proofs.Writing.{length-fields, check_len-bounds}
 
 -- ---- what an answer shows, test by test
 
-action_ok : (bytes : List ℕ) (o : Option Action) (c : Command) → with_action bytes o ≡ Ok c → (a : Action) × ((o ≡ Some a) × (unless_reserved bytes a (stray bytes) ≡ Ok c))
+action_ok : (bytes : List ℕ) (o : Option Action) (c : Command) → with_action bytes o ≡ Ok c →
+    (a : Action) × ((o ≡ Some a) × (unless_reserved bytes a (stray bytes) ≡ Ok c))
 action_ok bytes (Some a) c e = (a, (refl, e))
 action_ok bytes None c e = absurd cc
 
-reserved_ok : (bytes : List ℕ) (a : Action) (o : Option ℕ) (c : Command) → unless_reserved bytes a o ≡ Ok c → (o ≡ None) × (with_capability bytes a (Cap.reading (slice_range bytes 64 160)) ≡ Ok c)
+reserved_ok : (bytes : List ℕ) (a : Action) (o : Option ℕ) (c : Command) → unless_reserved bytes a o ≡ Ok c →
+    (o ≡ None) × (with_capability bytes a (Cap.reading (slice_range bytes 64 160)) ≡ Ok c)
 reserved_ok bytes a None c e = (refl, e)
 reserved_ok bytes a (Some at) c e = absurd cc
 
-capability_ok : (bytes : List ℕ) (a : Action) (r : Result Capability CapErr) (c : Command) → with_capability bytes a r ≡ Ok c → (cap : Capability) × ((r ≡ Ok cap) × (sized bytes (command_at a cap bytes) ≡ Ok c))
+capability_ok : (bytes : List ℕ) (a : Action) (r : Result Capability CapErr) (c : Command) → with_capability bytes a r ≡ Ok c →
+    (cap : Capability) × ((r ≡ Ok cap) × (sized bytes (command_at a cap bytes) ≡ Ok c))
 capability_ok bytes a (Ok cap) c e = (cap, (refl, e))
 capability_ok bytes a (Err f) c e = absurd cc
 
 -- a number that is an action's
-one_of : (n k : ℕ) (x a : Action) (rest : Option Action) → number_of x ≡ k → cond (eqb n k) (Some x) rest ≡ Some a → (n ≡ number_of a) ⊎ (rest ≡ Some a)
+one_of : (n k : ℕ) (x a : Action) (rest : Option Action) → number_of x ≡ k → cond (eqb n k) (Some x) rest ≡ Some a →
+    (n ≡ number_of a) ⊎ (rest ≡ Some a)
 one_of n k x a rest numbered e =
     elim (eqb_tells n k) [
       | inl p ↦ let same : x ≡ a = let found = rw p.0 at e in cc in inl (p.1 ∙ sym numbered ∙ ap number_of same)
@@ -79,16 +83,19 @@ record IsRead (bytes : List ℕ) (a : Action) (cap : Capability) : Type 0 where
   pub stated : from_be_bytes w32 (slice_range bytes 56 60) ≡ length (drop 256 bytes)
   pub allowed : IsTrue (allows a (from_be_bytes w64 (slice_range bytes 32 40)) (length (drop 256 bytes)))
 
-found_cap : (bytes : List ℕ) (r : Result Capability CapErr) (cap : Capability) → IfOk r (λ c. Cap.Fits c × (bytes ≡ Cap.spelling c)) → r ≡ Ok cap → Cap.Fits cap × (bytes ≡ Cap.spelling cap)
+found_cap : (bytes : List ℕ) (r : Result Capability CapErr) (cap : Capability) →
+    IfOk r (λ c. Cap.Fits c × (bytes ≡ Cap.spelling c)) → r ≡ Ok cap → Cap.Fits cap × (bytes ≡ Cap.spelling cap)
 found_cap bytes (Ok c) cap h e = let same : c ≡ cap = cc in rw (← same) h
 found_cap bytes (Err f) cap h e = absurd cc
 
 format_at : (bytes : List ℕ) (cap : Capability) → slice_range bytes 64 160 ≡ Cap.spelling cap → get_or bytes 64 0 ≡ cap.format
 format_at bytes cap e =
-    let here : get_or (slice_range bytes 64 160) 0 0 ≡ get_or bytes 64 0 = get_or-take 96 (drop 64 bytes) 0 0 (omega arith) ∙ get_or-drop 64 bytes 0 0 in
+    let here : get_or (slice_range bytes 64 160) 0 0 ≡ get_or bytes 64 0 =
+    get_or-take 96 (drop 64 bytes) 0 0 (omega arith) ∙ get_or-drop 64 bytes 0 0 in
     sym here ∙ ap (λ (t : List ℕ). get_or t 0 0) e ∙ spelling-format cap
 
-read_ok : (bytes : List ℕ) (c : Command) → IsBytes bytes → reading bytes ≡ Ok c → (a : Action) × ((cap : Capability) × (IsRead bytes a cap × (command_at a cap bytes ≡ c)))
+read_ok : (bytes : List ℕ) (c : Command) → IsBytes bytes → reading bytes ≡ Ok c →
+    (a : Action) × ((cap : Capability) × (IsRead bytes a cap × (command_at a cap bytes ≡ c)))
 unfolding reading stray command_at
 read_ok bytes c fits e =
     let one = guard_ok _ _ _ c e in
@@ -104,7 +111,10 @@ read_ok bytes c fits e =
     let last = option_or-none _ (first_nonzero bytes 160 (256 - check_len (get_or bytes 64 0))) four.0 in
     let third = option_or-none _ (first_nonzero bytes 60 64) last.0 in
     let second = option_or-none (first_nonzero bytes 6 8) (first_nonzero bytes 52 56) third.0 in
-    let capability = found_cap _ _ cap (capability-found (slice_range bytes 64 160) (Cap.reading (slice_range bytes 64 160)) (IsBytes-range bytes 64 160 fits) refl) five.1.0 in
+    let capability =
+    found_cap _ _ cap
+    (capability-found (slice_range bytes 64 160) (Cap.reading (slice_range bytes 64 160))
+    (IsBytes-range bytes 64 160 fits) refl) five.1.0 in
     let format = format_at bytes cap capability.1 in
     let bounds = check_len-bounds cap.format in
     let end : first_nonzero bytes 160 (256 - check_len cap.format) ≡ None = rw (← format) last.1 in
@@ -120,7 +130,8 @@ read_ok bytes c fits e =
             zeros_6 = zeros bytes 6 8 (omega arith) (omega arith) second.0;
             zeros_52 = zeros bytes 52 56 (omega arith) (omega arith) second.1;
             zeros_60 = zeros bytes 60 64 (omega arith) (omega arith) third.1;
-            zeros_160 = zeros bytes 160 (256 - check_len cap.format) (omega arith) (omega arith) end ∙ ap (λ (n : ℕ). replicate n 0) width;
+            zeros_160 = zeros bytes 160 (256 - check_len cap.format) (omega arith) (omega arith) end
+                ∙ ap (λ (n : ℕ). replicate n 0) width;
             capability = capability;
             stated = eqb-true _ _ tests.0;
             allowed = tests.1;
@@ -130,24 +141,38 @@ read_ok bytes c fits e =
       ),
     )
 
-fields_read : (bytes : List ℕ) (a : Action) (cap : Capability) → IsBytes bytes → IsRead bytes a cap → fields (command_at a cap bytes) ≡ slice_range bytes 0 64
+fields_read : (bytes : List ℕ) (a : Action) (cap : Capability) → IsBytes bytes → IsRead bytes a cap →
+    fields (command_at a cap bytes) ≡ slice_range bytes 0 64
 unfolding fields command_at
 fields_read bytes a cap fits h =
     let long = h.long in
-    let start : to_be_bytes w32 magic ≡ slice_range bytes 0 4 = ap (to_be_bytes w32) (sym h.start) ∙ number_32 bytes 0 4 fits refl (omega arith) in
-    let action : to_be_bytes w16 (number_of a) ≡ slice_range bytes 4 6 = ap (to_be_bytes w16) (sym h.action) ∙ number_16 bytes 4 6 fits refl (omega arith) in
-    let stated : to_be_bytes w32 (length (drop 256 bytes)) ≡ slice_range bytes 56 60 = ap (to_be_bytes w32) (sym h.stated) ∙ number_32 bytes 56 60 fits refl (omega arith) in
-    joined bytes 0 4 64 _ _ (omega arith) (omega arith) start (joined bytes 4 6 64 _ _ (omega arith) (omega arith) action (joined bytes 6 8 64 _ _ (omega arith) (omega arith) (sym h.zeros_6)
-    (joined bytes 8 16 64 _ _ (omega arith) (omega arith) (number_64 bytes 8 16 fits refl (omega arith)) (joined bytes 16 24 64 _ _ (omega arith) (omega arith) (number_64 bytes 16 24 fits refl (omega arith))
-    (joined bytes 24 32 64 _ _ (omega arith) (omega arith) (number_64 bytes 24 32 fits refl (omega arith)) (joined bytes 32 40 64 _ _ (omega arith) (omega arith) (number_64 bytes 32 40 fits refl (omega arith))
-    (joined bytes 40 48 64 _ _ (omega arith) (omega arith) (number_64 bytes 40 48 fits refl (omega arith)) (joined bytes 48 52 64 _ _ (omega arith) (omega arith) (number_32 bytes 48 52 fits refl (omega arith))
-    (joined bytes 52 56 64 _ _ (omega arith) (omega arith) (sym h.zeros_52) (joined bytes 56 60 64 _ _ (omega arith) (omega arith) stated (sym h.zeros_60)))))))))))
+    let start : to_be_bytes w32 magic ≡ slice_range bytes 0 4 =
+    ap (to_be_bytes w32) (sym h.start) ∙ number_32 bytes 0 4 fits refl (omega arith) in
+    let action : to_be_bytes w16 (number_of a) ≡ slice_range bytes 4 6 =
+    ap (to_be_bytes w16) (sym h.action) ∙ number_16 bytes 4 6 fits refl (omega arith) in
+    let stated : to_be_bytes w32 (length (drop 256 bytes)) ≡ slice_range bytes 56 60 =
+    ap (to_be_bytes w32) (sym h.stated) ∙ number_32 bytes 56 60 fits refl (omega arith) in
+    joined bytes 0 4 64 _ _ (omega arith) (omega arith) start
+    (joined bytes 4 6 64 _ _ (omega arith) (omega arith) action
+    (joined bytes 6 8 64 _ _ (omega arith) (omega arith) (sym h.zeros_6)
+    (joined bytes 8 16 64 _ _ (omega arith) (omega arith) (number_64 bytes 8 16 fits refl (omega arith))
+    (joined bytes 16 24 64 _ _ (omega arith) (omega arith) (number_64 bytes 16 24 fits refl (omega arith))
+    (joined bytes 24 32 64 _ _ (omega arith) (omega arith) (number_64 bytes 24 32 fits refl (omega arith))
+    (joined bytes 32 40 64 _ _ (omega arith) (omega arith) (number_64 bytes 32 40 fits refl (omega arith))
+    (joined bytes 40 48 64 _ _ (omega arith) (omega arith) (number_64 bytes 40 48 fits refl (omega arith))
+    (joined bytes 48 52 64 _ _ (omega arith) (omega arith) (number_32 bytes 48 52 fits refl (omega arith))
+    (joined bytes 52 56 64 _ _ (omega arith) (omega arith) (sym h.zeros_52)
+    (joined bytes 56 60 64 _ _ (omega arith) (omega arith) stated (sym h.zeros_60)))))))))))
 
 -- the check value of a format, cut from the place of 32 bytes
-check_cut : (bytes : List ℕ) (size : ℕ) → 256 ≤ length bytes → size ≤ 32 → take size (slice_range bytes (256 - size) 256 ++ replicate (32 - size) 0) ≡ slice_range bytes (256 - size) 256
-check_cut bytes size long within = take_at (slice_range bytes (256 - size) 256) (replicate (32 - size) 0) size (length-range bytes (256 - size) 256 (omega arith) long ∙ omega arith)
+check_cut : (bytes : List ℕ) (size : ℕ) → 256 ≤ length bytes → size ≤ 32 →
+    take size (slice_range bytes (256 - size) 256 ++ replicate (32 - size) 0) ≡ slice_range bytes (256 - size) 256
+check_cut bytes size long within =
+    take_at (slice_range bytes (256 - size) 256) (replicate (32 - size) 0) size
+    (length-range bytes (256 - size) 256 (omega arith) long ∙ omega arith)
 
-spelled : (bytes : List ℕ) (a : Action) (cap : Capability) → IsBytes bytes → IsRead bytes a cap → spelling (command_at a cap bytes) ≡ bytes
+spelled : (bytes : List ℕ) (a : Action) (cap : Capability) → IsBytes bytes → IsRead bytes a cap →
+    spelling (command_at a cap bytes) ≡ bytes
 unfolding spelling head command_at
 spelled bytes a cap fits h =
     let size = check_len cap.format in
@@ -165,12 +190,14 @@ fits_at bytes a cap fits h =
     let size = check_len cap.format in
     let bounds = check_len-bounds cap.format in
     let long = h.long in
-    let part : length (slice_range bytes (256 - size) 256) ≡ size = length-range bytes (256 - size) 256 (omega arith) long ∙ omega arith in
+    let part : length (slice_range bytes (256 - size) 256) ≡ size =
+    length-range bytes (256 - size) 256 (omega arith) long ∙ omega arith in
     record {
       whole = record {
         format = h.capability.0.format;
         check = record {
-          long = length-append (slice_range bytes (256 - size) 256) (replicate (32 - size) 0) ∙ omega (arith, part, length-replicate {A = ℕ} (32 - size) 0);
+          long = length-append (slice_range bytes (256 - size) 256) (replicate (32 - size) 0)
+              ∙ omega (arith, part, length-replicate {A = ℕ} (32 - size) 0);
           zeros = drop_at (slice_range bytes (256 - size) 256) (replicate (32 - size) 0) size part;
         };
         allowed = h.allowed;
@@ -214,7 +241,8 @@ record HasParts (c : Command) (bytes : List ℕ) : Type 0 where
   pub payload : drop 256 bytes ≡ c.payload
 
 -- a part of a list that stands behind another part
-cut : (bytes before part rest : List ℕ) (a b : ℕ) → bytes ≡ before ++ (part ++ rest) → length before ≡ a → length part ≡ b - a → slice_range bytes a b ≡ part
+cut : (bytes before part rest : List ℕ) (a b : ℕ) → bytes ≡ before ++ (part ++ rest) → length before ≡ a → length part ≡ b - a →
+    slice_range bytes a b ≡ part
 cut bytes before part rest a b e at size = rw (e, drop_at before (part ++ rest) a at) (take_at part rest (b - a) size)
 
 drop_twice : (xs : List ℕ) (m n k : ℕ) → m + n ≡ k → drop k xs ≡ drop n (drop m xs)
@@ -230,13 +258,15 @@ has_parts c check =
     let zeros : List ℕ = replicate (96 - size) 0 in
     let value : List ℕ = take size c.check in
     let end : List ℕ = value ++ c.payload in
-    let in_parts : spelling c ≡ front ++ (cap ++ (zeros ++ end)) = append_assoc front (cap ++ zeros) end ∙ ap (λ (t : List ℕ). front ++ t) (append_assoc cap zeros end) in
+    let in_parts : spelling c ≡ front ++ (cap ++ (zeros ++ end)) =
+    append_assoc front (cap ++ zeros) end ∙ ap (λ (t : List ℕ). front ++ t) (append_assoc cap zeros end) in
     let long_front : length front ≡ 64 = length-fields c in
     let long_cap : length cap ≡ 96 = length-spelling c.capability in
     let long_zeros : length zeros ≡ 96 - size = length-replicate (96 - size) 0 in
     let long_value : length value ≡ size = omega (arith, length-take size c.check, check.long) in
     let behind_cap : length (front ++ cap) ≡ 160 = omega (arith, length-append front cap) in
-    let behind_zeros : length (front ++ (cap ++ zeros)) ≡ 256 - size = omega (arith, length-append front (cap ++ zeros), length-append cap zeros) in
+    let behind_zeros : length (front ++ (cap ++ zeros)) ≡ 256 - size =
+    omega (arith, length-append front (cap ++ zeros), length-append cap zeros) in
     let to_zeros : spelling c ≡ (front ++ cap) ++ (zeros ++ end) = in_parts ∙ sym (append_assoc front cap (zeros ++ end)) in
     let to_value : spelling c ≡ (front ++ (cap ++ zeros)) ++ (value ++ c.payload) = refl in
     let rest : drop (256 - size) (spelling c) ≡ end = drop_at (front ++ (cap ++ zeros)) end (256 - size) behind_zeros in
@@ -258,7 +288,8 @@ has_parts c check =
       capability = cut (spelling c) front cap (zeros ++ end) 64 160 in_parts long_front long_cap;
       zeros_160 = cut (spelling c) (front ++ cap) zeros end 160 (256 - size) to_zeros behind_cap (omega arith);
       check = cut (spelling c) (front ++ (cap ++ zeros)) value c.payload (256 - size) 256 to_value behind_zeros (omega arith);
-      payload = drop_twice (spelling c) (256 - size) size 256 whole ∙ ap (drop size) rest ∙ drop_at value c.payload size long_value;
+      payload = drop_twice (spelling c) (256 - size) size 256 whole ∙ ap (drop size) rest
+          ∙ drop_at value c.payload size long_value;
     }
 
 action_of-number : (a : Action) → action_of (from_be_bytes w16 (to_be_bytes w16 (number_of a))) ≡ Some a
@@ -285,7 +316,8 @@ unfolding command_at
 at_parts c bytes fits h =
     let size = check_len c.capability.format in
     let n = fits.numbers in
-    let check : take size c.check ++ replicate (32 - size) 0 ≡ c.check = rw (← fits.whole.check.zeros) (take-append-drop size c.check) in
+    let check : take size c.check ++ replicate (32 - size) 0 ≡ c.check =
+    rw (← fits.whole.check.zeros) (take-append-drop size c.check) in
     rw (
       h.partition,
       from_be_bytes-to_be_bytes_8 c.partition n.partition,
@@ -305,7 +337,13 @@ at_parts c bytes fits h =
     ) refl
 
 sized_parts : (c : Command) (bytes : List ℕ) → Fits c → HasParts c bytes → sized bytes c ≡ Ok c
-sized_parts c bytes fits h = rw (h.stated, from_be_bytes-to_be_bytes_4 (length c.payload) fits.whole.payload, eq-eqb (length c.payload) (length c.payload) refl, fits.whole.allowed) refl
+sized_parts c bytes fits h =
+    rw (
+      h.stated,
+      from_be_bytes-to_be_bytes_4 (length c.payload) fits.whole.payload,
+      eq-eqb (length c.payload) (length c.payload) refl,
+      fits.whole.allowed,
+    ) refl
 
 -- what is spelled so is read
 pub reading-command : (c : Command) → Fits c → reading (spelling c) ≡ Ok c
@@ -315,27 +353,38 @@ reading-command c fits =
     let h = has_parts c fits.whole.check in
     let long : 256 ≤ length bytes = omega (arith, h.long) in
     let start : eqb (from_be_bytes w32 (slice_range bytes 0 4)) magic ≡ true = rw h.start refl in
-    let action : action_of (from_be_bytes w16 (slice_range bytes 4 6)) ≡ Some c.action = rw h.action (action_of-number c.action) in
-    let capability : Cap.reading (slice_range bytes 64 160) ≡ Ok c.capability = rw h.capability (reading-spelling c.capability fits.capability) in
-    rw (le-ltb (length bytes) 256 long, start, action, no_stray c bytes h, capability, at_parts c bytes fits h) (sized_parts c bytes fits h)
+    let action : action_of (from_be_bytes w16 (slice_range bytes 4 6)) ≡ Some c.action =
+    rw h.action (action_of-number c.action) in
+    let capability : Cap.reading (slice_range bytes 64 160) ≡ Ok c.capability =
+    rw h.capability (reading-spelling c.capability fits.capability) in
+    rw (le-ltb (length bytes) 256 long, start, action, no_stray c bytes h, capability, at_parts c bytes fits h)
+    (sized_parts c bytes fits h)
 
 -- ---- answers, which may also be that there is no memory
 
-pub answer-found : (bytes : List ℕ) (r : Result Command CommandErr) → IsBytes bytes → ReadsAs r (reading bytes) → IfOk r (λ c. Fits c × (bytes ≡ spelling c))
+pub answer-found : (bytes : List ℕ) (r : Result Command CommandErr) → IsBytes bytes → ReadsAs r (reading bytes) →
+    IfOk r (λ c. Fits c × (bytes ≡ spelling c))
 answer-found bytes (Ok c) fits e = reading-found bytes c fits e
 answer-found bytes (Err f) fits e = tt
 
-pub answer-only : (bytes : List ℕ) (r : Result Command CommandErr) (c : Command) → ReadsAs r (reading bytes) → Fits c → bytes ≡ spelling c → ReadsAs r (Ok c)
-answer-only bytes r c answer fits e = subst (λ (whole : Result Command CommandErr). ReadsAs r whole) (ap reading e ∙ reading-command c fits) answer
+pub answer-only : (bytes : List ℕ) (r : Result Command CommandErr) (c : Command) → ReadsAs r (reading bytes) → Fits c →
+    bytes ≡ spelling c → ReadsAs r (Ok c)
+answer-only bytes r c answer fits e =
+    subst (λ (whole : Result Command CommandErr). ReadsAs r whole) (ap reading e ∙ reading-command c fits) answer
 
 -- no command's bytes begin another's
-spelling-alone : (bytes rest : List ℕ) (c d : Command) → Fits c → bytes ≡ spelling c → Fits d → spelling d ≡ bytes ++ rest → rest ≡ []
+spelling-alone : (bytes rest : List ℕ) (c d : Command) → Fits c → bytes ≡ spelling c → Fits d → spelling d ≡ bytes ++ rest →
+    rest ≡ []
 spelling-alone bytes rest c d fits_c e fits_d longer =
     let one : HasParts c bytes = rw e (has_parts c fits_c.whole.check) in
     let two : HasParts d (bytes ++ rest) = rw (← longer) (has_parts d fits_d.whole.check) in
-    let same : length c.payload ≡ length d.payload = same_length bytes rest 56 60 (length c.payload) (length d.payload) (omega arith) (omega (arith, one.long)) fits_c.whole.payload fits_d.whole.payload one.stated two.stated in
+    let same : length c.payload ≡ length d.payload =
+    same_length bytes rest 56 60 (length c.payload) (length d.payload) (omega arith)
+    (omega (arith, one.long)) fits_c.whole.payload fits_d.whole.payload one.stated two.stated in
     nil_from_length rest (omega (arith, one.long, two.long, length-append bytes rest, same))
 
-pub answer-alone : (bytes : List ℕ) (x : Result Command CommandErr) → IsBytes bytes → ReadsAs x (reading bytes) → IfOk x (λ c. (d : Command) (rest : List ℕ) → Fits d → spelling d ≡ bytes ++ rest → rest ≡ [])
-answer-alone bytes (Ok c) fits e = λ d rest fits_d longer. let h = reading-found bytes c fits e in spelling-alone bytes rest c d h.0 h.1 fits_d longer
+pub answer-alone : (bytes : List ℕ) (x : Result Command CommandErr) → IsBytes bytes → ReadsAs x (reading bytes) →
+    IfOk x (λ c. (d : Command) (rest : List ℕ) → Fits d → spelling d ≡ bytes ++ rest → rest ≡ [])
+answer-alone bytes (Ok c) fits e = λ d rest fits_d longer. let h = reading-found bytes c fits e in
+    spelling-alone bytes rest c d h.0 h.1 fits_d longer
 answer-alone bytes (Err f) fits e = tt

@@ -11,7 +11,8 @@ if_ok true f y x e = (refl, cc)
 if_ok false f y x e = absurd cc
 
 -- a stated length, and another behind which the same bytes stand
-pub same_length : (xs ys : List ℕ) (a b m n : ℕ) → a ≤ b → b ≤ length xs → m < 2 ^ 32 → n < 2 ^ 32 → slice_range xs a b ≡ to_be_bytes w32 m → slice_range (xs ++ ys) a b ≡ to_be_bytes w32 n → m ≡ n
+pub same_length : (xs ys : List ℕ) (a b m n : ℕ) → a ≤ b → b ≤ length xs → m < 2 ^ 32 → n < 2 ^ 32 →
+    slice_range xs a b ≡ to_be_bytes w32 m → slice_range (xs ++ ys) a b ≡ to_be_bytes w32 n → m ≡ n
 same_length xs ys a b m n le within low_m low_n p q =
     let same : to_be_bytes w32 m ≡ to_be_bytes w32 n = sym p ∙ sym (slice_range-append xs ys a b le within) ∙ q in
     sym (from_be_bytes-to_be_bytes_4 m low_m) ∙ ap (from_be_bytes w32) same ∙ from_be_bytes-to_be_bytes_4 n low_n

@@ -15,7 +15,8 @@ use Rattle.osd_commands.specs.Commands.{ReadsAs}
 use Rattle.osd_commands.proofs.Passing.{if_ok, same_length}
 use Rattle.osd_commands.specs.Replies.{magic, fields, spelling, is_verdict, reply_at, sized, unless_reserved, reading, IsWhole, Fits}
 
-reserved_ok : (bytes : List ℕ) (o : Option ℕ) (r : Reply) → unless_reserved bytes o ≡ Ok r → (o ≡ None) × (sized bytes (reply_at bytes) ≡ Ok r)
+reserved_ok : (bytes : List ℕ) (o : Option ℕ) (r : Reply) → unless_reserved bytes o ≡ Ok r →
+    (o ≡ None) × (sized bytes (reply_at bytes) ≡ Ok r)
 reserved_ok bytes None r e = (refl, e)
 reserved_ok bytes (Some at) r e = absurd cc
 
@@ -60,11 +61,17 @@ fields_read : (bytes : List ℕ) → IsBytes bytes → IsRead bytes → fields (
 unfolding fields reply_at
 fields_read bytes fits h =
     let long = h.long in
-    let start : to_be_bytes w32 magic ≡ slice_range bytes 0 4 = ap (to_be_bytes w32) (sym h.start) ∙ number_32 bytes 0 4 fits refl (omega arith) in
-    let stated : to_be_bytes w32 (length (drop 40 bytes)) ≡ slice_range bytes 32 36 = ap (to_be_bytes w32) (sym h.stated) ∙ number_32 bytes 32 36 fits refl (omega arith) in
-    joined bytes 0 4 40 _ _ (omega arith) (omega arith) start (joined bytes 4 6 40 _ _ (omega arith) (omega arith) (number_16 bytes 4 6 fits refl (omega arith)) (joined bytes 6 8 40 _ _ (omega arith) (omega arith) (number_16 bytes 6 8 fits refl (omega arith))
-    (joined bytes 8 16 40 _ _ (omega arith) (omega arith) (number_64 bytes 8 16 fits refl (omega arith)) (joined bytes 16 24 40 _ _ (omega arith) (omega arith) (number_64 bytes 16 24 fits refl (omega arith))
-    (joined bytes 24 32 40 _ _ (omega arith) (omega arith) (number_64 bytes 24 32 fits refl (omega arith)) (joined bytes 32 36 40 _ _ (omega arith) (omega arith) stated (sym h.zeros_36)))))))
+    let start : to_be_bytes w32 magic ≡ slice_range bytes 0 4 =
+    ap (to_be_bytes w32) (sym h.start) ∙ number_32 bytes 0 4 fits refl (omega arith) in
+    let stated : to_be_bytes w32 (length (drop 40 bytes)) ≡ slice_range bytes 32 36 =
+    ap (to_be_bytes w32) (sym h.stated) ∙ number_32 bytes 32 36 fits refl (omega arith) in
+    joined bytes 0 4 40 _ _ (omega arith) (omega arith) start
+    (joined bytes 4 6 40 _ _ (omega arith) (omega arith) (number_16 bytes 4 6 fits refl (omega arith))
+    (joined bytes 6 8 40 _ _ (omega arith) (omega arith) (number_16 bytes 6 8 fits refl (omega arith))
+    (joined bytes 8 16 40 _ _ (omega arith) (omega arith) (number_64 bytes 8 16 fits refl (omega arith))
+    (joined bytes 16 24 40 _ _ (omega arith) (omega arith) (number_64 bytes 16 24 fits refl (omega arith))
+    (joined bytes 24 32 40 _ _ (omega arith) (omega arith) (number_64 bytes 24 32 fits refl (omega arith))
+    (joined bytes 32 36 40 _ _ (omega arith) (omega arith) stated (sym h.zeros_36)))))))
 
 spelled : (bytes : List ℕ) → IsBytes bytes → IsRead bytes → spelling (reply_at bytes) ≡ bytes
 unfolding spelling reply_at
@@ -139,7 +146,13 @@ at_parts r bytes fits h =
     ) refl
 
 sized_parts : (r : Reply) (bytes : List ℕ) → Fits r → HasParts r bytes → sized bytes r ≡ Ok r
-sized_parts r bytes fits h = rw (h.stated, from_be_bytes-to_be_bytes_4 (length r.payload) fits.whole.payload, eq-eqb (length r.payload) (length r.payload) refl, fits.whole.allowed) refl
+sized_parts r bytes fits h =
+    rw (
+      h.stated,
+      from_be_bytes-to_be_bytes_4 (length r.payload) fits.whole.payload,
+      eq-eqb (length r.payload) (length r.payload) refl,
+      fits.whole.allowed,
+    ) refl
 
 -- what is spelled so is read
 pub reading-reply : (r : Reply) → Fits r → reading (spelling r) ≡ Ok r
@@ -150,8 +163,10 @@ reading-reply r fits =
     let long : 40 ≤ length bytes = omega (arith, h.long) in
     let start : eqb (from_be_bytes w32 (slice_range bytes 0 4)) magic ≡ true = rw h.start refl in
     let low : r.verdict ≤ 17 = leb-true _ _ (and_parts _ _ fits.whole.verdict).0 in
-    let action : from_be_bytes w16 (slice_range bytes 4 6) ≡ r.action = rw h.action (from_be_bytes-to_be_bytes_2 r.action (omega (arith, fits.whole.action))) in
-    let verdict : from_be_bytes w16 (slice_range bytes 6 8) ≡ r.verdict = rw h.verdict (from_be_bytes-to_be_bytes_2 r.verdict (omega arith)) in
+    let action : from_be_bytes w16 (slice_range bytes 4 6) ≡ r.action =
+    rw h.action (from_be_bytes-to_be_bytes_2 r.action (omega (arith, fits.whole.action))) in
+    let verdict : from_be_bytes w16 (slice_range bytes 6 8) ≡ r.verdict =
+    rw h.verdict (from_be_bytes-to_be_bytes_2 r.verdict (omega arith)) in
     let known : is_verdict (from_be_bytes w16 (slice_range bytes 6 8)) ≡ true = rw verdict fits.whole.verdict in
     let within : ltb 6 (from_be_bytes w16 (slice_range bytes 4 6)) ≡ false = rw action (le-ltb 6 r.action fits.whole.action) in
     let none = first_nonzero-zeros bytes 36 40 4 h.zeros_36 in
@@ -159,21 +174,29 @@ reading-reply r fits =
 
 -- ---- answers, which may also be that there is no memory
 
-pub answer-found : (bytes : List ℕ) (x : Result Reply CommandErr) → IsBytes bytes → ReadsAs x (reading bytes) → IfOk x (λ r. Fits r × (bytes ≡ spelling r))
+pub answer-found : (bytes : List ℕ) (x : Result Reply CommandErr) → IsBytes bytes → ReadsAs x (reading bytes) →
+    IfOk x (λ r. Fits r × (bytes ≡ spelling r))
 answer-found bytes (Ok r) fits e = reading-found bytes r fits e
 answer-found bytes (Err f) fits e = tt
 
-pub answer-only : (bytes : List ℕ) (x : Result Reply CommandErr) (r : Reply) → ReadsAs x (reading bytes) → Fits r → bytes ≡ spelling r → ReadsAs x (Ok r)
-answer-only bytes x r answer fits e = subst (λ (whole : Result Reply CommandErr). ReadsAs x whole) (ap reading e ∙ reading-reply r fits) answer
+pub answer-only : (bytes : List ℕ) (x : Result Reply CommandErr) (r : Reply) → ReadsAs x (reading bytes) → Fits r →
+    bytes ≡ spelling r → ReadsAs x (Ok r)
+answer-only bytes x r answer fits e =
+    subst (λ (whole : Result Reply CommandErr). ReadsAs x whole) (ap reading e ∙ reading-reply r fits) answer
 
 -- no reply's bytes begin another's
-spelling-alone : (bytes rest : List ℕ) (c d : Reply) → Fits c → bytes ≡ spelling c → Fits d → spelling d ≡ bytes ++ rest → rest ≡ []
+spelling-alone : (bytes rest : List ℕ) (c d : Reply) → Fits c → bytes ≡ spelling c → Fits d → spelling d ≡ bytes ++ rest →
+    rest ≡ []
 spelling-alone bytes rest c d fits_c e fits_d longer =
     let one : HasParts c bytes = rw e (has_parts c) in
     let two : HasParts d (bytes ++ rest) = rw (← longer) (has_parts d) in
-    let same : length c.payload ≡ length d.payload = same_length bytes rest 32 36 (length c.payload) (length d.payload) (omega arith) (omega (arith, one.long)) fits_c.whole.payload fits_d.whole.payload one.stated two.stated in
+    let same : length c.payload ≡ length d.payload =
+    same_length bytes rest 32 36 (length c.payload) (length d.payload) (omega arith)
+    (omega (arith, one.long)) fits_c.whole.payload fits_d.whole.payload one.stated two.stated in
     nil_from_length rest (omega (arith, one.long, two.long, length-append bytes rest, same))
 
-pub answer-alone : (bytes : List ℕ) (x : Result Reply CommandErr) → IsBytes bytes → ReadsAs x (reading bytes) → IfOk x (λ c. (d : Reply) (rest : List ℕ) → Fits d → spelling d ≡ bytes ++ rest → rest ≡ [])
-answer-alone bytes (Ok c) fits e = λ d rest fits_d longer. let h = reading-found bytes c fits e in spelling-alone bytes rest c d h.0 h.1 fits_d longer
+pub answer-alone : (bytes : List ℕ) (x : Result Reply CommandErr) → IsBytes bytes → ReadsAs x (reading bytes) →
+    IfOk x (λ c. (d : Reply) (rest : List ℕ) → Fits d → spelling d ≡ bytes ++ rest → rest ≡ [])
+answer-alone bytes (Ok c) fits e = λ d rest fits_d longer. let h = reading-found bytes c fits e in
+    spelling-alone bytes rest c d h.0 h.1 fits_d longer
 answer-alone bytes (Err f) fits e = tt

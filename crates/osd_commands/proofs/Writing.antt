@@ -13,16 +13,21 @@ length-fields c = refl
 
 -- a check value has 20 or 32 bytes
 pub check_len-bounds : (format : ℕ) → (20 ≤ check_len format) × (check_len format ≤ 32)
-check_len-bounds format = elim (eqb format 2) as (λ b. (20 ≤ cond b 32 20) × (cond b 32 20 ≤ 32)) [ true ↦ (omega arith, omega arith) | false ↦ (omega arith, omega arith) ]
+check_len-bounds format =
+    elim (eqb format 2) as (λ b. (20 ≤ cond b 32 20) × (cond b 32 20 ≤ 32))
+    [ true ↦ (omega arith, omega arith) | false ↦ (omega arith, omega arith) ]
 
 -- two fields that are put at the beginning of zeros
-pub put_both : (f c : List ℕ) → length f ≡ 64 → length c ≡ 96 → take 64 (f ++ replicate 172 0) ++ (c ++ drop 160 (f ++ replicate 172 0)) ≡ f ++ (c ++ replicate 76 0)
+pub put_both : (f c : List ℕ) → length f ≡ 64 → length c ≡ 96 →
+    take 64 (f ++ replicate 172 0) ++ (c ++ drop 160 (f ++ replicate 172 0)) ≡ f ++ (c ++ replicate 76 0)
 put_both f c long_f long_c =
-    let rest : drop 160 (f ++ replicate 172 0) ≡ replicate 76 0 = sym (drop-drop 96 64 (f ++ replicate 172 0)) ∙ ap (drop 96) (drop_at f (replicate 172 0) 64 long_f) in
+    let rest : drop 160 (f ++ replicate 172 0) ≡ replicate 76 0 =
+    sym (drop-drop 96 64 (f ++ replicate 172 0)) ∙ ap (drop 96) (drop_at f (replicate 172 0) 64 long_f) in
     rw (take_at f (replicate 172 0) 64 long_f, rest) refl
 
 -- the bytes before the check value, cut from those of the longest
-pub head-cut : (c : Command) → take (256 - check_len c.capability.format) (fields c ++ (Cap.spelling c.capability ++ replicate 76 0)) ≡ head c
+pub head-cut : (c : Command) →
+    take (256 - check_len c.capability.format) (fields c ++ (Cap.spelling c.capability ++ replicate 76 0)) ≡ head c
 unfolding head
 head-cut c =
     let size = check_len c.capability.format in
@@ -30,10 +35,12 @@ head-cut c =
     let f : List ℕ = fields c in
     let cap : List ℕ = Cap.spelling c.capability in
     let zeros : List ℕ = replicate 76 0 in
-    let outer : 256 - size ≡ length f + (length cap + (96 - size)) = omega (arith, length-fields c, length-spelling c.capability) in
+    let outer : 256 - size ≡ length f + (length cap + (96 - size)) =
+    omega (arith, length-fields c, length-spelling c.capability) in
     ap (λ (n : ℕ). take n (f ++ (cap ++ zeros))) outer
     ∙ take-append-add f (cap ++ zeros) (length cap + (96 - size))
-    ∙ ap (λ (t : List ℕ). f ++ t) (take-append-add cap zeros (96 - size) ∙ ap (λ (t : List ℕ). cap ++ t) (take-replicate (96 - size) 76 0 (omega arith)))
+    ∙ ap (λ (t : List ℕ). f ++ t)
+    (take-append-add cap zeros (96 - size) ∙ ap (λ (t : List ℕ). cap ++ t) (take-replicate (96 - size) 76 0 (omega arith)))
 
 -- the check value stands behind the head
 pub head-check : (c : Command) (check : List ℕ) → head (record c { check = check }) ≡ head c

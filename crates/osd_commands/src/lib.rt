@@ -13,6 +13,8 @@ mod replies;
 mod seals;
 
 pub use actions::Action;
-pub use commands::{Command, CommandBlock, CommandErr, read_block, read_command, write_command};
+pub use commands::{
+    Command, CommandBlock, CommandErr, check_len, read_block, read_command, write_command,
+};
 pub use replies::{Reply, read_reply, write_reply};
 pub use seals::{holds, holds_with, seal, seal_with};

@@ -14,19 +14,24 @@ Outcomes = List ℕ → Type 0
 
 -- ---- calls one after another
 
-pub done_last : (calls : List Call) (call : Call) (seen : List ℕ) → all_done (calls ++ call ∷ []) seen ≡ done call (all_done calls seen)
+pub done_last : (calls : List Call) (call : Call) (seen : List ℕ) →
+    all_done (calls ++ call ∷ []) seen ≡ done call (all_done calls seen)
 done_last [] call seen = refl
 done_last (x ∷ calls) call seen = done_last calls call (done x seen)
 
 -- a call that writes nothing
-pub stays_done : (calls more : List Call) (call : Call) (seen first : List ℕ) → (call ≡ Idle) ⊎ (call ≡ Sync) → seen ≡ all_done calls first → more ≡ calls ++ call ∷ [] → seen ≡ all_done more first
+pub stays_done : (calls more : List Call) (call : Call) (seen first : List ℕ) → (call ≡ Idle) ⊎ (call ≡ Sync) →
+    seen ≡ all_done calls first → more ≡ calls ++ call ∷ [] → seen ≡ all_done more first
 stays_done calls more call seen first (inl idle) was pushed =
-    was ∙ ap (λ (c : Call). done c (all_done calls first)) (sym idle) ∙ sym (done_last calls call first) ∙ ap (λ (cs : List Call). all_done cs first) (sym pushed)
+    was ∙ ap (λ (c : Call). done c (all_done calls first)) (sym idle) ∙ sym (done_last calls call first)
+    ∙ ap (λ (cs : List Call). all_done cs first) (sym pushed)
 stays_done calls more call seen first (inr sync) was pushed =
-    was ∙ ap (λ (c : Call). done c (all_done calls first)) (sym sync) ∙ sym (done_last calls call first) ∙ ap (λ (cs : List Call). all_done cs first) (sym pushed)
+    was ∙ ap (λ (c : Call). done c (all_done calls first)) (sym sync) ∙ sym (done_last calls call first)
+    ∙ ap (λ (cs : List Call). all_done cs first) (sym pushed)
 
 -- one that writes
-pub written_over : (calls more : List Call) (at : ℕ) (copy bytes seen now first : List ℕ) → copy ≡ bytes → seen ≡ all_done calls first
+pub written_over : (calls more : List Call) (at : ℕ) (copy bytes seen now first : List ℕ) → copy ≡ bytes →
+    seen ≡ all_done calls first
     → more ≡ calls ++ Write at copy ∷ [] → now ≡ overwritten seen at bytes → now ≡ all_done more first
 written_over calls more at copy bytes seen now first same was pushed is =
     is
@@ -74,30 +79,37 @@ last_left [] call seen before c left = left
 last_left (x ∷ calls) call seen before c left = last_left calls call (done x seen) (left_by x seen before) c left
 
 from_last : (t : ℕ) (calls : List Call) (call : Call) (seen : List ℕ) (before : Outcomes) (c : List ℕ) → t ≤ length calls →
-    left_from t (calls ++ call ∷ []) seen before c → left_from t calls seen before c ⊎ left_after (calls ++ call ∷ []) seen before c
+    left_from t (calls ++ call ∷ []) seen before c →
+    left_from t calls seen before c ⊎ left_after (calls ++ call ∷ []) seen before c
 from_last zero [] call seen before c le (inl now) = inl now
 from_last zero [] call seen before c le (inr more) = inr more
 from_last (suc t) [] call seen before c le left = absurd (omega (arith, le))
 from_last zero (x ∷ calls) call seen before c le (inl now) = inl (inl now)
 from_last zero (x ∷ calls) call seen before c le (inr more) =
-    ⊎_elim (λ past. inl (inr past)) (λ now. inr now) (from_last zero calls call (done x seen) (left_by x seen before) c (omega arith) more)
-from_last (suc t) (x ∷ calls) call seen before c le left = from_last t calls call (done x seen) (left_by x seen before) c (omega (arith, le)) left
+    ⊎_elim (λ past. inl (inr past)) (λ now. inr now)
+    (from_last zero calls call (done x seen) (left_by x seen before) c (omega arith) more)
+from_last (suc t) (x ∷ calls) call seen before c le left =
+    from_last t calls call (done x seen) (left_by x seen before) c (omega (arith, le)) left
 
 from_stays : (t : ℕ) (calls : List Call) (call : Call) (seen : List ℕ) (before : Outcomes) (c : List ℕ) → t ≤ length calls →
     left_from t calls seen before c → left_from t (calls ++ call ∷ []) seen before c
 from_stays zero [] call seen before c le left = inl left
 from_stays (suc t) [] call seen before c le left = absurd (omega (arith, le))
 from_stays zero (x ∷ calls) call seen before c le (inl now) = inl now
-from_stays zero (x ∷ calls) call seen before c le (inr more) = inr (from_stays zero calls call (done x seen) (left_by x seen before) c (omega arith) more)
-from_stays (suc t) (x ∷ calls) call seen before c le left = from_stays t calls call (done x seen) (left_by x seen before) c (omega (arith, le)) left
+from_stays zero (x ∷ calls) call seen before c le (inr more) =
+    inr (from_stays zero calls call (done x seen) (left_by x seen before) c (omega arith) more)
+from_stays (suc t) (x ∷ calls) call seen before c le left =
+    from_stays t calls call (done x seen) (left_by x seen before) c (omega (arith, le)) left
 
 -- ---- what is torn
 
 -- a write that is done whole
 pub torn_whole : (at : ℕ) (bytes old : List ℕ) → Torn at (length bytes) old (overwritten old at bytes)
 torn_whole at bytes old = record {
-  before = ap (λ (l : List ℕ). take (min at (length old)) l) (append_assoc (take at old) zeros (bytes ++ post)) ∙ take_at (take at old) (zeros ++ (bytes ++ post)) (min at (length old)) (length-take at old);
-  behind = ap (λ (l : List ℕ). drop (at + length bytes) l) (sym (append_assoc (take at old ++ zeros) bytes post)) ∙ drop_at ((take at old ++ zeros) ++ bytes) post (at + length bytes) long;
+  before = ap (λ (l : List ℕ). take (min at (length old)) l) (append_assoc (take at old) zeros (bytes ++ post))
+      ∙ take_at (take at old) (zeros ++ (bytes ++ post)) (min at (length old)) (length-take at old);
+  behind = ap (λ (l : List ℕ). drop (at + length bytes) l) (sym (append_assoc (take at old ++ zeros) bytes post))
+      ∙ drop_at ((take at old ++ zeros) ++ bytes) post (at + length bytes) long;
   no_shorter = omega (arith, length-overwritten old at bytes);
   no_longer = omega (arith, length-overwritten old at bytes);
 }
@@ -109,12 +121,19 @@ torn_whole at bytes old = record {
     post = drop (at + length bytes) old
 
     long : length ((take at old ++ zeros) ++ bytes) ≡ at + length bytes
-    long = omega (arith, length-append (take at old ++ zeros) bytes, length-append (take at old) zeros, length-take at old, length-replicate {A = ℕ} (at - length old) 0)
+    long = omega (
+      arith,
+      length-append (take at old ++ zeros) bytes,
+      length-append (take at old) zeros,
+      length-take at old,
+      length-replicate {A = ℕ} (at - length old) 0,
+    )
 
 -- one that changes nothing
 pub torn_same : (at n : ℕ) (old : List ℕ) → Torn at n old old
 torn_same at n old = record {
-  before = ap (λ (l : List ℕ). take (min at (length old)) l) (sym (take-append-drop at old)) ∙ take_at (take at old) (drop at old) (min at (length old)) (length-take at old);
+  before = ap (λ (l : List ℕ). take (min at (length old)) l) (sym (take-append-drop at old))
+      ∙ take_at (take at old) (drop at old) (min at (length old)) (length-take at old);
   behind = refl;
   no_shorter = omega arith;
   no_longer = omega arith;
@@ -132,7 +151,8 @@ holds_whole at bytes old le =
 abbrev After : Medium → Call → Medium
 After m call = record m { calls = m.calls ++ call ∷ [] }
 
-elapses_after : (m : Medium) (call : Call) → Elapses (length m.calls) (length (After m call).calls) (might_hold m) (might_hold (After m call)) (may_hold (After m call))
+elapses_after : (m : Medium) (call : Call) →
+    Elapses (length m.calls) (length (After m call).calls) (might_hold m) (might_hold (After m call)) (may_hold (After m call))
 elapses_after m call = record {
   later = omega (arith, length-append m.calls (call ∷ []));
   nothing_else = λ t c le left. from_last t m.calls call m.first (λ d. d ≡ m.first) c le left;
@@ -141,16 +161,15 @@ elapses_after m call = record {
 
 module _ (m n : Medium) (call : Call) (did : Did call m n) where
   pub did_elapse : Elapses (length m.calls) (length n.calls) (might_hold m) (might_hold n) (may_hold n)
-  did_elapse = subst (λ (k : Medium). Elapses (length m.calls) (length k.calls) (might_hold m) (might_hold k) (may_hold k)) (sym did) (elapses_after m call)
+  did_elapse =
+      subst (λ (k : Medium). Elapses (length m.calls) (length k.calls) (might_hold m) (might_hold k) (may_hold k)) (sym did)
+      (elapses_after m call)
 
   pub did_bytes : bytes_of n ≡ done call (bytes_of m)
   did_bytes = ap bytes_of did ∙ done_last m.calls call m.first
 
   pub did_leave : (c : List ℕ) → may_hold n c → left_by call (bytes_of m) (may_hold m) c
   did_leave c left = left_last m.calls call m.first (λ d. d ≡ m.first) c (subst (λ (k : Medium). may_hold k c) did left)
-
-  pub did_faults : n.faults ≡ m.faults
-  did_faults = ap (λ (k : Medium). k.faults) did
 
 stays : (m : Medium) → may_hold m (bytes_of m)
 stays m = all_seen_stays m.calls m.first (λ d. d ≡ m.first) refl
@@ -164,17 +183,26 @@ sync_only m n did c left = did_leave m n Sync did c left
 pub sync_narrows : (m n : Medium) → Did Sync m n → Narrows (may_hold m) (may_hold n)
 sync_narrows m n did c left = subst (may_hold m) (sym (sync_only m n did c left)) (stays m)
 
-pub write_follows : (m n : Medium) (at : ℕ) (bytes : List ℕ) → Did (Write at bytes) m n → Follows (Torn at (length bytes)) (may_hold m) (may_hold n)
+pub write_follows : (m n : Medium) (at : ℕ) (bytes : List ℕ) → Did (Write at bytes) m n →
+    Follows (Torn at (length bytes)) (may_hold m) (may_hold n)
 write_follows m n at bytes did c left = by_part (did_leave m n (Write at bytes) did c left)
   where
     by_part : left_by (Write at bytes) (bytes_of m) (may_hold m) c → (d : List ℕ) × may_hold m d × Torn at (length bytes) d c
-    by_part (inl whole) = (bytes_of m, whole.1, subst (λ (l : List ℕ). Torn at (length bytes) (bytes_of m) l) (sym whole.0) (torn_whole at bytes (bytes_of m)))
+    by_part (inl whole) = (
+      bytes_of m,
+      whole.1,
+      subst (λ (l : List ℕ). Torn at (length bytes) (bytes_of m) l) (sym whole.0) (torn_whole at bytes (bytes_of m)),
+    )
     by_part (inr torn) = torn
 
-pub write_torn : (m n : Medium) (at : ℕ) (bytes : List ℕ) → Did (Write at bytes) m n → Torn at (length bytes) (bytes_of m) (bytes_of n)
-write_torn m n at bytes did = subst (λ (l : List ℕ). Torn at (length bytes) (bytes_of m) l) (sym (did_bytes m n (Write at bytes) did)) (torn_whole at bytes (bytes_of m))
+pub write_torn : (m n : Medium) (at : ℕ) (bytes : List ℕ) → Did (Write at bytes) m n →
+    Torn at (length bytes) (bytes_of m) (bytes_of n)
+write_torn m n at bytes did =
+    subst (λ (l : List ℕ). Torn at (length bytes) (bytes_of m) l) (sym (did_bytes m n (Write at bytes) did))
+    (torn_whole at bytes (bytes_of m))
 
-pub write_holds : (m n : Medium) (at : ℕ) (bytes : List ℕ) → Did (Write at bytes) m n → at ≤ length (bytes_of m) → Holds (bytes_of m) at bytes (bytes_of n)
+pub write_holds : (m n : Medium) (at : ℕ) (bytes : List ℕ) → Did (Write at bytes) m n → at ≤ length (bytes_of m) →
+    Holds (bytes_of m) at bytes (bytes_of n)
 write_holds m n at bytes did le = did_bytes m n (Write at bytes) did ∙ holds_whole at bytes (bytes_of m) le
 
 -- ---- a call failed
@@ -207,4 +235,5 @@ pub failed_follows : (m n : Medium) (at k : ℕ) → Failed m n → Follows (Tor
 failed_follows m n at k failed c left = (c, (failed_is_calm m n failed).narrows c left, torn_same at k c)
 
 pub failed_torn : (m n : Medium) (at k : ℕ) → Failed m n → Torn at k (bytes_of m) (bytes_of n)
-failed_torn m n at k failed = subst (λ (l : List ℕ). Torn at k (bytes_of m) l) (sym (failed_is_calm m n failed).bytes) (torn_same at k (bytes_of m))
+failed_torn m n at k failed =
+    subst (λ (l : List ℕ). Torn at k (bytes_of m) l) (sym (failed_is_calm m n failed).bytes) (torn_same at k (bytes_of m))

@@ -34,14 +34,17 @@ module _ {T : Type 0} (m n : Medium) where
   sync_durable (Err e) did = tt
 
   module _ (at : ℕ) (bytes : List ℕ) where
-    pub write_crash : (r : Result T DiskErr) → OnOk r (Did (Write at bytes) m n) → OnErr r (Failed m n) → Follows (Torn at (length bytes)) (may_hold m) (may_hold n)
+    pub write_crash : (r : Result T DiskErr) → OnOk r (Did (Write at bytes) m n) → OnErr r (Failed m n) →
+        Follows (Torn at (length bytes)) (may_hold m) (may_hold n)
     write_crash (Ok x) did failed = write_follows m n at bytes did
     write_crash (Err e) did failed = failed_follows m n at (length bytes) failed
 
-    pub write_part : (r : Result T DiskErr) → OnOk r (Did (Write at bytes) m n) → OnErr r (Failed m n) → IsTrue true → Torn at (length bytes) (bytes_of m) (bytes_of n)
+    pub write_part : (r : Result T DiskErr) → OnOk r (Did (Write at bytes) m n) → OnErr r (Failed m n) → IsTrue true →
+        Torn at (length bytes) (bytes_of m) (bytes_of n)
     write_part (Ok x) did failed told = write_torn m n at bytes did
     write_part (Err e) did failed told = failed_torn m n at (length bytes) failed
 
-    pub write_bytes : (r : Result T DiskErr) → OnOk r (Did (Write at bytes) m n) → OnOk r (IsTrue true → at ≤ length (bytes_of m) → Holds (bytes_of m) at bytes (bytes_of n))
+    pub write_bytes : (r : Result T DiskErr) → OnOk r (Did (Write at bytes) m n) →
+        OnOk r (IsTrue true → at ≤ length (bytes_of m) → Holds (bytes_of m) at bytes (bytes_of n))
     write_bytes (Ok x) did = λ told le. write_holds m n at bytes did le
     write_bytes (Err e) did = tt

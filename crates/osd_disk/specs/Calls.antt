@@ -42,7 +42,8 @@ pub after_is_from : (t : ℕ) (calls : List Call) (seen : List ℕ) (before : Li
     left_after calls seen before c → left_from t calls seen before c
 after_is_from zero [] seen before c left = left
 after_is_from (suc t) [] seen before c left = left
-after_is_from zero (call ∷ calls) seen before c left = inr (after_is_from zero calls (done call seen) (left_by call seen before) c left)
+after_is_from zero (call ∷ calls) seen before c left =
+    inr (after_is_from zero calls (done call seen) (left_by call seen before) c left)
 after_is_from (suc t) (call ∷ calls) seen before c left = after_is_from t calls (done call seen) (left_by call seen before) c left
 
 -- after as many of them as there are is after all of them
@@ -52,7 +53,8 @@ from_last_is_after [] seen before c left = left
 from_last_is_after (call ∷ calls) seen before c left = from_last_is_after calls (done call seen) (left_by call seen before) c left
 
 -- a crash may leave what is seen after a call
-pub seen_stays : (call : Call) (seen : List ℕ) (before : List ℕ → Type 0) → before seen → left_by call seen before (done call seen)
+pub seen_stays : (call : Call) (seen : List ℕ) (before : List ℕ → Type 0) → before seen →
+    left_by call seen before (done call seen)
 seen_stays (Write at bytes) seen before stays = inl (refl, stays)
 seen_stays Sync seen before stays = refl
 seen_stays Idle seen before stays = stays

@@ -58,7 +58,8 @@ pub trait Disk {
         ensures tells { tells self.new ≡ tells self.old }
         ensures seen { seen self.new ≡ seen self.old }
         ensures crash { Narrows (may_leave self.old) (may_leave self.new) }
-        ensures time { Elapses (moment self.old) (moment self.new) (left_since self.old) (left_since self.new) (may_leave self.new) }
+        ensures time { Elapses (moment self.old) (moment self.new) (left_since self.old) (left_since self.new)
+            (may_leave self.new) }
         ensures cause { HasDiskCause (faults self.old) (faults self.new) result };
 
     /// How many bytes there are, below 2^63.
@@ -68,7 +69,8 @@ pub trait Disk {
         ensures tells { tells self.new ≡ tells self.old }
         ensures seen { seen self.new ≡ seen self.old }
         ensures crash { Narrows (may_leave self.old) (may_leave self.new) }
-        ensures time { Elapses (moment self.old) (moment self.new) (left_since self.old) (left_since self.new) (may_leave self.new) }
+        ensures time { Elapses (moment self.old) (moment self.new) (left_since self.old) (left_since self.new)
+            (may_leave self.new) }
         ensures cause { HasDiskCause (faults self.old) (faults self.new) result };
 
     /// Reads bytes from a place on into a buffer, and answers how many it read. No bytes for a buffer
@@ -79,19 +81,22 @@ pub trait Disk {
         ensures tells { tells self.new ≡ tells self.old }
         ensures seen { seen self.new ≡ seen self.old }
         ensures crash { Narrows (may_leave self.old) (may_leave self.new) }
-        ensures time { Elapses (moment self.old) (moment self.new) (left_since self.old) (left_since self.new) (may_leave self.new) }
+        ensures time { Elapses (moment self.old) (moment self.new) (left_since self.old) (left_since self.new)
+            (may_leave self.new) }
         ensures cause { HasDiskCause (faults self.old) (faults self.new) result };
 
     /// Writes over what is there, and past the end. Until the next sync a crash may leave any bytes in
     /// the range. A write that fails may have written some of its bytes. None whose end would lie
     /// above 2^63 - 1 is answered `Ok`.
     fn write_at(&mut self, at: u64, bytes: &[u8]) -> Result<(), DiskErr>
-        ensures bytes { OnOk result (IsTrue (tells self.old) → at ≤ length (seen self.old) → Holds (seen self.old) at bytes.now (seen self.new)) }
+        ensures bytes { OnOk result
+            (IsTrue (tells self.old) → at ≤ length (seen self.old) → Holds (seen self.old) at bytes.now (seen self.new)) }
         ensures part { IsTrue (tells self.old) → Torn at (length bytes.now) (seen self.old) (seen self.new) }
         ensures bound { OnOk result (at + length bytes.now < 2 ^ 63) }
         ensures tells { tells self.new ≡ tells self.old }
         ensures crash { Follows (Torn at (length bytes.now)) (may_leave self.old) (may_leave self.new) }
-        ensures time { Elapses (moment self.old) (moment self.new) (left_since self.old) (left_since self.new) (may_leave self.new) }
+        ensures time { Elapses (moment self.old) (moment self.new) (left_since self.old) (left_since self.new)
+            (may_leave self.new) }
         ensures cause { HasDiskCause (faults self.old) (faults self.new) result };
 
     /// Makes all that was written last: after it a crash leaves what a read gives.
@@ -100,7 +105,8 @@ pub trait Disk {
         ensures tells { tells self.new ≡ tells self.old }
         ensures seen { seen self.new ≡ seen self.old }
         ensures crash { Narrows (may_leave self.old) (may_leave self.new) }
-        ensures time { Elapses (moment self.old) (moment self.new) (left_since self.old) (left_since self.new) (may_leave self.new) }
+        ensures time { Elapses (moment self.old) (moment self.new) (left_since self.old) (left_since self.new)
+            (may_leave self.new) }
         ensures cause { HasDiskCause (faults self.old) (faults self.new) result };
 
     /// This moment is one of those since an earlier one.

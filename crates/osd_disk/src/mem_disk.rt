@@ -118,7 +118,8 @@ impl MemDisk {
     fn note_idle(&mut self) -> Result<(), DiskErr>
         ensures seen { bytes_of self.new ≡ bytes_of self.old }
         ensures crash { Narrows (may_hold self.old) (may_hold self.new) }
-        ensures time { Elapses (length self.old.calls) (length self.new.calls) (might_hold self.old) (might_hold self.new) (may_hold self.new) }
+        ensures time { Elapses (length self.old.calls) (length self.new.calls) (might_hold self.old) (might_hold self.new)
+            (may_hold self.new) }
         ensures cause { HasDiskCause self.old.faults self.new.faults result }
     {
         self.note(Call::Idle)

@@ -21,7 +21,8 @@ all_refuse [] = true
 all_refuse (r ∷ rows) = refuses r.1 && all_refuse rows
 
 -- a row doesn't apply where the verdict is Perform
-row_passes : (b : Bool) (v w : Verdict) → refuses v ≡ true → (if b then v else w) ≡ verdict.Perform → (b ≡ false) × (w ≡ verdict.Perform)
+row_passes : (b : Bool) (v w : Verdict) → refuses v ≡ true → (if b then v else w) ≡ verdict.Perform →
+    (b ≡ false) × (w ≡ verdict.Perform)
 row_passes true v w refusal e = absurd (cc (sym (ap refuses e) ∙ refusal))
 row_passes false v w refusal e = (refl, e)
 
@@ -78,7 +79,8 @@ clear_late s c e =
     }
 
 -- what is left of the table past the rows that don't ask what objects there are
-pub past_early : (early late : List Row) → all_refuse early ≡ true → first_row (early ++ late) ≡ verdict.Perform → NoneApplies early × (first_row late ≡ verdict.Perform)
+pub past_early : (early late : List Row) → all_refuse early ≡ true → first_row (early ++ late) ≡ verdict.Perform →
+    NoneApplies early × (first_row late ≡ verdict.Perform)
 past_early [] late refusals e = (tt, e)
 past_early (r ∷ rows) late refusals e =
     let rest = and_parts (refuses r.1) (all_refuse rows) refusals in
@@ -87,13 +89,17 @@ past_early (r ∷ rows) late refusals e =
     ((row.0, more.0), more.1)
 
 -- a command without any fault has none of the object, and a SET ATTR names a user's attribute
-pub clear_early : (d : DriveState) (now : ℕ) (c : Command) → first_fault d now c ≡ verdict.Perform → (late_fault_of (view_of d.store c) c ≡ verdict.Perform) × ((is_set_attr c.action && nat_lt c.attribute FIRST_USER_ATTRIBUTE) ≡ false)
+pub clear_early : (d : DriveState) (now : ℕ) (c : Command) → first_fault d now c ≡ verdict.Perform →
+    (late_fault_of (view_of d.store c) c ≡ verdict.Perform) ×
+    ((is_set_attr c.action && nat_lt c.attribute FIRST_USER_ATTRIBUTE) ≡ false)
 unfolding first_fault late_fault_of
 clear_early d now c e =
     let past = past_early (early_rows d now c) (late_rows (view_of d.store c) c) refl e in
-    (past.1, (or_parts (nat_eq (bit_and c.capability.rights (right_of c.action)) 0) (is_set_attr c.action && nat_lt c.attribute FIRST_USER_ATTRIBUTE) past.0.1.1.1.1.0).1)
+    (past.1, (or_parts (nat_eq (bit_and c.capability.rights (right_of c.action)) 0)
+        (is_set_attr c.action && nat_lt c.attribute FIRST_USER_ATTRIBUTE) past.0.1.1.1.1.0).1)
 
-names_user : (d : DriveState) (now : ℕ) (c : Command) → first_fault d now c ≡ verdict.Perform → c.action ≡ SetAttr → FIRST_USER_ATTRIBUTE ≤ c.attribute
+names_user : (d : DriveState) (now : ℕ) (c : Command) → first_fault d now c ≡ verdict.Perform → c.action ≡ SetAttr →
+    FIRST_USER_ATTRIBUTE ≤ c.attribute
 names_user d now c e sets = let early = rw sets at (clear_early d now c e).1 in grind (arith, early)
 
 pub ready : (d : DriveState) (now : ℕ) (c : Command) → first_fault d now c ≡ verdict.Perform → IsReady d c

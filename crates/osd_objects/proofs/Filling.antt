@@ -26,7 +26,8 @@ unfolding byte_at
 byte_with_page pages n k = elim (cases_Bool (is_some (page_at pages n))) [
   | inl there ↦ rw there refl
   | inr none ↦ rw none (elim (cases_eq (k / PAGE_BYTES) n) [
-    | inl same ↦ ap (λ x. byte_on x (k % PAGE_BYTES)) (page_new pages n (k / PAGE_BYTES) same) ∙ get_or-replicate PAGE_BYTES (k % PAGE_BYTES) 0 0 (omega arith)
+    | inl same ↦ ap (λ x. byte_on x (k % PAGE_BYTES)) (page_new pages n (k / PAGE_BYTES) same)
+        ∙ get_or-replicate PAGE_BYTES (k % PAGE_BYTES) 0 0 (omega arith)
         ∙ sym (ap (λ x. byte_on x (k % PAGE_BYTES)) (ap (page_at pages) same ∙ none_there _ none))
     | inr other ↦ ap (λ x. byte_on x (k % PAGE_BYTES)) (lookup_beside pages n (k / PAGE_BYTES) zeros other)
   ])
@@ -36,12 +37,14 @@ full_with_page : (pages : Pages) (n : ℕ) → AreFull pages → AreFull (with_p
 full_with_page pages n full = λ q page found. elim (cases_Bool (is_some (page_at pages n))) [
   | inl there ↦ full q page (rw there at found)
   | inr none ↦ elim (cases_eq q n) [
-    | inl same ↦ (let e : Some zeros ≡ Some page = sym (page_new pages n q same) ∙ rw none at found in ap length (sym (same_Some zeros page e)) ∙ length-replicate {A = ℕ} PAGE_BYTES 0)
+    | inl same ↦ (let e : Some zeros ≡ Some page = sym (page_new pages n q same) ∙ rw none at found in
+        ap length (sym (same_Some zeros page e)) ∙ length-replicate {A = ℕ} PAGE_BYTES 0)
     | inr other ↦ full q page (sym (lookup_beside pages n q zeros other) ∙ rw none at found)
   ]
 ]
 
-there_with_page : (pages : Pages) (n q : ℕ) → (is_some (page_at pages q) ≡ true) ⊎ (q ≡ n) → is_some (page_at (with_page pages n) q) ≡ true
+there_with_page : (pages : Pages) (n q : ℕ) → (is_some (page_at pages q) ≡ true) ⊎ (q ≡ n) →
+    is_some (page_at (with_page pages n) q) ≡ true
 there_with_page pages n q h = elim (cases_Bool (is_some (page_at pages n))) [
   | inl there ↦ rw there (elim h [ inl old ↦ old | inr same ↦ ap (λ x. is_some (page_at pages x)) same ∙ there ])
   | inr none ↦ rw none (elim (cases_eq q n) [
@@ -55,7 +58,8 @@ found_by_key : {X : Type 0} (test : ℕ → Bool) (es : List (ℕ × X)) → is_
 found_by_key test [] = refl
 found_by_key test (e ∷ es) = elim (cases_Bool (test e.0)) [ inl here ↦ rw here refl | inr past ↦ rw past (found_by_key test es) ]
 
-keys_inserted : {X : Type 0} (es : List (ℕ × X)) (k : ℕ) (v : X) → keys_of (insert_entry nat_cmp es k v) ≡ insert_key nat_cmp (keys_of es) k
+keys_inserted : {X : Type 0} (es : List (ℕ × X)) (k : ℕ) (v : X) →
+    keys_of (insert_entry nat_cmp es k v) ≡ insert_key nat_cmp (keys_of es) k
 keys_inserted [] k v = refl
 keys_inserted (e ∷ es) k v = elim (cases_lt k e.0) [
   | inl less ↦ rw (lt-ltb k e.0 less) refl
@@ -67,8 +71,10 @@ keys_inserted (e ∷ es) k v = elim (cases_lt k e.0) [
 
 keys_with_page : (pages : Pages) (n : ℕ) → keys_of (with_page pages n) ≡ touch (keys_of pages) n
 keys_with_page pages n = elim (cases_Bool (is_some (page_at pages n))) [
-  | inl there ↦ (let key : list_any (is_at (nat_cmp n)) (keys_of pages) ≡ true = sym (found_by_key (is_at (nat_cmp n)) pages) ∙ there in rw (there, key) refl)
-  | inr none ↦ (let key : list_any (is_at (nat_cmp n)) (keys_of pages) ≡ false = sym (found_by_key (is_at (nat_cmp n)) pages) ∙ none in rw (none, key) (keys_inserted pages n zeros))
+  | inl there ↦ (let key : list_any (is_at (nat_cmp n)) (keys_of pages) ≡ true =
+      sym (found_by_key (is_at (nat_cmp n)) pages) ∙ there in rw (there, key) refl)
+  | inr none ↦ (let key : list_any (is_at (nat_cmp n)) (keys_of pages) ≡ false =
+      sym (found_by_key (is_at (nat_cmp n)) pages) ∙ none in rw (none, key) (keys_inserted pages n zeros))
 ]
 
 pub byte_with_pages : (pages : Pages) (first n k : ℕ) → byte_at (with_pages pages first n) k ≡ byte_at pages k
@@ -81,7 +87,8 @@ unfolding with_pages
 full_with_pages pages first zero full = full
 full_with_pages pages first (suc n) full = full_with_pages (with_page pages first) (first + 1) n (full_with_page pages first full)
 
-pub there_with_pages : (pages : Pages) (first n q : ℕ) → (is_some (page_at pages q) ≡ true) ⊎ ((first ≤ q) × (q < first + n)) → is_some (page_at (with_pages pages first n) q) ≡ true
+pub there_with_pages : (pages : Pages) (first n q : ℕ) → (is_some (page_at pages q) ≡ true) ⊎ ((first ≤ q) × (q < first + n)) →
+    is_some (page_at (with_pages pages first n) q) ≡ true
 unfolding with_pages
 there_with_pages pages first zero q h = elim h [ inl old ↦ old | inr none ↦ absurd (omega (arith, none.0, none.1)) ]
 there_with_pages pages first (suc n) q h = there_with_pages (with_page pages first) (first + 1) n q (elim h [
@@ -95,4 +102,6 @@ there_with_pages pages first (suc n) q h = there_with_pages (with_page pages fir
 pub keys_with_pages : (pages : Pages) (first n : ℕ) → keys_of (with_pages pages first n) ≡ touch_from (keys_of pages) first n
 unfolding with_pages touch_from
 keys_with_pages pages first zero = refl
-keys_with_pages pages first (suc n) = keys_with_pages (with_page pages first) (first + 1) n ∙ ap (λ (x : List ℕ). touch_from x (first + 1) n) (keys_with_page pages first)
+keys_with_pages pages first (suc n) =
+    keys_with_pages (with_page pages first) (first + 1) n
+    ∙ ap (λ (x : List ℕ). touch_from x (first + 1) n) (keys_with_page pages first)

@@ -4,7 +4,6 @@ pub mod Written
 pub mod Counting
 pub mod SoFar
 pub mod Promised
-pub mod Words
 pub mod Inspecting
 pub mod Stopping
 pub mod Generated

@@ -32,7 +32,8 @@ use Rattle.osd_replay.proofs.Written.{scenario_fits}
 
 -- ---- one event more
 
-made_by : (front : List Event) (e : Event) (old new : Digested) (text : List ℕ) (is_full : Bool) → is_full ≡ false → Fits e → (m : Made front old) → CarriesBy m.world e old.world new.world text is_full
+made_by : (front : List Event) (e : Event) (old new : Digested) (text : List ℕ) (is_full : Bool) → is_full ≡ false → Fits e →
+    (m : Made front old) → CarriesBy m.world e old.world new.world text is_full
     → ((m : List ℕ) → Holds old.digest m → Holds new.digest (m ++ text)) → Made (front ++ e ∷ []) new
 made_by front e old new text true whole may m by holds = absurd (cc whole)
 made_by front e old new text false whole may m by holds = record {
@@ -41,30 +42,42 @@ made_by front e old new text false whole may m by holds = record {
   shows = by.shows;
   tells = tells_more front m.world by.world m.history by.lines e m.tells by.carries by.fits;
   watches = by.watches m.history m.tells.stands (event_written e may) m.watches;
-  holds = subst (λ (x : List ℕ). Holds new.digest x) (sym (lines_text_more m.history by.lines ∙ ap (λ (x : List ℕ). lines_text m.history ++ x) (sym by.text_is))) (holds (lines_text m.history) m.holds);
+  holds = subst (λ (x : List ℕ). Holds new.digest x)
+      (sym (lines_text_more m.history by.lines ∙ ap (λ (x : List ℕ). lines_text m.history ++ x) (sym by.text_is)))
+          (holds (lines_text m.history) m.holds);
 }
 
-pub made_more : (front : List Event) (e : Event) (old new : Digested) (carried : Carried) → carried.is_full ≡ false → Fits e → Made front old → CarriesEvent e old.world new.world carried
+pub made_more : (front : List Event) (e : Event) (old new : Digested) (carried : Carried) → carried.is_full ≡ false → Fits e →
+    Made front old → CarriesEvent e old.world new.world carried
     → ((m : List ℕ) → Holds old.digest m → Holds new.digest (m ++ carried.text)) → Made (front ++ e ∷ []) new
-made_more front e old new carried whole may m carries holds = made_by front e old new carried.text carried.is_full whole may m (carries m.world m.shows) holds
+made_more front e old new carried whole may m carries holds =
+    made_by front e old new carried.text carried.is_full whole may m (carries m.world m.shows) holds
 
-fills_by : (front : List Event) (e : Event) (old : Digested) (new : WorldState) (text : List ℕ) (is_full : Bool) → is_full ≡ true → (m : Made front old) → CarriesBy m.world e old.world new text is_full → FillsBehind front e
+fills_by : (front : List Event) (e : Event) (old : Digested) (new : WorldState) (text : List ℕ) (is_full : Bool) →
+    is_full ≡ true → (m : Made front old) → CarriesBy m.world e old.world new text is_full → FillsBehind front e
 fills_by front e old new text false full m by = absurd (cc full)
-fills_by front e old new text true full m cut = record { world = m.world; history = m.history; tells = m.tells; cut = cut.lines; fills = cut.fills }
+fills_by front e old new text true full m cut =
+    record { world = m.world; history = m.history; tells = m.tells; cut = cut.lines; fills = cut.fills }
 
-pub fills_behind : (front : List Event) (e : Event) (old : Digested) (new : WorldState) (carried : Carried) → carried.is_full ≡ true → Made front old → CarriesEvent e old.world new carried → FillsBehind front e
-fills_behind front e old new carried full m carries = fills_by front e old new carried.text carried.is_full full m (carries m.world m.shows)
+pub fills_behind : (front : List Event) (e : Event) (old : Digested) (new : WorldState) (carried : Carried) →
+    carried.is_full ≡ true → Made front old → CarriesEvent e old.world new carried → FillsBehind front e
+fills_behind front e old new carried full m carries =
+    fills_by front e old new carried.text carried.is_full full m (carries m.world m.shows)
 
-stops_by : (front : List Event) (e : Event) (old : Digested) (stop : Stop) → (m : Made front old) → StopsIn m.world e stop → StopsBehind front e stop
-stops_by front e old (Refused kind) m h = record { world = m.world; history = m.history; tells = m.tells; cause = h.0; kind_is = h.1; refused = h.2 }
+stops_by : (front : List Event) (e : Event) (old : Digested) (stop : Stop) → (m : Made front old) → StopsIn m.world e stop →
+    StopsBehind front e stop
+stops_by front e old (Refused kind) m h =
+    record { world = m.world; history = m.history; tells = m.tells; cause = h.0; kind_is = h.1; refused = h.2 }
 stops_by front e old Read m h = h
 stops_by front e old Memory m h = tt
 stops_by front e old (Full quantity) m h = absurd h
 
-pub stops_behind : (front : List Event) (e : Event) (old : Digested) (stop : Stop) → Made front old → StopsEvent e old.world stop → StopsBehind front e stop
+pub stops_behind : (front : List Event) (e : Event) (old : Digested) (stop : Stop) → Made front old →
+    StopsEvent e old.world stop → StopsBehind front e stop
 stops_behind front e old stop m h = stops_by front e old stop m (h m.world m.shows)
 
-pub stops_among : (all front rest : List Event) (e : Event) (stop : Stop) → all ≡ front ++ e ∷ rest → StopsBehind front e stop → StopsAmong all stop
+pub stops_among : (all front rest : List Event) (e : Event) (stop : Stop) → all ≡ front ++ e ∷ rest → StopsBehind front e stop →
+    StopsAmong all stop
 stops_among all front rest e (Refused kind) is h = record { events = front; next = e; rest = rest; all_are = is; stops = h }
 stops_among all front rest e Read is h = absurd h
 stops_among all front rest e Memory is h = tt
@@ -74,10 +87,14 @@ stops_among all front rest e (Full quantity) is h = record { events = front; nex
 
 -- nothing was made yet
 pub made_none : (d : Digested) → Shows d.world.parties empty_world → WatchesAll [] d.world.watch → Holds d.digest [] → Made [] d
-made_none d shows watches holds = record { world = empty_world; history = []; shows = shows; tells = tells_none; watches = watches; holds = holds }
+made_none d shows watches holds =
+    record { world = empty_world; history = []; shows = shows; tells = tells_none; watches = watches; holds = holds }
 
-pub comes_to : HistoriesAreSound → (seed calls : ℕ) (events : List Event) (d : Digested) (text : List ℕ) → events ≡ scenario_of seed calls → Made events d
-    → ((h : List Line) → Holds d.digest (lines_text h) → text ≡ result_text d.world.watch.summary h (Last d.world.watch.moments.calm d.world.watch.guesses.unguessed)) → ComesTo seed calls text
+pub comes_to : HistoriesAreSound → (seed calls : ℕ) (events : List Event) (d : Digested) (text : List ℕ) →
+    events ≡ scenario_of seed calls → Made events d
+    → ((h : List Line) → Holds d.digest (lines_text h) →
+        text ≡ result_text d.world.watch.summary h (Last d.world.watch.moments.calm d.world.watch.guesses.unguessed)) →
+        ComesTo seed calls text
 comes_to law seed calls events d text is m told =
     let here : Made (scenario_of seed calls) d = subst (λ (es : List Event). Made es d) is m in
     record {
@@ -94,13 +111,17 @@ comes_to law seed calls events d text is m told =
       };
       text_is =
           told here.history here.holds
-          ∙ ap (λ (s : Summary). result_text s here.history (Last d.world.watch.moments.calm d.world.watch.guesses.unguessed)) here.watches.told.summary;
+          ∙ ap (λ (s : Summary). result_text s here.history (Last d.world.watch.moments.calm d.world.watch.guesses.unguessed))
+              here.watches.told.summary;
     }
 
-pub all_told : (seed calls : ℕ) (b a : Ends) (text : List ℕ) → ComesTo seed calls text → Appends b.taken a.taken text → a.writes_failed ≡ b.writes_failed → IsDone seed calls b a
-all_told seed calls b a text h out same = record { outcome = h.outcome; out = subst (λ (x : List ℕ). Appends b.taken a.taken x) h.text_is out; writes = same }
+pub all_told : (seed calls : ℕ) (b a : Ends) (text : List ℕ) → ComesTo seed calls text → Appends b.taken a.taken text →
+    a.writes_failed ≡ b.writes_failed → IsDone seed calls b a
+all_told seed calls b a text h out same =
+    record { outcome = h.outcome; out = subst (λ (x : List ℕ). Appends b.taken a.taken x) h.text_is out; writes = same }
 
-pub part_told : (seed calls : ℕ) (b a : Ends) (text : List ℕ) (upto : ℕ) → ComesTo seed calls text → upto < length text → Appends b.taken a.taken (take upto text) → Rose b.writes_failed a.writes_failed → IsWriteFault seed calls b a
+pub part_told : (seed calls : ℕ) (b a : Ends) (text : List ℕ) (upto : ℕ) → ComesTo seed calls text → upto < length text →
+    Appends b.taken a.taken (take upto text) → Rose b.writes_failed a.writes_failed → IsWriteFault seed calls b a
 part_told seed calls b a text upto h short out rose = record {
   outcome = h.outcome;
   upto = upto;
@@ -110,11 +131,14 @@ part_told seed calls b a text upto h short out rose = record {
 }
 
 -- only an error line went out
-only_error : (b a : Ends) (error : List ℕ) (whole : Bool) → Puts b.taken a.taken b.writes_failed a.writes_failed error whole → PutsError b a [] error
+only_error : (b a : Ends) (error : List ℕ) (whole : Bool) → Puts b.taken a.taken b.writes_failed a.writes_failed error whole →
+    PutsError b a [] error
 only_error b a error whole put = tells b a b.taken [] error b.writes_failed whole (appends_none b.taken) put refl
 
-pub not_made : (seed calls : ℕ) (b a : Ends) (stop : Stop) (whole : Bool) → StopsAmong (scenario_of seed calls) stop → Puts b.taken a.taken b.writes_failed a.writes_failed (error_of stop 0) whole → Promises seed calls b a (status_of stop 0)
-not_made seed calls b a (Refused kind) whole h put = record { number_is = refl; stopped = record { at = h; puts = only_error b a _ whole put } }
+pub not_made : (seed calls : ℕ) (b a : Ends) (stop : Stop) (whole : Bool) → StopsAmong (scenario_of seed calls) stop →
+    Puts b.taken a.taken b.writes_failed a.writes_failed (error_of stop 0) whole → Promises seed calls b a (status_of stop 0)
+not_made seed calls b a (Refused kind) whole h put =
+    record { number_is = refl; stopped = record { at = h; puts = only_error b a _ whole put } }
 not_made seed calls b a Read whole h put = absurd h.stops
 not_made seed calls b a Memory whole h put = record { puts = only_error b a _ whole put }
 not_made seed calls b a (Full quantity) whole h put = record { at = h; puts = only_error b a _ whole put }
@@ -124,8 +148,10 @@ not_made seed calls b a (Full quantity) whole h put = record { at = h; puts = on
 pub two_more : (a b c t1 t2 t3 : List ℕ) → t1 ≡ a → t2 ≡ t1 ++ b → t3 ≡ t2 ++ c → t3 ≡ a ++ (b ++ c)
 two_more a b c t1 t2 t3 e1 e2 e3 = rw (e3, e2, e1) (append_assoc a b c)
 
-pub five_more : (a b c d e f t1 t2 t3 t4 t5 t6 : List ℕ) → t1 ≡ a → t2 ≡ t1 ++ b → t3 ≡ t2 ++ c → t4 ≡ t3 ++ d → t5 ≡ t4 ++ e → t6 ≡ t5 ++ f
+pub five_more : (a b c d e f t1 t2 t3 t4 t5 t6 : List ℕ) → t1 ≡ a → t2 ≡ t1 ++ b → t3 ≡ t2 ++ c → t4 ≡ t3 ++ d → t5 ≡ t4 ++ e →
+    t6 ≡ t5 ++ f
     → t6 ≡ a ++ (b ++ (c ++ (d ++ (e ++ f))))
 five_more a b c d e f t1 t2 t3 t4 t5 t6 e1 e2 e3 e4 e5 e6 =
     rw (e6, e5, e4, e3, e2, e1)
-    (append_assoc (((a ++ b) ++ c) ++ d) e f ∙ append_assoc ((a ++ b) ++ c) d (e ++ f) ∙ append_assoc (a ++ b) c (d ++ (e ++ f)) ∙ append_assoc a b (c ++ (d ++ (e ++ f))))
+    (append_assoc (((a ++ b) ++ c) ++ d) e f ∙ append_assoc ((a ++ b) ++ c) d (e ++ f) ∙ append_assoc (a ++ b) c (d ++ (e ++ f))
+        ∙ append_assoc a b (c ++ (d ++ (e ++ f))))

@@ -6,7 +6,8 @@ use Rattle.std.proofs.lemmas.List.{take-append-drop, take-append-le}
 use Rattle.std.proofs.lemmas.List.Concat.{flat_map-cons}
 use Rattle.std.proofs.lemmas.Grind.{flat_map-append}
 
-pub cut_in_piece : {X : Type 0} (f : X → List ℕ) (ps : List X) (i n : ℕ) (e : X) → i < length ps → n ≤ length (f (get_or ps i e)) →
+pub cut_in_piece : {X : Type 0} (f : X → List ℕ) (ps : List X) (i n : ℕ) (e : X) → i < length ps →
+    n ≤ length (f (get_or ps i e)) →
     take (length (flat_map f (take i ps)) + n) (flat_map f ps) ≡ flat_map f (take i ps) ++ take n (f (get_or ps i e))
 cut_in_piece {X} f ps i n e inside short =
     let split : flat_map f ps ≡ flat_map f (take i ps) ++ (f (get_or ps i e) ++ flat_map f (drop (i + 1) ps)) =

@@ -24,9 +24,11 @@ use Rattle.exchange_law.proofs.CountWorlds.{event_written}
 abbrev pub Reached : Option (List ℕ) → List (List ℕ) → ℕ → Option (List ℕ) → Type 0
 Reached None lines taken now = Unit {0}
 Reached (Some input) lines taken None = ⊥
-Reached (Some input) lines taken (Some rest) = (front : List ℕ) × (input ≡ front ++ rest) × (length front ≡ taken) × (lines_of input ≡ lines ++ lines_of rest)
+Reached (Some input) lines taken (Some rest) =
+    (front : List ℕ) × (input ≡ front ++ rest) × (length front ≡ taken) × (lines_of input ≡ lines ++ lines_of rest)
 
-pub record SoFar (input now : Option (List ℕ)) (taken : ℕ) (before after : Option (List ℕ)) (number : ℕ) (state : WorldState) : Type 0 where
+pub record SoFar (input now : Option (List ℕ)) (taken : ℕ) (before after : Option (List ℕ)) (number : ℕ)
+    (state : WorldState) : Type 0 where
   pub lines : List (List ℕ)
   pub events : List Event
   pub world : World
@@ -42,12 +44,15 @@ pub record SoFar (input now : Option (List ℕ)) (taken : ℕ) (before after : O
 
 -- ---- lists that grow at their end
 
-pub events_more : (lines : List (List ℕ)) (events : List Event) (line : List ℕ) (more : List Event) → HasEvents lines events → HasEvents (line ∷ []) more → HasEvents (lines ++ line ∷ []) (events ++ more)
+pub events_more : (lines : List (List ℕ)) (events : List Event) (line : List ℕ) (more : List Event) → HasEvents lines events →
+    HasEvents (line ∷ []) more → HasEvents (lines ++ line ∷ []) (events ++ more)
 events_more [] events line more h g = subst (λ (es : List Event). HasEvents (line ∷ []) (es ++ more)) (sym h) g
 events_more (l ∷ lines) events line more (inl h) g = inl (h.0, events_more lines events line more h.1 g)
-events_more (l ∷ lines) events line more (inr h) g = inr (h.0, h.1 ++ more, ap (λ (es : List Event). es ++ more) h.2, h.3, h.4, events_more lines h.1 line more h.5 g)
+events_more (l ∷ lines) events line more (inr h) g =
+    inr (h.0, h.1 ++ more, ap (λ (es : List Event). es ++ more) h.2, h.3, h.4, events_more lines h.1 line more h.5 g)
 
-pub reached_more : (input now next : Option (List ℕ)) (lines : List (List ℕ)) (line : List ℕ) (taken more : ℕ) → Reached input lines taken now → Yields now next (Ok (Some line)) → TakesLine taken more now next (Ok (Some line)) →
+pub reached_more : (input now next : Option (List ℕ)) (lines : List (List ℕ)) (line : List ℕ) (taken more : ℕ) →
+    Reached input lines taken now → Yields now next (Ok (Some line)) → TakesLine taken more now next (Ok (Some line)) →
     Reached input (lines ++ line ∷ []) more next
 reached_more None now next lines line taken more r y t = tt
 reached_more (Some input) None next lines line taken more r y t = absurd r
@@ -73,8 +78,10 @@ pub record OneMore (lines : List (List ℕ)) (history : List Line) (line text : 
   pub watches : WatchesAll history_after new.watch
   pub text_is : lines_text history_after ≡ lines_text history ++ text
 
-spells_more : (lines : List (List ℕ)) (events : List Event) (w : World) (h : List Line) (line : List ℕ) (old new : WorldState) (carried : Carried) (is_full : Bool) → is_full ≡ false → HasEvents lines events → Tells events w h → WatchesAll h old.watch →
-    (c : CarriesSpelled line old new carried) → CarriesBy w c.event old new carried.text is_full → OneMore lines h line carried.text new
+spells_more : (lines : List (List ℕ)) (events : List Event) (w : World) (h : List Line) (line : List ℕ) (old new : WorldState)
+    (carried : Carried) (is_full : Bool) → is_full ≡ false → HasEvents lines events → Tells events w h → WatchesAll h old.watch →
+    (c : CarriesSpelled line old new carried) → CarriesBy w c.event old new carried.text is_full →
+        OneMore lines h line carried.text new
 spells_more lines events w h line old new carried true whole spelled tells watches c by = absurd (cc whole)
 spells_more lines events w h line old new carried false whole spelled tells watches c by = record {
   events_after = events ++ c.event ∷ [];
@@ -87,13 +94,15 @@ spells_more lines events w h line old new carried false whole spelled tells watc
   text_is = lines_text_more h by.lines ∙ ap (λ (x : List ℕ). lines_text h ++ x) (sym by.text_is);
 }
 
-pub one_more : (lines : List (List ℕ)) (events : List Event) (w : World) (h : List Line) (line : List ℕ) (old new : WorldState) (carried : Carried) → carried.is_full ≡ false → HasEvents lines events → Tells events w h →
+pub one_more : (lines : List (List ℕ)) (events : List Event) (w : World) (h : List Line) (line : List ℕ) (old new : WorldState)
+    (carried : Carried) → carried.is_full ≡ false → HasEvents lines events → Tells events w h →
     Shows old.parties w → WatchesAll h old.watch → CarriesLine line old new carried → OneMore lines h line carried.text new
 one_more lines events w h line old new carried whole spelled tells shows watches (inl skips) = record {
   events_after = events;
   world_after = w;
   history_after = h;
-  spelled = subst (HasEvents (lines ++ line ∷ [])) (append-nil events) (events_more lines events line [] spelled (inl (skips.skipped, refl)));
+  spelled = subst (HasEvents (lines ++ line ∷ [])) (append-nil events)
+      (events_more lines events line [] spelled (inl (skips.skipped, refl)));
   tells = tells;
   shows = subst (λ (s : WorldState). Shows s.parties w) (sym skips.state) shows;
   watches = subst (λ (s : WorldState). WatchesAll h s.watch) (sym skips.state) watches;
@@ -102,8 +111,10 @@ one_more lines events w h line old new carried whole spelled tells shows watches
 one_more lines events w h line old new carried whole spelled tells shows watches (inr c) =
     spells_more lines events w h line old new carried carried.is_full whole spelled tells watches c (c.carries w shows)
 
-pub goes_on : (input now next : Option (List ℕ)) (taken more : ℕ) (before middle after : Option (List ℕ)) (number : ℕ) (old new : WorldState) (line : List ℕ) (carried : Carried) → SoFar input now taken before middle number old →
-    Yields now next (Ok (Some line)) → TakesLine taken more now next (Ok (Some line)) → CarriesLine line old new carried → carried.is_full ≡ false → Appends middle after carried.text → SoFar input next more before after (number + 1) new
+pub goes_on : (input now next : Option (List ℕ)) (taken more : ℕ) (before middle after : Option (List ℕ)) (number : ℕ)
+    (old new : WorldState) (line : List ℕ) (carried : Carried) → SoFar input now taken before middle number old →
+    Yields now next (Ok (Some line)) → TakesLine taken more now next (Ok (Some line)) → CarriesLine line old new carried →
+        carried.is_full ≡ false → Appends middle after carried.text → SoFar input next more before after (number + 1) new
 goes_on input now next taken more before middle after number old new line carried s y t c whole out =
     let o = one_more s.lines s.events s.world s.history line old new carried whole s.spelled s.tells s.shows s.watches c in
     record {
@@ -117,7 +128,8 @@ goes_on input now next taken more before middle after number old new line carrie
       tells = o.tells;
       shows = o.shows;
       watches = o.watches;
-      out = subst (Appends before after) (sym o.text_is) (Appends-then before middle after (lines_text s.history) carried.text s.out out);
+      out = subst (Appends before after) (sym o.text_is)
+          (Appends-then before middle after (lines_text s.history) carried.text s.out out);
       law = s.law;
     }
 
@@ -129,7 +141,8 @@ pub appends_none : (taken : Option (List ℕ)) → Appends taken taken []
 appends_none None = tt
 appends_none (Some bytes) = sym (append-nil bytes)
 
-pub nothing_yet : (input : Option (List ℕ)) (taken : Option (List ℕ)) (state : WorldState) → Shows state.parties empty_world → WatchesAll [] state.watch → HistoriesAreSound → SoFar input input 0 taken taken 0 state
+pub nothing_yet : (input : Option (List ℕ)) (taken : Option (List ℕ)) (state : WorldState) → Shows state.parties empty_world →
+    WatchesAll [] state.watch → HistoriesAreSound → SoFar input input 0 taken taken 0 state
 nothing_yet input taken state shows watches law = record {
   lines = [];
   events = [];

@@ -34,36 +34,49 @@ one_repairs units x = elim (cases_lt units x) [
 above_zero : (n : ℕ) → (n ≡ 0 → ⊥) → 0 < n
 above_zero n e = omega (arith, e)
 
-two_repairs : (units x y : ℕ) → x < y → y ≤ units + 1 → units ≤ 255 → AreRepairs units x y (first_repair units x y) (second_repair units x y)
+two_repairs : (units x y : ℕ) → x < y → y ≤ units + 1 → units ≤ 255 →
+    AreRepairs units x y (first_repair units x y) (second_repair units x y)
 unfolding first_repair second_repair
 two_repairs units x y lt last few = elim (cases_lt y units) [
   | inl inside ↦ rw (lt-ltb y units inside) (
       let sum_lt = xor_of_8 (two_to x) (two_to y) (two_to_lt x) (two_to_lt y) in
-      let pos : 0 < bit_xor (two_to x) (two_to y) = above_zero (bit_xor (two_to x) (two_to y)) (powers_apart x y lt (omega (arith, inside, few))) in
+      let pos : 0 < bit_xor (two_to x) (two_to y) =
+          above_zero (bit_xor (two_to x) (two_to y)) (powers_apart x y lt (omega (arith, inside, few))) in
       let inv = inverse_is (bit_xor (two_to x) (two_to y)) pos sum_lt in
-      repairs_of_units units x y (inverse_of (bit_xor (two_to x) (two_to y))) (product (inverse_of (bit_xor (two_to x) (two_to y))) (two_to y)) lt inside inv.1
+      repairs_of_units units x y (inverse_of (bit_xor (two_to x) (two_to y)))
+          (product (inverse_of (bit_xor (two_to x) (two_to y))) (two_to y)) lt inside inv.1
       (product_lt (inverse_of (bit_xor (two_to x) (two_to y))) (two_to y) inv.1) inv.0 refl)
   | inr past ↦ elim (cases_eq y units) [
     | inl same ↦
         let inv = inverse_is (two_to x) (two_to_pos x) (two_to_lt x) in
-        rw (le-ltb y units past, eq-eqb y units same) (repairs_with_p units x y (inverse_of (two_to x)) (omega (arith, lt, same)) same inv.1 inv.0)
+        rw (le-ltb y units past, eq-eqb y units same)
+            (repairs_with_p units x y (inverse_of (two_to x)) (omega (arith, lt, same)) same inv.1 inv.0)
     | inr apart ↦ elim (cases_lt x units) [
-      | inl below ↦ rw (le-ltb y units past, ne_eqb y units apart, lt-ltb x units below) (repairs_with_q units x y below (omega (arith, past, apart)))
-      | inr beside ↦ rw (le-ltb y units past, ne_eqb y units apart, le-ltb x units beside) (repairs_of_both units x y (omega (arith, beside, lt, last)) (omega (arith, past, apart)))
+      | inl below ↦ rw (le-ltb y units past, ne_eqb y units apart, lt-ltb x units below)
+          (repairs_with_q units x y below (omega (arith, past, apart)))
+      | inr beside ↦ rw (le-ltb y units past, ne_eqb y units apart, le-ltb x units beside)
+          (repairs_of_both units x y (omega (arith, beside, lt, last)) (omega (arith, past, apart)))
     ]
   ]
 ]
 
-pub decoded_back : (code : Code) (ds lost col : List ℕ) → AreBytes ds → length ds ≤ 255 → AreLost code (length ds) lost → AgreeOutside lost (codeword code ds) col → decoded (length ds) lost col ≡ codeword code ds
+pub decoded_back : (code : Code) (ds lost col : List ℕ) → AreBytes ds → length ds ≤ 255 → AreLost code (length ds) lost →
+    AgreeOutside lost (codeword code ds) col → decoded (length ds) lost col ≡ codeword code ds
 unfolding decoded
 decoded_back code ds [] col bytes few lost agree = none_lost (codeword code ds) col agree
 decoded_back code ds (x ∷ []) col bytes few lost agree =
     let long = length_codeword code ds in
-    ap (repaired_column (length ds) (repair_of (length ds) x) (repair_of (length ds) x)) (same_without_one x (codeword code ds) col agree (omega (arith, lost.1, long)))
-    ∙ one_restored (length ds) x (repair_of (length ds) x) (codeword code ds) (one_repairs (length ds) x) (codeword_whole code ds lost.0 bytes) (omega (arith, lost.1, long)) (omega (arith, lost.0, long)) (omega (arith, count_most code, long))
+    ap (repaired_column (length ds) (repair_of (length ds) x) (repair_of (length ds) x))
+        (same_without_one x (codeword code ds) col agree (omega (arith, lost.1, long)))
+    ∙ one_restored (length ds) x (repair_of (length ds) x) (codeword code ds) (one_repairs (length ds) x)
+        (codeword_whole code ds lost.0 bytes) (omega (arith, lost.1, long)) (omega (arith, lost.0, long))
+            (omega (arith, count_most code, long))
 decoded_back code ds (x ∷ y ∷ []) col bytes few lost agree =
     let long = length_codeword code ds in
-    ap (repaired_column (length ds) (first_repair (length ds) x y) (second_repair (length ds) x y)) (same_without_two x y (codeword code ds) col agree (omega (arith, lost.0, lost.1, lost.2, long)) (omega (arith, lost.0, lost.2, long)))
-    ∙ two_restored (length ds) x y (first_repair (length ds) x y) (second_repair (length ds) x y) (codeword code ds) (two_repairs (length ds) x y lost.1 (omega (arith, lost.2)) few) (codeword_whole code ds (omega (arith, lost.0)) bytes)
+    ap (repaired_column (length ds) (first_repair (length ds) x y) (second_repair (length ds) x y))
+        (same_without_two x y (codeword code ds) col agree (omega (arith, lost.0, lost.1, lost.2, long))
+        (omega (arith, lost.0, lost.2, long)))
+    ∙ two_restored (length ds) x y (first_repair (length ds) x y) (second_repair (length ds) x y) (codeword code ds)
+        (two_repairs (length ds) x y lost.1 (omega (arith, lost.2)) few) (codeword_whole code ds (omega (arith, lost.0)) bytes)
     lost.1 (omega (arith, lost.0, lost.2, long)) (omega (arith, lost.0, long))
 decoded_back code ds (x ∷ y ∷ z ∷ zs) col bytes few lost agree = absurd lost

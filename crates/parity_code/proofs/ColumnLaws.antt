@@ -1,5 +1,5 @@
 -- Stripes seen by their columns.
-use Rattle.std.proofs.Common.{◌≡◌, ℕ, ◌+◌, ◌-◌, ◌<◌, ◌≤◌, List, [], ◌∷◌, length, get_or, take, drop, map, set, Some, refl, sym, ap, ◌∙◌, arith, inl, inr}
+use Rattle.std.proofs.Common.{◌≡◌, ℕ, ◌+◌, ◌-◌, ◌<◌, ◌≤◌, List, [], ◌∷◌, length, get_or, take, drop, map, set, Some, sym, ap, ◌∙◌, arith, inl, inr}
 use Rattle.std.specs.Prelude.{slice_get}
 use Rattle.std.specs.List.{All, refill}
 use Rattle.std.proofs.lemmas.Bool.{cases_lt}
@@ -13,20 +13,25 @@ use Rattle.parity_code.specs.Codeword.{width_of}
 use Rattle.parity_code.specs.Columns.{Stored, Become}
 
 pub refill_same : (old new : List ℕ) → length new ≡ length old → refill (length old) old new ≡ new
-refill_same old new e = take-append-le (length old) new (drop (length new) old) (omega arith) ∙ take_all (length old) new (omega arith)
+refill_same old new e =
+    take-append-le (length old) new (drop (length new) old) (omega arith) ∙ take_all (length old) new (omega arith)
 
 -- one byte of a column
-pub cell : (rows : List (List ℕ)) (j k : ℕ) (d : List ℕ) → j < length rows → get_or (column rows k) j 0 ≡ get_or (get_or rows j d) k 0
+pub cell : (rows : List (List ℕ)) (j k : ℕ) (d : List ℕ) → j < length rows →
+    get_or (column rows k) j 0 ≡ get_or (get_or rows j d) k 0
 cell rows j k d lt = get_or-map (λ (row : List ℕ). get_or row k 0) rows j d 0 lt
 
-pub column_set : (rows : List (List ℕ)) (j k : ℕ) (row : List ℕ) → column (set rows j row) k ≡ set (column rows k) j (get_or row k 0)
+pub column_set : (rows : List (List ℕ)) (j k : ℕ) (row : List ℕ) →
+    column (set rows j row) k ≡ set (column rows k) j (get_or row k 0)
 column_set rows j k row = map-set (λ (r : List ℕ). get_or r k 0) rows j row
 
-column_kept : (rows : List (List ℕ)) (j k : ℕ) (row : List ℕ) → get_or row k 0 ≡ get_or (get_or rows j []) k 0 → column (set rows j row) k ≡ column rows k
+column_kept : (rows : List (List ℕ)) (j k : ℕ) (row : List ℕ) → get_or row k 0 ≡ get_or (get_or rows j []) k 0 →
+    column (set rows j row) k ≡ column rows k
 column_kept rows j k row e = map-set_same (λ (r : List ℕ). get_or r k 0) rows j row [] e
 
 -- a stripe of which one row was rewritten in part
-pub stored_row : (rows : List (List ℕ)) (old new : List ℕ) (j at n : ℕ) (f : ℕ → ℕ) → get_or rows j [] ≡ old → length new ≡ length old
+pub stored_row : (rows : List (List ℕ)) (old new : List ℕ) (j at n : ℕ) (f : ℕ → ℕ) → get_or rows j [] ≡ old →
+    length new ≡ length old
     → ((k : ℕ) → k < n → get_or new (at + k) 0 ≡ f k)
     → ((k : ℕ) → k < at → get_or new k 0 ≡ get_or old k 0)
     → ((k : ℕ) → at + n ≤ k → get_or new k 0 ≡ get_or old k 0)
@@ -49,15 +54,18 @@ pub same_count : (old new : List (List ℕ)) → map length new ≡ map length o
 same_count old new e = sym (length-map new length) ∙ ap length e ∙ length-map old length
 
 -- and rows of the same lengths
-pub same_row : (old new : List (List ℕ)) (j : ℕ) (d : List ℕ) → map length new ≡ map length old → length (get_or new j d) ≡ length (get_or old j d)
-same_row old new j d e = sym (length_at length new j d) ∙ ap (λ (ns : List ℕ). get_or ns j (length d)) e ∙ length_at length old j d
+pub same_row : (old new : List (List ℕ)) (j : ℕ) (d : List ℕ) → map length new ≡ map length old →
+    length (get_or new j d) ≡ length (get_or old j d)
+same_row old new j d e =
+    sym (length_at length new j d) ∙ ap (λ (ns : List ℕ). get_or ns j (length d)) e ∙ length_at length old j d
 
 pub width_at : (rows : List (List ℕ)) (row : List ℕ) → slice_get rows 0 ≡ Some row → width_of rows ≡ length row
 width_at [] row e = absurd cc
 width_at (x ∷ xs) row e = let same : x ≡ row = cc in ap length same
 
 -- there is room up to m in each row of a stripe that kept its shape
-pub room_kept : (old new : List (List ℕ)) (m : ℕ) → map length new ≡ map length old → All (λ row. length row ≡ width_of old) old → m ≤ width_of old → All (λ row. m ≤ length row) new
+pub room_kept : (old new : List (List ℕ)) (m : ℕ) → map length new ≡ map length old → All (λ row. length row ≡ width_of old) old →
+    m ≤ width_of old → All (λ row. m ≤ length row) new
 room_kept old new m e even le = λ j d lt.
     let long : length (get_or new j d) ≡ width_of old = same_row old new j d e ∙ even j d (omega (arith, same_count old new e)) in
     omega arith
@@ -65,10 +73,12 @@ room_kept old new m e even le = λ j d lt.
 -- one row is stored
 pub become_one : (units at n : ℕ) (f : ℕ → ℕ) (g : List ℕ → List ℕ) (old new : List (List ℕ)) → Stored units at n f old new
     → ((k : ℕ) → k < n → set (column old (at + k)) units (f k) ≡ g (column old (at + k))) → Become at n g old new
-become_one units at n f g old new s h = record { shape = s.shape; inside = λ k lt. s.inside k lt ∙ h k lt; below = s.below; above = s.above }
+become_one units at n f g old new s h =
+    record { shape = s.shape; inside = λ k lt. s.inside k lt ∙ h k lt; below = s.below; above = s.above }
 
 -- two rows are stored, one after the other
-pub become_two : (i j at n : ℕ) (f h : ℕ → ℕ) (g : List ℕ → List ℕ) (old mid new : List (List ℕ)) → Stored i at n f old mid → Stored j at n h mid new
+pub become_two : (i j at n : ℕ) (f h : ℕ → ℕ) (g : List ℕ → List ℕ) (old mid new : List (List ℕ)) → Stored i at n f old mid →
+    Stored j at n h mid new
     → ((k : ℕ) → k < n → set (set (column old (at + k)) i (f k)) j (h k) ≡ g (column old (at + k))) → Become at n g old new
 become_two i j at n f h g old mid new s t e = record {
   shape = t.shape ∙ s.shape;
@@ -78,7 +88,8 @@ become_two i j at n f h g old mid new s t e = record {
 }
 
 -- columns that change one block after the other
-pub become_more : (m n end : ℕ) (f : List ℕ → List ℕ) (old mid new : List (List ℕ)) → end ≡ m + n → Become 0 m f old mid → Become m n f mid new → Become 0 end f old new
+pub become_more : (m n end : ℕ) (f : List ℕ → List ℕ) (old mid new : List (List ℕ)) → end ≡ m + n → Become 0 m f old mid →
+    Become m n f mid new → Become 0 end f old new
 become_more m n end f old mid new e s t = record {
   shape = t.shape ∙ s.shape;
   inside = λ k lt. elim (cases_lt k m) [
@@ -91,16 +102,15 @@ become_more m n end f old mid new e s t = record {
   above = λ k le. t.above k (omega arith) ∙ s.above k (omega arith);
 }
 
-pub become_none : (f : List ℕ → List ℕ) (rows : List (List ℕ)) → Become 0 0 f rows rows
-become_none f rows = record { shape = refl; inside = λ k lt. absurd (omega arith); below = λ k lt. refl; above = λ k le. refl }
-
 -- a row whose byte is the same in each column is the same row
-pub row_kept : (old new : List (List ℕ)) (j : ℕ) → map length new ≡ map length old → ((k : ℕ) → get_or (column new k) j 0 ≡ get_or (column old k) j 0) → slice_get new j ≡ slice_get old j
+pub row_kept : (old new : List (List ℕ)) (j : ℕ) → map length new ≡ map length old →
+    ((k : ℕ) → get_or (column new k) j 0 ≡ get_or (column old k) j 0) → slice_get new j ≡ slice_get old j
 row_kept old new j shape same = elim (cases_lt j (length old)) [
   | inl there ↦
       let count : length new ≡ length old = same_count old new shape in
       let there_new : j < length new = omega arith in
-      let rows : get_or new j [] ≡ get_or old j [] = same_number_lists (get_or new j []) (get_or old j []) (same_row old new j [] shape) (λ k lt.
+      let rows : get_or new j [] ≡ get_or old j [] =
+          same_number_lists (get_or new j []) (get_or old j []) (same_row old new j [] shape) (λ k lt.
       sym (cell new j k [] there_new) ∙ same k ∙ cell old j k [] there) in
       slice_get-get_or new j [] there_new ∙ ap Some rows ∙ sym (slice_get-get_or old j [] there)
   | inr past ↦ slice_get_past new j (omega (arith, same_count old new shape)) ∙ sym (slice_get_past old j past)

@@ -35,22 +35,29 @@ codeword_whole Xor ds some bytes = record {
   q = λ lt. absurd (omega (arith, length-append ds (p_of ds ∷ [])));
 }
 codeword_whole PandQ ds some bytes = record {
-  bytes = rw (sym (append_assoc ds (p_of ds ∷ []) (q_of ds ∷ []))) (All-push (λ (d : ℕ). d < 256) (ds ++ (p_of ds ∷ [])) (q_of ds) (All-push (λ (d : ℕ). d < 256) ds (p_of ds) bytes (p_of_lt ds bytes)) (q_from_lt 0 ds));
+  bytes = rw (sym (append_assoc ds (p_of ds ∷ []) (q_of ds ∷ [])))
+      (All-push (λ (d : ℕ). d < 256) (ds ++ (p_of ds ∷ [])) (q_of ds)
+      (All-push (λ (d : ℕ). d < 256) ds (p_of ds) bytes (p_of_lt ds bytes)) (q_from_lt 0 ds));
   p = rw (take-append_seam ds (p_of ds ∷ (q_of ds ∷ [])), at_seam ds (p_of ds ∷ (q_of ds ∷ []))) (xor_self (p_of ds));
-  q = λ lt. rw (take-append_seam ds (p_of ds ∷ (q_of ds ∷ [])), get_or-append-add ds (p_of ds ∷ (q_of ds ∷ [])) 1 0) (xor_self (q_of ds));
+  q = λ lt. rw (take-append_seam ds (p_of ds ∷ (q_of ds ∷ [])), get_or-append-add ds (p_of ds ∷ (q_of ds ∷ [])) 1 0)
+      (xor_self (q_of ds));
 }
 
 -- a stripe that was restored has its codewords again
-pub back : (code : Code) (n : ℕ) (lost : List ℕ) (old new : List (List ℕ)) → Restored n lost old new → n + count_of code ≡ length old → 0 < count_of code
-    → (k : ℕ) (ds : List ℕ) → k < width_of old → AreBytes ds → AgreeOutside lost (codeword code ds) (column old k) → column new k ≡ codeword code ds
+pub back : (code : Code) (n : ℕ) (lost : List ℕ) (old new : List (List ℕ)) → Restored n lost old new →
+    n + count_of code ≡ length old → 0 < count_of code
+    → (k : ℕ) (ds : List ℕ) → k < width_of old → AreBytes ds → AgreeOutside lost (codeword code ds) (column old k) →
+        column new k ≡ codeword code ds
 back code n lost old new restored count some k ds lt bytes agree =
     let same : length ds ≡ n = omega (arith, length_codeword code ds, agree.long, length_column old k) in
     restored.whole k (codeword code ds) lt (rw same at (codeword_whole code ds some bytes)) agree
 
 -- and every column is what the definition makes of it
-pub decoded_by : (code : Code) (n : ℕ) (lost : List ℕ) (old new : List (List ℕ)) → Restored n lost old new → n + count_of code ≡ length old
+pub decoded_by : (code : Code) (n : ℕ) (lost : List ℕ) (old new : List (List ℕ)) → Restored n lost old new →
+    n + count_of code ≡ length old
     → (k : ℕ) → k < width_of old → column new k ≡ decoded (length old - count_of code) lost (column old k)
-decoded_by code n lost old new restored count k lt = let same : length old - count_of code ≡ n = omega (arith, count) in rw same (restored.exact k lt)
+decoded_by code n lost old new restored count k lt = let same : length old - count_of code ≡ n = omega (arith, count) in
+    rw same (restored.exact k lt)
 
 pub decoded_none : (n : ℕ) (col : List ℕ) → decoded n [] col ≡ col
 unfolding decoded
@@ -98,24 +105,30 @@ count_most Xor = omega arith
 count_most PandQ = omega arith
 
 -- a column of which no syndrome is left is a codeword
-pub codeword_by_syndromes : (code : Code) (n : ℕ) (col : List ℕ) → 0 < count_of code → length col ≡ n + count_of code → HasNoSyndrome n col → col ≡ codeword code (take n col)
+pub codeword_by_syndromes : (code : Code) (n : ℕ) (col : List ℕ) → 0 < count_of code → length col ≡ n + count_of code →
+    HasNoSyndrome n col → col ≡ codeword code (take n col)
 codeword_by_syndromes Plain n col some long none = absurd (omega arith)
 codeword_by_syndromes Xor n col some long none =
-    sym (set-get_or col n 0) ∙ set_last n (get_or col n 0) col long ∙ ap (λ (p : ℕ). take n col ++ (p ∷ [])) (sym (xor-eq-zero (p_of (take n col)) (get_or col n 0) none.p))
+    sym (set-get_or col n 0) ∙ set_last n (get_or col n 0) col long
+        ∙ ap (λ (p : ℕ). take n col ++ (p ∷ [])) (sym (xor-eq-zero (p_of (take n col)) (get_or col n 0) none.p))
 codeword_by_syndromes PandQ n col some long none =
     let last : n + 1 < length col = omega arith in
     sym (ap (λ (c : List ℕ). set c (n + 1) (get_or col (n + 1) 0)) (set-get_or col n 0) ∙ set-get_or col (n + 1) 0)
     ∙ set_last_two n (get_or col n 0) (get_or col (n + 1) 0) col long
-    ∙ rw (xor-eq-zero (p_of (take n col)) (get_or col n 0) none.p, xor-eq-zero (q_of (take n col)) (get_or col (n + 1) 0) (none.q last)) refl
+    ∙ rw (xor-eq-zero (p_of (take n col)) (get_or col n 0) none.p,
+        xor-eq-zero (q_of (take n col)) (get_or col (n + 1) 0) (none.q last)) refl
 
 -- with as many rows lost as there are rows of parity
-pub coded : (code : Code) (n : ℕ) (lost : List ℕ) (old new : List (List ℕ)) → Restored n lost old new → n + count_of code ≡ length old → 0 < count_of code → length lost ≡ count_of code
+pub coded : (code : Code) (n : ℕ) (lost : List ℕ) (old new : List (List ℕ)) → Restored n lost old new →
+    n + count_of code ≡ length old → 0 < count_of code → length lost ≡ count_of code
     → (k : ℕ) → k < width_of old → column new k ≡ codeword code (take (length old - count_of code) (column new k))
 coded code n lost old new restored count some all k lt =
     let same : length old - count_of code ≡ n = omega arith in
-    rw same (codeword_by_syndromes code n (column new k) some (length_column new k ∙ same_count old new restored.shape ∙ sym count) (restored.solved (omega arith) k lt))
+    rw same (codeword_by_syndromes code n (column new k) some
+        (length_column new k ∙ same_count old new restored.shape ∙ sym count) (restored.solved (omega arith) k lt))
 
-pub coded_plain : (code : Code) (old : List (List ℕ)) (k : ℕ) → count_of code ≡ 0 → column old k ≡ codeword code (take (length old - count_of code) (column old k))
+pub coded_plain : (code : Code) (old : List (List ℕ)) (k : ℕ) → count_of code ≡ 0 →
+    column old k ≡ codeword code (take (length old - count_of code) (column old k))
 coded_plain Plain old k none = sym (take_all (length old - 0) (column old k) (omega (arith, length_column old k)))
 coded_plain Xor old k none = absurd (omega arith)
 coded_plain PandQ old k none = absurd (omega arith)

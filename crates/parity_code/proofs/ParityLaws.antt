@@ -29,7 +29,8 @@ p_of_lt (d ∷ ds) h = xor_of_8 d (p_of ds) (head_byte d ds h) (p_of_lt ds (tail
 
 pub q_from_lt : (i : ℕ) (ds : List ℕ) → q_from i ds < 256
 q_from_lt i [] = omega arith
-q_from_lt i (d ∷ ds) = xor_of_8 (product (two_to i) d) (q_from (i + 1) ds) (product_lt (two_to i) d (two_to_lt i)) (q_from_lt (i + 1) ds)
+q_from_lt i (d ∷ ds) =
+    xor_of_8 (product (two_to i) d) (q_from (i + 1) ds) (product_lt (two_to i) d (two_to_lt i)) (q_from_lt (i + 1) ds)
 
 two_to_one : two_to 1 ≡ 2
 unfolding two_to
@@ -51,7 +52,8 @@ q_shifted i (d ∷ ds) h =
 -- Q by doubling
 pub q_of-cons : (d : ℕ) (ds : List ℕ) → AreBytes (d ∷ ds) → q_of (d ∷ ds) ≡ bit_xor (product 2 (q_of ds)) d
 q_of-cons d ds h =
-    rw (two_to_zero, one_product d (head_byte d ds h)) (ap (bit_xor d) (q_shifted 0 ds (tail_bytes d ds h)) ∙ xor_comm d (product 2 (q_of ds)))
+    rw (two_to_zero, one_product d (head_byte d ds h))
+        (ap (bit_xor d) (q_shifted 0 ds (tail_bytes d ds h)) ∙ xor_comm d (product 2 (q_of ds)))
 
 next_drop : (col : List ℕ) (i : ℕ) → 0 < i → i ≤ length col → drop (i - 1) col ≡ get_or col (i - 1) 0 ∷ drop i col
 next_drop col i pos le =
@@ -59,13 +61,17 @@ next_drop col i pos le =
     rw e at (drop-cons col (i - 1) 0 (omega arith))
 
 -- one more byte in front of those that were summed
-pub p_next : (col : List ℕ) (i d p p' : ℕ) → 0 < i → i ≤ length col → d ≡ get_or col (i - 1) 0 → p ≡ p_of (drop i col) → p' ≡ bit_xor d p → p' ≡ p_of (drop (i - 1) col)
+pub p_next : (col : List ℕ) (i d p p' : ℕ) → 0 < i → i ≤ length col → d ≡ get_or col (i - 1) 0 → p ≡ p_of (drop i col) →
+    p' ≡ bit_xor d p → p' ≡ p_of (drop (i - 1) col)
 p_next col i d p p' pos le is_d is_p is = rw (next_drop col i pos le) (rw (is_d, is_p) at is)
 
-pub bytes_next : (col : List ℕ) (i d : ℕ) → 0 < i → i ≤ length col → d ≡ get_or col (i - 1) 0 → d < 256 → AreBytes (drop i col) → AreBytes (drop (i - 1) col)
-bytes_next col i d pos le is_d lt rest = rw (next_drop col i pos le) (All-cons (λ (b : ℕ). b < 256) (get_or col (i - 1) 0) (drop i col) (rw is_d at lt) rest)
+pub bytes_next : (col : List ℕ) (i d : ℕ) → 0 < i → i ≤ length col → d ≡ get_or col (i - 1) 0 → d < 256 → AreBytes (drop i col) →
+    AreBytes (drop (i - 1) col)
+bytes_next col i d pos le is_d lt rest =
+    rw (next_drop col i pos le) (All-cons (λ (b : ℕ). b < 256) (get_or col (i - 1) 0) (drop i col) (rw is_d at lt) rest)
 
-pub q_next : (col : List ℕ) (i d q q' : ℕ) → 0 < i → i ≤ length col → d ≡ get_or col (i - 1) 0 → AreBytes (drop (i - 1) col) → q ≡ q_of (drop i col) → q' ≡ bit_xor (product 2 q) d → q' ≡ q_of (drop (i - 1) col)
+pub q_next : (col : List ℕ) (i d q q' : ℕ) → 0 < i → i ≤ length col → d ≡ get_or col (i - 1) 0 → AreBytes (drop (i - 1) col) →
+    q ≡ q_of (drop i col) → q' ≡ bit_xor (product 2 q) d → q' ≡ q_of (drop (i - 1) col)
 q_next col i d q q' pos le is_d bytes is_q is =
     let cons = next_drop col i pos le in
     is ∙ rw (is_d, is_q) (sym (q_of-cons (get_or col (i - 1) 0) (drop i col) (rw cons at bytes))) ∙ ap q_of (sym cons)
@@ -85,4 +91,5 @@ q_last col i d e is_d lt =
     is_d ∙ rw (last_alone col i e, two_to_zero, one_product (get_or col i 0) byte) (sym (xor_zero_r (get_or col i 0)))
 
 pub bytes_last : (col : List ℕ) (i d : ℕ) → i + 1 ≡ length col → d ≡ get_or col i 0 → d < 256 → AreBytes (drop i col)
-bytes_last col i d e is_d lt = rw (last_alone col i e) (All-cons (λ (b : ℕ). b < 256) (get_or col i 0) [] (rw is_d at lt) (λ k x none. absurd (omega arith)))
+bytes_last col i d e is_d lt =
+    rw (last_alone col i e) (All-cons (λ (b : ℕ). b < 256) (get_or col i 0) [] (rw is_d at lt) (λ k x none. absurd (omega arith)))

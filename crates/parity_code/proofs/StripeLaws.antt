@@ -5,10 +5,9 @@ use Rattle.std.proofs.lemmas.Bool.{cases_lt, cases_eq}
 use Rattle.std.proofs.lemmas.List.{length-set, get_or-map, get_or-set_same, get_or-set_other}
 use Rattle.std.proofs.lemmas.List.Elements.{All-set}
 use Rattle.std.proofs.lemmas.Grind.{get_or-set_at, same_number_lists}
-use Rattle.parity_code.specs.declared.code.Code.{Code}
 use Rattle.parity_code.specs.declared.repair.Repair.{Repair}
 use Rattle.parity_code.specs.Parity.{column}
-use Rattle.parity_code.specs.Codeword.{width_of, AreRows, AgreeOutside}
+use Rattle.parity_code.specs.Codeword.{width_of, AgreeOutside}
 use Rattle.parity_code.specs.Columns.{Stored, Become}
 use Rattle.parity_code.specs.Syndromes.{p_syndrome, q_syndrome}
 use Rattle.parity_code.specs.Repairs.{repaired, repaired_column, repair_of, first_repair, second_repair, IsRepair, AreRepairs}
@@ -25,7 +24,8 @@ width_is (x ∷ xs) = refl
 pub width_kept : (old new : List (List ℕ)) → map length new ≡ map length old → width_of new ≡ width_of old
 width_kept old new e = width_is new ∙ ap (λ (ns : List ℕ). get_or ns 0 0) e ∙ sym (width_is old)
 
-pub parity_kept : (units : ℕ) (old new : List (List ℕ)) → map length new ≡ map length old → HasParity units old → HasParity units new
+pub parity_kept : (units : ℕ) (old new : List (List ℕ)) → map length new ≡ map length old → HasParity units old →
+    HasParity units new
 parity_kept units old new e h =
     let count : length new ≡ length old = same_count old new e in
     record {
@@ -64,16 +64,20 @@ same_without_one x xs ys agree lt =
     same_number_lists (set ys x 0) (set xs x 0) (length-set ys x 0 ∙ sym agree.long ∙ sym (length-set xs x 0)) (λ k k_lt.
     elim (cases_eq k x) [
       | inl same ↦ get_or-set_at ys x k 0 0 same (omega (arith, agree.long)) ∙ sym (get_or-set_at xs x k 0 0 same lt)
-      | inr other ↦ other_byte k x 0 ys other ∙ sym (agree.same k (λ w. other (one_contains x k w.0 w.1 w.2))) ∙ sym (other_byte k x 0 xs other)
+      | inr other ↦ other_byte k x 0 ys other ∙ sym (agree.same k (λ w. other (one_contains x k w.0 w.1 w.2)))
+          ∙ sym (other_byte k x 0 xs other)
     ])
 
-pub same_without_two : (x y : ℕ) (xs ys : List ℕ) → AgreeOutside (x ∷ (y ∷ [])) xs ys → x < length xs → y < length xs → set (set ys x 0) y 0 ≡ set (set xs x 0) y 0
+pub same_without_two : (x y : ℕ) (xs ys : List ℕ) → AgreeOutside (x ∷ (y ∷ [])) xs ys → x < length xs → y < length xs →
+    set (set ys x 0) y 0 ≡ set (set xs x 0) y 0
 same_without_two x y xs ys agree x_lt y_lt =
     let yl : length (set ys x 0) ≡ length xs = length-set ys x 0 ∙ sym agree.long in
     let xl : length (set xs x 0) ≡ length xs = length-set xs x 0 in
-    same_number_lists (set (set ys x 0) y 0) (set (set xs x 0) y 0) (length-set (set ys x 0) y 0 ∙ yl ∙ sym xl ∙ sym (length-set (set xs x 0) y 0)) (λ k k_lt.
+    same_number_lists (set (set ys x 0) y 0) (set (set xs x 0) y 0)
+        (length-set (set ys x 0) y 0 ∙ yl ∙ sym xl ∙ sym (length-set (set xs x 0) y 0)) (λ k k_lt.
     elim (cases_eq k y) [
-      | inl same ↦ get_or-set_at (set ys x 0) y k 0 0 same (omega arith) ∙ sym (get_or-set_at (set xs x 0) y k 0 0 same (omega arith))
+      | inl same ↦ get_or-set_at (set ys x 0) y k 0 0 same (omega arith)
+          ∙ sym (get_or-set_at (set xs x 0) y k 0 0 same (omega arith))
       | inr other ↦ other_byte k y 0 (set ys x 0) other ∙ elim (cases_eq k x) [
         | inl same ↦ get_or-set_at ys x k 0 0 same (omega (arith, agree.long)) ∙ sym (get_or-set_at xs x k 0 0 same x_lt)
         | inr third ↦ other_byte k x 0 ys third ∙ sym (agree.same k (neither x y k third other)) ∙ sym (other_byte k x 0 xs third)
@@ -81,16 +85,20 @@ same_without_two x y xs ys agree x_lt y_lt =
           ∙ sym (other_byte k y 0 (set xs x 0) other)
     ])
 
-unrepaired : (units : ℕ) (r s : Repair) (col : List ℕ) (j : ℕ) → j ≢ r.row → j ≢ s.row → get_or (repaired_column units r s col) j 0 ≡ get_or col j 0
+unrepaired : (units : ℕ) (r s : Repair) (col : List ℕ) (j : ℕ) → j ≢ r.row → j ≢ s.row →
+    get_or (repaired_column units r s col) j 0 ≡ get_or col j 0
 unrepaired units r s col j nr ns =
     let first : List ℕ = set col r.row (repaired r (p_syndrome units col) (q_syndrome units col)) in
-    other_byte j s.row (repaired s (p_syndrome units col) (q_syndrome units col)) first ns ∙ other_byte j r.row (repaired r (p_syndrome units col) (q_syndrome units col)) col nr
+    other_byte j s.row (repaired s (p_syndrome units col) (q_syndrome units col)) first ns
+        ∙ other_byte j r.row (repaired r (p_syndrome units col) (q_syndrome units col)) col nr
 
 -- columns up to the end, and those beyond
-up_to : (n : ℕ) (f : List ℕ → List ℕ) (old new : List (List ℕ)) → Become 0 n f old new → (k : ℕ) → k < n → column new k ≡ f (column old k)
+up_to : (n : ℕ) (f : List ℕ → List ℕ) (old new : List (List ℕ)) → Become 0 n f old new → (k : ℕ) → k < n →
+    column new k ≡ f (column old k)
 up_to n f old new b k lt = let same : 0 + k ≡ k = omega arith in rw same at (b.inside k lt)
 
-cleared : (x n : ℕ) (old new : List (List ℕ)) → Stored x 0 n (λ _. 0) old new → (k : ℕ) → k < n → column new k ≡ set (column old k) x 0
+cleared : (x n : ℕ) (old new : List (List ℕ)) → Stored x 0 n (λ _. 0) old new → (k : ℕ) → k < n →
+    column new k ≡ set (column old k) x 0
 cleared x n old new s k lt = let same : 0 + k ≡ k = omega arith in rw same at (s.inside k lt)
 
 -- the columns of rows of bytes are bytes
@@ -99,8 +107,10 @@ column_bytes rows k bytes = λ j d lt.
     let there : j < length rows = omega (arith, length_column rows k) in
     rw (get_or-map (λ (row : List ℕ). get_or row k 0) rows j [] d there) (bytes j [] there k)
 
-pub restored_by_one : (units x : ℕ) (r : Repair) (old mid new : List (List ℕ)) → HasParity units old → All (λ row. (i : ℕ) → get_or row i 0 < 256) old → x < length old → IsRepair units x r → r ≡ repair_of units x
-    → Stored x 0 (length (get_or old x [])) (λ _. 0) old mid → Become 0 (width_of mid) (repaired_column units r r) mid new → Restored units (x ∷ []) old new
+pub restored_by_one : (units x : ℕ) (r : Repair) (old mid new : List (List ℕ)) → HasParity units old →
+    All (λ row. (i : ℕ) → get_or row i 0 < 256) old → x < length old → IsRepair units x r → r ≡ repair_of units x
+    → Stored x 0 (length (get_or old x [])) (λ _. 0) old mid → Become 0 (width_of mid) (repaired_column units r r) mid new →
+        Restored units (x ∷ []) old new
 unfolding decoded
 restored_by_one units x r old mid new parity bytes lt repair is_r clear become =
     let room : length (get_or old x []) ≡ width_of old = parity.even x [] lt in
@@ -117,26 +127,35 @@ restored_by_one units x r old mid new parity bytes lt repair is_r clear become =
           let not_row : j ≢ r.row = rw repair.row other in
           elim (cases_lt k (width_of old)) [
             | inl below ↦
-                ap (λ (col : List ℕ). get_or col j 0) (up_to (width_of mid) (repaired_column units r r) mid new become k (omega arith))
+                ap (λ (col : List ℕ). get_or col j 0)
+                    (up_to (width_of mid) (repaired_column units r r) mid new become k (omega arith))
                 ∙ unrepaired units r r (column mid k) j not_row not_row
-                ∙ ap (λ (col : List ℕ). get_or col j 0) (cleared x (length (get_or old x [])) old mid clear k (omega arith)) ∙ other_byte j x 0 (column old k) other
+                ∙ ap (λ (col : List ℕ). get_or col j 0) (cleared x (length (get_or old x [])) old mid clear k (omega arith))
+                    ∙ other_byte j x 0 (column old k) other
             | inr beyond ↦ ap (λ (col : List ℕ). get_or col j 0) (become.above k (omega arith) ∙ clear.above k (omega arith))
           ]);
       whole = λ k col k_lt whole agree.
           let long : length col ≡ length old = agree.long ∙ length_column old k in
           up_to (width_of mid) (repaired_column units r r) mid new become k (omega arith)
-          ∙ ap (repaired_column units r r) (cleared x (length (get_or old x [])) old mid clear k (omega arith) ∙ same_without_one x col (column old k) agree (omega arith))
+          ∙ ap (repaired_column units r r)
+              (cleared x (length (get_or old x [])) old mid clear k (omega arith)
+              ∙ same_without_one x col (column old k) agree (omega arith))
           ∙ one_restored units x r col repair whole (omega arith) (omega (arith, parity.some)) (omega (arith, parity.most));
       solved = λ count k k_lt.
           let col : List ℕ = column old k in
           let long : length col ≡ length old = length_column old k in
           let erased_long : length (set col x 0) ≡ length col = length-set col x 0 in
           let is : column new k ≡ repaired_column units r r (set col x 0) =
-          up_to (width_of mid) (repaired_column units r r) mid new become k (omega arith) ∙ ap (repaired_column units r r) (cleared x (length (get_or old x [])) old mid clear k (omega arith)) in
-          rw is (one_solved units x r (set col x 0) repair (All-set (λ (d : ℕ). d < 256) col x 0 (omega arith) (column_bytes old k bytes)) (omega arith) (omega arith) (get_or-set_same col x 0 0 (omega arith)));
+          up_to (width_of mid) (repaired_column units r r) mid new become k (omega arith)
+              ∙ ap (repaired_column units r r) (cleared x (length (get_or old x [])) old mid clear k (omega arith)) in
+          rw is (one_solved units x r (set col x 0) repair
+              (All-set (λ (d : ℕ). d < 256) col x 0 (omega arith) (column_bytes old k bytes)) (omega arith) (omega arith)
+                  (get_or-set_same col x 0 0 (omega arith)));
     }
 
-pub restored_by_two : (units x y : ℕ) (r s : Repair) (old one mid new : List (List ℕ)) → HasParity units old → All (λ row. (i : ℕ) → get_or row i 0 < 256) old → x < y → y < length old → length old ≡ units + 2 → AreRepairs units x y r s → r ≡ first_repair units x y → s ≡ second_repair units x y
+pub restored_by_two : (units x y : ℕ) (r s : Repair) (old one mid new : List (List ℕ)) → HasParity units old →
+    All (λ row. (i : ℕ) → get_or row i 0 < 256) old → x < y → y < length old → length old ≡ units + 2 → AreRepairs units x y r s →
+    r ≡ first_repair units x y → s ≡ second_repair units x y
     → Stored x 0 (length (get_or old x [])) (λ _. 0) old one → Stored y 0 (length (get_or one y [])) (λ _. 0) one mid
     → Become 0 (width_of mid) (repaired_column units r s) mid new → Restored units (x ∷ (y ∷ [])) old new
 unfolding decoded
@@ -147,7 +166,8 @@ restored_by_two units x y r s old one mid new parity bytes rising lt two repairs
     let width : width_of mid ≡ width_of old = width_kept old mid shape_mid in
     let shape : map length new ≡ map length old = become.shape ∙ shape_mid in
     let erased : (k : ℕ) → k < width_of old → column mid k ≡ set (set (column old k) x 0) y 0 = λ k k_lt.
-    cleared y (length (get_or one y [])) one mid clear_other k (omega arith) ∙ ap (λ (col : List ℕ). set col y 0) (cleared x (length (get_or old x [])) old one clear k (omega arith)) in
+    cleared y (length (get_or one y [])) one mid clear_other k (omega arith)
+        ∙ ap (λ (col : List ℕ). set col y 0) (cleared x (length (get_or old x [])) old one clear k (omega arith)) in
     record {
       shape = shape;
       exact = λ k k_lt.
@@ -162,15 +182,19 @@ restored_by_two units x y r s old one mid new parity bytes rising lt two repairs
           let not_other_row : j ≢ s.row = rw repairs.other_row third in
           elim (cases_lt k (width_of old)) [
             | inl below ↦
-                ap (λ (col : List ℕ). get_or col j 0) (up_to (width_of mid) (repaired_column units r s) mid new become k (omega arith))
+                ap (λ (col : List ℕ). get_or col j 0)
+                    (up_to (width_of mid) (repaired_column units r s) mid new become k (omega arith))
                 ∙ unrepaired units r s (column mid k) j not_row not_other_row
-                ∙ ap (λ (col : List ℕ). get_or col j 0) (erased k below) ∙ other_byte j y 0 (set (column old k) x 0) third ∙ other_byte j x 0 (column old k) other
-            | inr beyond ↦ ap (λ (col : List ℕ). get_or col j 0) (become.above k (omega arith) ∙ clear_other.above k (omega arith) ∙ clear.above k (omega arith))
+                ∙ ap (λ (col : List ℕ). get_or col j 0) (erased k below) ∙ other_byte j y 0 (set (column old k) x 0) third
+                    ∙ other_byte j x 0 (column old k) other
+            | inr beyond ↦ ap (λ (col : List ℕ). get_or col j 0)
+                (become.above k (omega arith) ∙ clear_other.above k (omega arith) ∙ clear.above k (omega arith))
           ]);
       whole = λ k col k_lt whole agree.
           let long : length col ≡ length old = agree.long ∙ length_column old k in
           up_to (width_of mid) (repaired_column units r s) mid new become k (omega arith)
-          ∙ ap (repaired_column units r s) (erased k k_lt ∙ same_without_two x y col (column old k) agree (omega arith) (omega arith))
+          ∙ ap (repaired_column units r s)
+              (erased k k_lt ∙ same_without_two x y col (column old k) agree (omega arith) (omega arith))
           ∙ two_restored units x y r s col repairs whole rising (omega arith) (omega arith);
       solved = λ count k k_lt.
           let col : List ℕ = column old k in
@@ -178,22 +202,18 @@ restored_by_two units x y r s old one mid new parity bytes rising lt two repairs
           let long : length col ≡ length old = length_column old k in
           let first_long : length first ≡ length col = length-set col x 0 in
           let erased_long : length (set first y 0) ≡ length first = length-set first y 0 in
-          let is : column new k ≡ repaired_column units r s (set first y 0) = up_to (width_of mid) (repaired_column units r s) mid new become k (omega arith) ∙ ap (repaired_column units r s) (erased k k_lt) in
-          let all : AreBytes (set first y 0) = All-set (λ (d : ℕ). d < 256) first y 0 (omega arith) (All-set (λ (d : ℕ). d < 256) col x 0 (omega arith) (column_bytes old k bytes)) in
+          let is : column new k ≡ repaired_column units r s (set first y 0) =
+              up_to (width_of mid) (repaired_column units r s) mid new become k (omega arith)
+              ∙ ap (repaired_column units r s) (erased k k_lt) in
+          let all : AreBytes (set first y 0) =
+              All-set (λ (d : ℕ). d < 256) first y 0 (omega arith)
+                  (All-set (λ (d : ℕ). d < 256) col x 0 (omega arith) (column_bytes old k bytes)) in
           rw is (two_solved units x y r s (set first y 0) repairs all rising (omega arith) (omega arith)
-          (other_byte x y 0 first (λ e. omega arith) ∙ get_or-set_same col x 0 0 (omega arith)) (get_or-set_same first y 0 0 (omega arith)));
+          (other_byte x y 0 first (λ e. omega arith) ∙ get_or-set_same col x 0 0 (omega arith))
+              (get_or-set_same first y 0 0 (omega arith)));
     }
 
--- rows of the same lengths serve as well
-pub rows_kept : (code : Code) (old new : List (List ℕ)) → map length new ≡ map length old → AreRows code old → AreRows code new
-rows_kept code old new e h =
-    let count : length new ≡ length old = same_count old new e in
-    record {
-      some = omega (arith, h.some);
-      most = omega (arith, h.most);
-      even = λ j d lt. same_row old new j d e ∙ h.even j d (omega arith) ∙ sym (width_kept old new e);
-    }
-
-pub rows_of_width : (w : ℕ) (rows : List (List ℕ)) → 0 < length rows → All (λ row. length row ≡ w) rows → All (λ row. length row ≡ width_of rows) rows
+pub rows_of_width : (w : ℕ) (rows : List (List ℕ)) → 0 < length rows → All (λ row. length row ≡ w) rows →
+    All (λ row. length row ≡ width_of rows) rows
 rows_of_width w [] some even = absurd (omega arith)
 rows_of_width w (x ∷ xs) some even = λ j d lt. even j d lt ∙ sym (even 0 d (omega arith))

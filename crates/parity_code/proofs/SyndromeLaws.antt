@@ -25,14 +25,16 @@ p_of_set [] i v lt = absurd (omega arith)
 p_of_set (d ∷ ds) zero v lt = rw (xor_zero_l (p_of ds)) (xor_comm v (p_of ds))
 p_of_set (d ∷ ds) (suc i) v lt = ap (bit_xor d) (p_of_set ds i v (omega arith)) ∙ sym (xor_assoc d (p_of (set ds i 0)) v)
 
-pub q_from_set : (n : ℕ) (ds : List ℕ) (i v : ℕ) → i < length ds → q_from n (set ds i v) ≡ bit_xor (q_from n (set ds i 0)) (product (two_to (n + i)) v)
+pub q_from_set : (n : ℕ) (ds : List ℕ) (i v : ℕ) → i < length ds →
+    q_from n (set ds i v) ≡ bit_xor (q_from n (set ds i 0)) (product (two_to (n + i)) v)
 q_from_set n [] i v lt = absurd (omega arith)
 q_from_set n (d ∷ ds) zero v lt =
     let e : n + 0 ≡ n = omega arith in
     rw (e, product_zero (two_to n), xor_zero_l (q_from (n + 1) ds)) (xor_comm (product (two_to n) v) (q_from (n + 1) ds))
 q_from_set n (d ∷ ds) (suc i) v lt =
     let e : n + 1 + i ≡ n + suc i = omega arith in
-    ap (bit_xor (product (two_to n) d)) (rw e at (q_from_set (n + 1) ds i v (omega arith))) ∙ sym (xor_assoc (product (two_to n) d) (q_from (n + 1) (set ds i 0)) (product (two_to (n + suc i)) v))
+    ap (bit_xor (product (two_to n) d)) (rw e at (q_from_set (n + 1) ds i v (omega arith)))
+        ∙ sym (xor_assoc (product (two_to n) d) (q_from (n + 1) (set ds i 0)) (product (two_to (n + suc i)) v))
 
 pub p_weight_below : (units j : ℕ) → j ≤ units → p_weight units j ≡ 1
 p_weight_below units j le = ap (λ (b : Bool). cond b 1 0) (le-leb j units le)
@@ -50,7 +52,10 @@ pub q_weight_above : (units j : ℕ) → units < j → q_weight units j ≡ 1
 q_weight_above units j lt = rw (le-ltb j units (omega arith), lt-leb j units lt) refl
 
 pub p_weight_lt : (units j : ℕ) → p_weight units j < 256
-p_weight_lt units j = elim (cases_lt units j) [ inl above ↦ rw (p_weight_above units j above) (omega arith) | inr below ↦ rw (p_weight_below units j below) (omega arith) ]
+p_weight_lt units j =
+    elim (cases_lt units j)
+        [ inl above ↦ rw (p_weight_above units j above) (omega arith) | inr below ↦ rw (p_weight_below units j below)
+        (omega arith) ]
 
 pub q_weight_lt : (units j : ℕ) → q_weight units j < 256
 q_weight_lt units j = elim (cases_lt j units) [
@@ -78,10 +83,12 @@ p_syndrome_set units j v col lt room byte = elim (cases_lt j units) [
       (xor_right_comm (p_of (set (take units col) j 0)) v (get_or col units 0))
   | inr le ↦ elim (cases_lt units j) [
     | inl above ↦
-        rw (p_weight_above units j above, zero_product v, take-set-le units col j v le, take-set-le units col j 0 le, get_or-set_other col j units v 0 (λ e. omega arith), get_or-set_other col j units 0 0 (λ e. omega arith))
+        rw (p_weight_above units j above, zero_product v, take-set-le units col j v le, take-set-le units col j 0 le,
+            get_or-set_other col j units v 0 (λ e. omega arith), get_or-set_other col j units 0 0 (λ e. omega arith))
         (sym (xor_zero_r (bit_xor (p_of (take units col)) (get_or col units 0))))
     | inr same ↦
-        rw (p_weight_below units j (omega arith), one_product v byte, take-set-le units col j v le, take-set-le units col j 0 le, get_or-set_at col j units v 0 (omega arith) lt, get_or-set_at col j units 0 0 (omega arith) lt)
+        rw (p_weight_below units j (omega arith), one_product v byte, take-set-le units col j v le, take-set-le units col j 0 le,
+            get_or-set_at col j units v 0 (omega arith) lt, get_or-set_at col j units 0 0 (omega arith) lt)
         (ap (λ (p : ℕ). bit_xor p v) (sym (xor_zero_r (p_of (take units col)))))
   ]
 ]
@@ -104,20 +111,26 @@ q_syndrome_set units j v col lt long byte = elim (cases_lt j units) [
       (xor_right_comm (q_of (set (take units col) j 0)) (product (two_to j) v) (get_or col (units + 1) 0))
   | inr le ↦ elim (cases_lt units j) [
     | inl above ↦
-        rw (q_weight_above units j above, one_product v byte, take-set-le units col j v le, take-set-le units col j 0 le, get_or-set_at col j (units + 1) v 0 (omega arith) lt, get_or-set_at col j (units + 1) 0 0 (omega arith) lt)
+        rw (q_weight_above units j above, one_product v byte, take-set-le units col j v le, take-set-le units col j 0 le,
+            get_or-set_at col j (units + 1) v 0 (omega arith) lt, get_or-set_at col j (units + 1) 0 0 (omega arith) lt)
         (ap (λ (p : ℕ). bit_xor p v) (sym (xor_zero_r (q_of (take units col)))))
     | inr same ↦
-        rw (q_weight_at units j (omega arith), zero_product v, take-set-le units col j v le, take-set-le units col j 0 le, get_or-set_other col j (units + 1) v 0 (λ e. omega arith), get_or-set_other col j (units + 1) 0 0 (λ e. omega arith))
+        rw (q_weight_at units j (omega arith), zero_product v, take-set-le units col j v le, take-set-le units col j 0 le,
+            get_or-set_other col j (units + 1) v 0 (λ e. omega arith), get_or-set_other col j (units + 1) 0 0 (λ e. omega arith))
         (sym (xor_zero_r (bit_xor (q_of (take units col)) (get_or col (units + 1) 0))))
   ]
 ]
 
 -- a column of bytes has only bytes, and 0 beyond its end
 pub any_byte : (col : List ℕ) (k : ℕ) → AreBytes col → get_or col k 0 < 256
-any_byte col k bytes = elim (cases_lt k (length col)) [ inl there ↦ bytes k 0 there | inr past ↦ rw (get_or_past col k 0 past) (omega arith) ]
+any_byte col k bytes =
+    elim (cases_lt k (length col)) [ inl there ↦ bytes k 0 there | inr past ↦ rw (get_or_past col k 0 past) (omega arith) ]
 
 pub p_syndrome_lt : (units : ℕ) (col : List ℕ) → AreBytes col → p_syndrome units col < 256
-p_syndrome_lt units col bytes = xor_of_8 (p_of (take units col)) (get_or col units 0) (p_of_lt (take units col) (All-take (λ (d : ℕ). d < 256) units col bytes)) (any_byte col units bytes)
+p_syndrome_lt units col bytes =
+    xor_of_8 (p_of (take units col)) (get_or col units 0)
+        (p_of_lt (take units col) (All-take (λ (d : ℕ). d < 256) units col bytes)) (any_byte col units bytes)
 
 pub q_syndrome_lt : (units : ℕ) (col : List ℕ) → AreBytes col → q_syndrome units col < 256
-q_syndrome_lt units col bytes = xor_of_8 (q_of (take units col)) (get_or col (units + 1) 0) (q_from_lt 0 (take units col)) (any_byte col (units + 1) bytes)
+q_syndrome_lt units col bytes =
+    xor_of_8 (q_of (take units col)) (get_or col (units + 1) 0) (q_from_lt 0 (take units col)) (any_byte col (units + 1) bytes)

@@ -25,7 +25,8 @@ RunsAlone words before now status =
     × (how : ReplayStatus) × (status ≡ by_replay how)
     × ReplayPromises (command_of words) (replay_ends before) (replay_ends now) how
 
-abbrev pub Promises : {D : Type 0} → DiskGhosts D → (disk left : D) → Option Party → List Text → (before now : Ends) → Status → Type 0
+abbrev pub Promises : {D : Type 0} → DiskGhosts D → (disk left : D) → Option Party → List Text → (before now : Ends) → Status →
+    Type 0
 Promises s disk left None words before now status = RunsAlone words before now status
 Promises s disk left (Some Drive) words before now status = Runs drive_options drive_gives DriveEnds words before now status
 Promises s disk left (Some StoredDrive) words before now status =

@@ -29,10 +29,12 @@ pub(crate) fn run_stored_drive<S: Source, K: Sink, L: Links, C: Clock, D: Disk>(
     clock: &mut C,
     disk: D,
 ) -> (Status, D)
-    ensures promise { Runs stored_drive_options stored_drive_gives (StoredDriveEnds D.Disk disk result.1) (map string_bytes words.now)
+    ensures promise { Runs stored_drive_options stored_drive_gives (StoredDriveEnds D.Disk disk result.1)
+        (map string_bytes words.now)
         (ends_at S.Source K.Sink L.Links C.Clock source.old sink.old links.old clock.old)
         (ends_at S.Source K.Sink L.Links C.Clock source.new sink.new links.new clock.new) result.0 }
-    ensures words { JudgesWords (Refuses stored_drive_options stored_drive_gives (map string_bytes words.now) words_err.Bad) result.0 }
+    ensures words { JudgesWords
+        (Refuses stored_drive_options stored_drive_gives (map string_bytes words.now) words_err.Bad) result.0 }
     ensures disk { LeavesDisk disk result.1 result.0 }
 {
     let asked = match stored_drive_words(alloc, words) {
@@ -69,10 +71,12 @@ pub(crate) fn run_stored_server<S: Source, K: Sink, L: Links, C: Clock, D: Disk,
     placer: &P,
 ) -> (Status, D)
     requires { P.is_placer placer.now }
-    ensures promise { Runs stored_server_options stored_server_gives (StoredServerEnds D.Disk disk result.1) (map string_bytes words.now)
+    ensures promise { Runs stored_server_options stored_server_gives (StoredServerEnds D.Disk disk result.1)
+        (map string_bytes words.now)
         (ends_at S.Source K.Sink L.Links C.Clock source.old sink.old links.old clock.old)
         (ends_at S.Source K.Sink L.Links C.Clock source.new sink.new links.new clock.new) result.0 }
-    ensures words { JudgesWords (Refuses stored_server_options stored_server_gives (map string_bytes words.now) words_err.Bad) result.0 }
+    ensures words { JudgesWords
+        (Refuses stored_server_options stored_server_gives (map string_bytes words.now) words_err.Bad) result.0 }
     ensures disk { LeavesDisk disk result.1 result.0 }
 {
     let asked = match stored_server_words(alloc, words) {

@@ -17,11 +17,13 @@ same_online : (loads : List DriveLoad) (d : ℕ) → is_online (map ranked loads
 same_online [] d = refl
 same_online (l ∷ ls) d = ap (λ (rest : Bool). (nat_eq l.drive d && l.online) || rest) (same_online ls d)
 
-all_online : (loads : List DriveLoad) (chosen : List ℕ) → list_all (is_online (map ranked loads)) chosen ≡ list_all (is_online loads) chosen
+all_online : (loads : List DriveLoad) (chosen : List ℕ) →
+    list_all (is_online (map ranked loads)) chosen ≡ list_all (is_online loads) chosen
 all_online loads [] = refl
 all_online loads (d ∷ ds) = rw (same_online loads d, all_online loads ds) refl
 
-same_count : (loads : List DriveLoad) → count_by (λ (l : DriveLoad). l.online) (map ranked loads) ≡ count_by (λ (l : DriveLoad). l.online) loads
+same_count : (loads : List DriveLoad) →
+    count_by (λ (l : DriveLoad). l.online) (map ranked loads) ≡ count_by (λ (l : DriveLoad). l.online) loads
 same_count [] = refl
 same_count (l ∷ ls) =
     sum_by-cons (λ (x : DriveLoad). cond x.online 1 0) (ranked l) (map ranked ls)
@@ -41,7 +43,8 @@ may_rank n loads given e can = rw e record {
 }
 
 -- and what is chosen of them is chosen of the loads
-pub ranked_places : (n : ℕ) (loads given : List DriveLoad) (chosen : List ℕ) → given ≡ map ranked loads → Places n given chosen → Places n loads chosen
+pub ranked_places : (n : ℕ) (loads given : List DriveLoad) (chosen : List ℕ) → given ≡ map ranked loads → Places n given chosen →
+    Places n loads chosen
 ranked_places n loads given chosen e places =
     let moved : Places n (map ranked loads) chosen = subst (λ (xs : List DriveLoad). Places n xs chosen) e places in record {
       many = moved.many;

@@ -21,12 +21,14 @@ pub further_step : (ps : List ℕ) (i : ℕ) → i < length ps
 further_step ps i lt =
     rw (take_more ps i 0 lt, map-append) (behind_push 44 (map decimal (take i ps)) (decimal (get_or ps i 0)))
 
-pub joined_is : (separator : ℕ) (word : List ℕ) (words : List (List ℕ)) → join_with_byte separator (word ∷ words) ≡ word ++ behind separator words
+pub joined_is : (separator : ℕ) (word : List ℕ) (words : List (List ℕ)) →
+    join_with_byte separator (word ∷ words) ≡ word ++ behind separator words
 joined_is separator word [] = sym (append-nil word)
 joined_is separator word (next ∷ words) =
     ap (λ (x : List ℕ). word ++ (separator ∷ x)) (joined_is separator next words)
 
-pub further_out : (initial out pushed new text ps : List ℕ) (i : ℕ) → i < length ps → out ≡ initial ++ behind 44 (map decimal (take i ps))
+pub further_out : (initial out pushed new text ps : List ℕ) (i : ℕ) → i < length ps →
+    out ≡ initial ++ behind 44 (map decimal (take i ps))
     → pushed ≡ out ++ 44 ∷ [] → new ≡ pushed ++ text → text ≡ decimal (get_or ps i 0)
     → new ≡ initial ++ behind 44 (map decimal (take (i + 1) ps))
 further_out initial out pushed new text ps i lt e_out e_pushed e_new e_text =
@@ -42,9 +44,11 @@ positions_out (p ∷ ps) out first new text len is e_first e_new =
 
 -- one more word is out
 pub word_out : (initial out pushed new : List ℕ) (words : List Word) (i : ℕ) (d : Word) → i < length words
-    → out ≡ initial ++ behind 32 (map written (take i words)) → pushed ≡ out ++ 32 ∷ [] → new ≡ pushed ++ written (get_or words i d)
+    → out ≡ initial ++ behind 32 (map written (take i words)) → pushed ≡ out ++ 32 ∷ [] →
+        new ≡ pushed ++ written (get_or words i d)
     → new ≡ initial ++ behind 32 (map written (take (i + 1) words))
 word_out initial out pushed new words i d lt e_out e_pushed e_new =
-    let more : behind 32 (map written (take (i + 1) words)) ≡ behind 32 (map written (take i words)) ++ (32 ∷ written (get_or words i d)) =
+    let more : behind 32 (map written (take (i + 1) words)) ≡ behind 32
+        (map written (take i words)) ++ (32 ∷ written (get_or words i d)) =
     rw (take_more words i d lt, map-append) (behind_push 32 (map written (take i words)) (written (get_or words i d))) in
     rw (e_new, e_pushed, e_out, more) (simp append_assoc)

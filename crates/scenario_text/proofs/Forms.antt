@@ -27,7 +27,8 @@ pub record Law (digits : Digits) {B : Type 0} (of : List ℕ → Result B EventE
 
 -- ---- the parts of a form's values
 
--- Each value of a form has these parts, behind those that were read before. A value that is read first may count the last of those among its own.
+-- Each value of a form has these parts, behind those that were read before. A value that is read first may count the last of
+-- those among its own.
 abbrev pub Exact : {A : Type 0} → Digits → Form A → (A → List Part) → List Part → Type 0
 Exact digits (Done x) parts before = parts x ≡ before
 Exact digits (Word {B = B} of next) parts before =
@@ -48,16 +49,21 @@ Path Unknown x = ⊥
 
 abbrev pub ExactRows : {A : Type 0} → Digits → List (List ℕ × Form A) → (A → List Part) → List Part → Type 0
 ExactRows digits [] parts before = ⊤
-ExactRows digits (row ∷ rows) parts before = Exact digits row.1 parts (before ++ Fixed row.0 ∷ []) × ExactRows digits rows parts before
+ExactRows digits (row ∷ rows) parts before =
+    Exact digits row.1 parts (before ++ Fixed row.0 ∷ []) × ExactRows digits rows parts before
 
-picked : {A : Type 0} (digits : Digits) (b : Bool) (word text : List ℕ) (here later : Form A) (parts : A → List Part) (before : List Part)
-    → (b ≡ true → word ≡ text) → Exact digits here parts (before ++ Fixed text ∷ []) → Exact digits later parts (before ++ Fixed word ∷ [])
+picked : {A : Type 0} (digits : Digits) (b : Bool) (word text : List ℕ) (here later : Form A) (parts : A → List Part)
+    (before : List Part)
+    → (b ≡ true → word ≡ text) → Exact digits here parts (before ++ Fixed text ∷ []) →
+        Exact digits later parts (before ++ Fixed word ∷ [])
     → Exact digits (pick b here later) parts (before ++ Fixed word ∷ [])
-picked digits true word text here later parts before is h l = subst (λ (w : List ℕ). Exact digits here parts (before ++ Fixed w ∷ [])) (sym (is refl)) h
+picked digits true word text here later parts before is h l =
+    subst (λ (w : List ℕ). Exact digits here parts (before ++ Fixed w ∷ [])) (sym (is refl)) h
 picked digits false word text here later parts before is h l = l
 
 -- the forms of the rows, or else another
-pub rows_or : {A : Type 0} (digits : Digits) (rows : List (List ℕ × Form A)) (other : List ℕ → Form A) (parts : A → List Part) (before : List Part)
+pub rows_or : {A : Type 0} (digits : Digits) (rows : List (List ℕ × Form A)) (other : List ℕ → Form A) (parts : A → List Part)
+    (before : List Part)
     → ExactRows digits rows parts before → ((word : List ℕ) → Exact digits (other word) parts (before ++ Fixed word ∷ []))
     → (word : List ℕ) → Exact digits (chosen rows other word) parts (before ++ Fixed word ∷ [])
 rows_or digits [] other parts before h o word = o word
@@ -66,7 +72,8 @@ rows_or digits (row ∷ rows) other parts before h o word =
     (rows_or digits rows other parts before h.1 o word)
 
 pub rows : {A : Type 0} (digits : Digits) (table : List (List ℕ × Form A)) (parts : A → List Part) (before : List Part)
-    → ExactRows digits table parts before → (word : List ℕ) → Exact digits (chosen table (λ w. Unknown) word) parts (before ++ Fixed word ∷ [])
+    → ExactRows digits table parts before → (word : List ℕ) →
+        Exact digits (chosen table (λ w. Unknown) word) parts (before ++ Fixed word ∷ [])
 rows digits table parts before h word = rows_or digits table (λ w. Unknown) parts before h (λ w. tt) word
 
 -- a table of keywords as rows
@@ -74,8 +81,10 @@ abbrev pub rows_of : {K A : Type 0} → List (List ℕ × K) → (K → Form A) 
 rows_of [] form = []
 rows_of (entry ∷ table) form = (entry.0, form entry.1) ∷ rows_of table form
 
-picked_keyword : {K A : Type 0} (digits : Digits) (b : Bool) (word text : List ℕ) (k : K) (rest : Option K) (form : K → Form A) (other : Form A)
-    (parts : A → List Part) (before : List Part) → (b ≡ true → word ≡ text) → Exact digits (form k) parts (before ++ Fixed text ∷ [])
+picked_keyword : {K A : Type 0} (digits : Digits) (b : Bool) (word text : List ℕ) (k : K) (rest : Option K) (form : K → Form A)
+    (other : Form A)
+    (parts : A → List Part) (before : List Part) → (b ≡ true → word ≡ text) →
+        Exact digits (form k) parts (before ++ Fixed text ∷ [])
     → Exact digits (form_or form other rest) parts (before ++ Fixed word ∷ [])
     → Exact digits (form_or form other (if b then Some k else rest)) parts (before ++ Fixed word ∷ [])
 picked_keyword digits true word text k rest form other parts before is h l =
@@ -83,7 +92,8 @@ picked_keyword digits true word text k rest form other parts before is h l =
 picked_keyword digits false word text k rest form other parts before is h l = l
 
 -- the forms of keywords, or else another
-pub keywords : {K A : Type 0} (digits : Digits) (table : List (List ℕ × K)) (form : K → Form A) (other : List ℕ → Form A) (parts : A → List Part)
+pub keywords : {K A : Type 0} (digits : Digits) (table : List (List ℕ × K)) (form : K → Form A) (other : List ℕ → Form A)
+    (parts : A → List Part)
     (before : List Part) → ExactRows digits (rows_of table form) parts before
     → ((word : List ℕ) → Exact digits (other word) parts (before ++ Fixed word ∷ []))
     → (word : List ℕ) → Exact digits (form_or form (other word) (word_in table word)) parts (before ++ Fixed word ∷ [])
@@ -96,13 +106,15 @@ abbrev pub NoRow : {A : Type 0} → List (List ℕ × Form A) → (List ℕ → 
 NoRow [] other x = ⊤
 NoRow (row ∷ table) other x = (Path (other row.0) x → ⊥) × NoRow table other x
 
-past_row : {A : Type 0} (b : Bool) (other : List ℕ → Form A) (text word : List ℕ) (here later : Form A) (x : A) → (b ≡ true → word ≡ text)
+past_row : {A : Type 0} (b : Bool) (other : List ℕ → Form A) (text word : List ℕ) (here later : Form A) (x : A) →
+    (b ≡ true → word ≡ text)
     → (Path (other text) x → ⊥) → Path (other word) x → Path later x → Path (pick b here later) x
 past_row true other text word here later x is none h l = absurd (none (subst (λ (w : List ℕ). Path (other w) x) (is refl) h))
 past_row false other text word here later x is none h l = l
 
 -- a form behind rows: the other form has the value, and none of the rows' words
-pub past : {A : Type 0} (table : List (List ℕ × Form A)) (other : List ℕ → Form A) (x : A) (word : List ℕ) → NoRow table other x → Path (other word) x
+pub past : {A : Type 0} (table : List (List ℕ × Form A)) (other : List ℕ → Form A) (x : A) (word : List ℕ) → NoRow table other x →
+    Path (other word) x
     → Path (chosen table other word) x
 past [] other x word none h = h
 past (row ∷ table) other x word none h =
@@ -111,7 +123,8 @@ past (row ∷ table) other x word none h =
 
 -- ---- what is read is spelled
 
-pub record Found {A : Type 0} (digits : Digits) (parts : A → List Part) (before : List Part) (words left : List (List ℕ)) (x : A) : Type 0 where
+pub record Found {A : Type 0} (digits : Digits) (parts : A → List Part) (before : List Part) (words left : List (List ℕ))
+    (x : A) : Type 0 where
   pub back : List Part
   pub front : List (List ℕ)
   pub is : parts x ≡ before ++ back
@@ -148,7 +161,8 @@ spell_append digits [] qs (u ∷ us) vs h k = absurd h
 spell_append digits (p ∷ ps) qs [] vs h k = absurd h
 spell_append digits (p ∷ ps) qs (u ∷ us) vs h k = (h.0, spell_append digits ps qs us vs h.1 k)
 
-found_then : {A : Type 0} (digits : Digits) (parts : A → List Part) (before each : List Part) (words front middle left : List (List ℕ)) (x : A)
+found_then : {A : Type 0} (digits : Digits) (parts : A → List Part) (before each : List Part)
+    (words front middle left : List (List ℕ)) (x : A)
     → words ≡ front ++ middle → AllFit each → SpellAll digits each front → Found digits parts (before ++ each) middle left x
     → Found digits parts before words left x
 found_then digits parts before each words front middle left x are fit spell f = record {
@@ -171,18 +185,21 @@ found_done digits parts before words left y x h e = record {
   spell = tt;
 }
 
-pub found : {A : Type 0} (digits : Digits) (form : Form A) (parts : A → List Part) (before : List Part) → Exact digits form parts before
+pub found : {A : Type 0} (digits : Digits) (form : Form A) (parts : A → List Part) (before : List Part) →
+    Exact digits form parts before
     → (words left : List (List ℕ)) (x : A) → reads form words ≡ Ok (x, left) → Found digits parts before words left x
 found digits (Done y) parts before h words left x r = found_done digits parts before words left y x h (same_pair y x words left r)
 found digits (Word of next) parts before h words left x r =
     let a = bind_ok (next_as of words) _ (x, left) r in
     let w = bind_ok (first words) of a.0 a.1 in
     let law = h.1.found w.0 a.0 w.2 in
-    found_then digits parts before (h.0 a.0 ∷ []) words (w.0 ∷ []) (after words) left x (first_ok words w.0 w.1) (law.0, tt) (law.1, tt)
+    found_then digits parts before (h.0 a.0 ∷ []) words (w.0 ∷ []) (after words) left x (first_ok words w.0 w.1) (law.0, tt)
+        (law.1, tt)
     (found digits (next a.0) parts (before ++ h.0 a.0 ∷ []) (h.2 a.0) (after words) left x a.2)
 found digits (Choose form) parts before h words left x r =
     let a = bind_ok (first words) _ (x, left) r in
-    found_then digits parts before (Fixed a.0 ∷ []) words (a.0 ∷ []) (after words) left x (first_ok words a.0 a.1) (tt, tt) (refl, tt)
+    found_then digits parts before (Fixed a.0 ∷ []) words (a.0 ∷ []) (after words) left x (first_ok words a.0 a.1) (tt, tt)
+        (refl, tt)
     (found digits (form a.0) parts (before ++ Fixed a.0 ∷ []) (h a.0) (after words) left x a.2)
 found digits (Then form next) parts before h words left x r =
     let a = bind_ok (reads form words) _ (x, left) r in
@@ -194,7 +211,8 @@ found digits Unknown parts before h words left x r = cc r
 
 -- ---- what is spelled reads back
 
-pub record Again {A : Type 0} (digits : Digits) (form : Form A) (parts : A → List Part) (before : List Part) (x : A) : Type 0 where
+pub record Again {A : Type 0} (digits : Digits) (form : Form A) (parts : A → List Part) (before : List Part)
+    (x : A) : Type 0 where
   pub back : List Part
   pub is : parts x ≡ before ++ back
   pub read : (words left : List (List ℕ)) → AllFit back → SpellAll digits back words → reads form (words ++ left) ≡ Ok (x, left)
@@ -208,7 +226,8 @@ record Split (digits : Digits) (ps qs : List Part) (words : List (List ℕ)) : T
   first : SpellAll digits ps us
   second : SpellAll digits qs vs
 
-split : (digits : Digits) (ps qs : List Part) (words : List (List ℕ)) → SpellAll digits (ps ++ qs) words → Split digits ps qs words
+split : (digits : Digits) (ps qs : List Part) (words : List (List ℕ)) → SpellAll digits (ps ++ qs) words →
+    Split digits ps qs words
 split digits [] qs words h = record { us = []; vs = words; are = refl; first = tt; second = h }
 split digits (p ∷ ps) qs [] h = absurd h
 split digits (p ∷ ps) qs (w ∷ words) h =
@@ -231,7 +250,8 @@ done_read : {A : Type 0} (digits : Digits) (y x : A) (words left : List (List �
 done_read digits y x [] left e h = ap (λ z. pair z left) e
 done_read digits y x (w ∷ words) left e h = absurd h
 
-word_read : {A B : Type 0} (digits : Digits) (of : List ℕ → Result B EventErr) (next : B → Form A) (part : B → Part) (law : Law digits of part) (v : B)
+word_read : {A B : Type 0} (digits : Digits) (of : List ℕ → Result B EventErr) (next : B → Form A) (part : B → Part)
+    (law : Law digits of part) (v : B)
     (ps : List Part) (x : A) (words left : List (List ℕ)) → PartFits (part v) → SpellAll digits (part v ∷ ps) words
     → ((ws : List (List ℕ)) → SpellAll digits ps ws → reads (next v) (ws ++ left) ≡ Ok (x, left))
     → reads (Word of next) (words ++ left) ≡ Ok (x, left)
@@ -248,12 +268,15 @@ choose_read digits form word ps x [] left h more = absurd h
 choose_read digits form word ps x (w ∷ words) left h more =
     subst (λ (u : List ℕ). reads (form u) (words ++ left) ≡ Ok (x, left)) (sym h.0) (more words h.1)
 
-then_read : {A B : Type 0} (digits : Digits) (form : Form B) (next : B → Form A) (v : B) (x : A) (ps qs : List Part) (words left : List (List ℕ))
-    (s : Split digits ps qs words) → reads form (s.us ++ (s.vs ++ left)) ≡ Ok (v, s.vs ++ left) → reads (next v) (s.vs ++ left) ≡ Ok (x, left)
+then_read : {A B : Type 0} (digits : Digits) (form : Form B) (next : B → Form A) (v : B) (x : A) (ps qs : List Part)
+    (words left : List (List ℕ))
+    (s : Split digits ps qs words) → reads form (s.us ++ (s.vs ++ left)) ≡ Ok (v, s.vs ++ left) →
+        reads (next v) (s.vs ++ left) ≡ Ok (x, left)
     → reads (Then form next) (words ++ left) ≡ Ok (x, left)
 then_read digits form next v x ps qs words left s e more = rw (s.are, append_assoc s.us s.vs left, e) more
 
-pub again : {A : Type 0} (digits : Digits) (form : Form A) (parts : A → List Part) (before : List Part) → Exact digits form parts before
+pub again : {A : Type 0} (digits : Digits) (form : Form A) (parts : A → List Part) (before : List Part) →
+    Exact digits form parts before
     → (x : A) → Path form x → Again digits form parts before x
 again digits (Done y) parts before h x p = record {
   back = [];
@@ -266,7 +289,8 @@ again digits (Word of next) parts before h x p =
     record {
       back = h.0 p.0 ∷ a.back;
       is = a.is ∙ one_more before a.back (h.0 p.0);
-      read = λ words left fit spell. word_read digits of next h.0 h.1 p.0 a.back x words left fit.0 spell (λ ws s. a.read ws left fit.1 s);
+      read = λ words left fit spell. word_read digits of next h.0 h.1 p.0 a.back x words left fit.0 spell
+          (λ ws s. a.read ws left fit.1 s);
       clear = λ fit. or_from _ _ (h.1.clear p.0 fit.0) (a.clear fit.1);
     }
 again digits (Choose form) parts before h x p =
@@ -282,11 +306,13 @@ again digits (Then form next) parts before h x p =
     let b = again digits (next p.0) parts (h.1 ++ h.0 p.0) (h.5 p.0) x p.2 in
     record {
       back = a.back ++ b.back;
-      is = b.is ∙ ap (λ (q : List Part). q ++ b.back) (joined h.1 h.2 before a.back (h.0 p.0) h.3 a.is) ∙ append_assoc before a.back b.back;
+      is = b.is ∙ ap (λ (q : List Part). q ++ b.back) (joined h.1 h.2 before a.back (h.0 p.0) h.3 a.is)
+          ∙ append_assoc before a.back b.back;
       read = λ words left fit spell.
           let s = split digits a.back b.back words spell in
           let f = split_fit a.back b.back fit in
-          then_read digits form next p.0 x a.back b.back words left s (a.read s.us (s.vs ++ left) f.0 s.first) (b.read s.vs left f.1 s.second);
+          then_read digits form next p.0 x a.back b.back words left s (a.read s.us (s.vs ++ left) f.0 s.first)
+              (b.read s.vs left f.1 s.second);
       clear = λ fit. let f = split_fit a.back b.back fit in clear_append a.back b.back (a.clear f.0) (b.clear f.1);
     }
 again digits Unknown parts before h x p = absurd p
@@ -302,10 +328,13 @@ line_found digits form parts h words x r =
     let f = found digits form parts [] h words a.0.1 a.0.0 a.1 in
     let whole : words ≡ f.front = f.are ∙ ap (λ (l : List (List ℕ)). f.front ++ l) (end_ok a.0.1 b.0 b.1) ∙ append-nil f.front in
     let is : parts x ≡ f.back = ap parts (sym same) ∙ f.is in
-    (subst AllFit (sym is) f.fit, subst (λ (ps : List Part). SpellAll digits ps words) (sym is) (subst (λ (ws : List (List ℕ)). SpellAll digits f.back ws) (sym whole) f.spell))
+    (subst AllFit (sym is) f.fit,
+        subst (λ (ps : List Part). SpellAll digits ps words) (sym is)
+            (subst (λ (ws : List (List ℕ)). SpellAll digits f.back ws) (sym whole) f.spell))
 
 pub line_again : {A : Type 0} (digits : Digits) (form : Form A) (parts : A → List Part) → Exact digits form parts []
-    → (words : List (List ℕ)) (x : A) → Path form x → AllFit (parts x) → SpellAll digits (parts x) words → reads_line form words ≡ Ok x
+    → (words : List (List ℕ)) (x : A) → Path form x → AllFit (parts x) → SpellAll digits (parts x) words →
+        reads_line form words ≡ Ok x
 line_again digits form parts h words x p fit spell =
     let a = again digits form parts [] h x p in
     let r = a.read words [] (subst AllFit a.is fit) (subst (λ (ps : List Part). SpellAll digits ps words) a.is spell) in
@@ -319,7 +348,8 @@ line_clear digits form parts h x p fit =
     ap (λ (ps : List Part). none_any is_space (map word_of ps)) a.is ∙ a.clear (subst AllFit a.is fit)
 
 -- a line whose first word chooses has a word
-pub first_part : {A : Type 0} (digits : Digits) (form : List ℕ → Form A) (parts : A → List Part) → Exact digits (Choose form) parts []
+pub first_part : {A : Type 0} (digits : Digits) (form : List ℕ → Form A) (parts : A → List Part) →
+    Exact digits (Choose form) parts []
     → (x : A) → Path (Choose form) x → (p : Part) × (ps : List Part) × (parts x ≡ p ∷ ps)
 first_part digits form parts h x p =
     let a = again digits (form p.0) parts ([] ++ Fixed p.0 ∷ []) (h p.0) x p.2 in

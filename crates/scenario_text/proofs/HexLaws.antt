@@ -98,12 +98,14 @@ refused_test : (b : Bool) (r : Result (List ℕ) EventErr) (bytes : List ℕ) �
 refused_test true r bytes h = cc h
 refused_test false r bytes h = (refl, h)
 
-key_spelled : (digits : Digits) (word key : List ℕ) → decode_sized word 20 ≡ Ok key → decode_of word ≡ Ok key → refuses digits word ≡ false
+key_spelled : (digits : Digits) (word key : List ℕ) → decode_sized word 20 ≡ Ok key → decode_of word ≡ Ok key →
+    refuses digits word ≡ false
     → SpellsKey digits key word
 key_spelled Either word key sized plain takes = sized
 key_spelled Lower word key sized plain takes = lower_again word key takes plain
 
-key_found : (digits : Digits) (word key : List ℕ) → key_of digits word ≡ Ok key → ((length key ≡ 20) × IsBytes key) × SpellsKey digits key word
+key_found : (digits : Digits) (word key : List ℕ) → key_of digits word ≡ Ok key →
+    ((length key ≡ 20) × IsBytes key) × SpellsKey digits key word
 unfolding key_of
 key_found digits word key h =
     let t = refused_test (refuses digits word) (or_bad_hex (decode_sized word 20)) key h in
@@ -113,7 +115,8 @@ key_found digits word key h =
     let d = decode_of-ok word key plain in
     ((omega (arith, twice, d.2), d.3), key_spelled digits word key spells plain t.0)
 
-key_again : (digits : Digits) (word key : List ℕ) → (length key ≡ 20) × IsBytes key → SpellsKey digits key word → key_of digits word ≡ Ok key
+key_again : (digits : Digits) (word key : List ℕ) → (length key ≡ 20) × IsBytes key → SpellsKey digits key word →
+    key_of digits word ≡ Ok key
 unfolding key_of
 key_again Either word key fit h = rw h refl
 key_again Lower word key fit h =
@@ -145,7 +148,8 @@ no_digits (c ∷ word) h = absurd (omega (arith, (decode_of-ok (c ∷ word) [] h
 no_bytes : IsBytes []
 no_bytes = λ i. omega arith
 
-spelled : (digits : Digits) (word bytes : List ℕ) → bytes_eq word [] ≡ false → refuses digits word ≡ false → decode_of word ≡ Ok bytes
+spelled : (digits : Digits) (word bytes : List ℕ) → bytes_eq word [] ≡ false → refuses digits word ≡ false →
+    decode_of word ≡ Ok bytes
     → SpellsBytes digits bytes word
 spelled digits word [] some takes h = cc (some, (bytes_eq-Decides word []).1 (no_digits word h))
 spelled Either word (b ∷ bytes) some takes h = h
@@ -155,10 +159,12 @@ dash : (digits : Digits) (word : List ℕ) → word ≡ codes "-" → SpellsByte
 dash Either word h = h
 dash Lower word h = h
 
-bytes_found : (digits : Digits) (word bytes : List ℕ) → bytes_of digits word ≡ Ok bytes → IsBytes bytes × SpellsBytes digits bytes word
+bytes_found : (digits : Digits) (word bytes : List ℕ) → bytes_of digits word ≡ Ok bytes →
+    IsBytes bytes × SpellsBytes digits bytes word
 unfolding bytes_of
 bytes_found digits word bytes h =
-    elim (bytes_test (bytes_eq word (codes "-")) (bytes_eq word [] || refuses digits word) (or_bad_hex (decode_of word)) bytes h) [
+    elim (bytes_test (bytes_eq word (codes "-")) (bytes_eq word [] || refuses digits word) (or_bad_hex (decode_of word)) bytes h)
+        [
       | inl none ↦ rw none.1 (no_bytes, dash digits word ((bytes_eq-Decides word (codes "-")).0 none.0))
       | inr read ↦
           let t = or_parts (bytes_eq word []) (refuses digits word) read.1 in
@@ -179,13 +185,15 @@ digits_again digits b bytes word h takes =
     (λ e. let zero = ap length ((bytes_eq-Decides word []).0 e) in omega (arith, zero)) in
     rw (no_dash, some, takes, h) refl
 
-bytes_again : (digits : Digits) (word bytes : List ℕ) → IsBytes bytes → SpellsBytes digits bytes word → bytes_of digits word ≡ Ok bytes
+bytes_again : (digits : Digits) (word bytes : List ℕ) → IsBytes bytes → SpellsBytes digits bytes word →
+    bytes_of digits word ≡ Ok bytes
 unfolding bytes_of
 bytes_again Either word [] fit h = rw h refl
 bytes_again Lower word [] fit h = rw h refl
 bytes_again Either word (b ∷ bytes) fit h = digits_again Either b bytes word h refl
 bytes_again Lower word (b ∷ bytes) fit h =
-    rw h (digits_again Lower b bytes (encode_lower (b ∷ bytes)) (decode_of-encode_lower (b ∷ bytes) fit) (encode_without _ (b ∷ bytes) refl refl))
+    rw h (digits_again Lower b bytes (encode_lower (b ∷ bytes)) (decode_of-encode_lower (b ∷ bytes) fit)
+        (encode_without _ (b ∷ bytes) refl refl))
 
 bytes_clear : (bytes : List ℕ) → list_any is_space (hex_word bytes) ≡ false
 bytes_clear [] = refl

@@ -37,7 +37,8 @@ in_range_ok least most (Some m) n h =
     let high = leb-true m most t.1 in
     (ap Some t.2, rw t.2 at low, rw t.2 at high)
 
-pub number_ok : (least most : ℕ) (word : List ℕ) (n : ℕ) → number_of least most word ≡ Ok n → (least ≤ n) × (n ≤ most) × (word ≡ decimal n)
+pub number_ok : (least most : ℕ) (word : List ℕ) (n : ℕ) → number_of least most word ≡ Ok n →
+    (least ≤ n) × (n ≤ most) × (word ≡ decimal n)
 unfolding number_of
 number_ok least most word n h =
     let r = in_range_ok least most (decimal_of word) n h in
@@ -61,7 +62,8 @@ number_law digits least most lt = record {
 
 below_ok : (count : ℕ) (o : Option ℕ) (n : ℕ) → below count o ≡ Ok n → (o ≡ Some n) × (n < count)
 below_ok count None n h = cc h
-below_ok count (Some m) n h = let t = below_test (nat_lt m count) m n h in let lt = ltb-true m count t.0 in (ap Some t.1, rw t.1 at lt)
+below_ok count (Some m) n h = let t = below_test (nat_lt m count) m n h in let lt = ltb-true m count t.0 in
+    (ap Some t.1, rw t.1 at lt)
   where
     below_test : (b : Bool) (m n : ℕ) → (if b then Ok m else Err BadName) ≡ Ok n → (b ≡ true) × (m ≡ n)
     below_test true m n h = (refl, cc h)
@@ -71,7 +73,8 @@ name_test : (b : Bool) (r : Result ℕ EventErr) (n : ℕ) → (if b then r else
 name_test true r n h = (refl, h)
 name_test false r n h = cc h
 
-pub name_ok : (letter count : ℕ) (word : List ℕ) (n : ℕ) → name_of letter count word ≡ Ok n → (n < count) × (word ≡ letter ∷ decimal n)
+pub name_ok : (letter count : ℕ) (word : List ℕ) (n : ℕ) → name_of letter count word ≡ Ok n →
+    (n < count) × (word ≡ letter ∷ decimal n)
 unfolding name_of
 name_ok letter count [] n h = cc h
 name_ok letter count (c ∷ digits) n h =
@@ -88,7 +91,8 @@ name_again letter count n lt few =
     let high : nat_lt n count ≡ true = lt-ltb n count lt in
     rw (same, decimal_of-decimal n few, high) refl
 
-pub name_law : (digits : Digits) (letter count : ℕ) → count ≤ 2 ^ 64 → is_space letter ≡ false → Law digits (name_of letter count) (Name letter count)
+pub name_law : (digits : Digits) (letter count : ℕ) → count ≤ 2 ^ 64 → is_space letter ≡ false →
+    Law digits (name_of letter count) (Name letter count)
 name_law digits letter count few letters = record {
   found = λ word n h. name_ok letter count word n h;
   again = λ word n fit is. rw is (name_again letter count n fit (omega (arith, fit, few)));
@@ -97,7 +101,8 @@ name_law digits letter count few letters = record {
 
 -- ---- positions
 
-rising_found : (least : ℕ) (parts : List (List ℕ)) (ps : List ℕ) → rising_of least parts ≡ Ok ps → Rising least ps × (parts ≡ map decimal ps)
+rising_found : (least : ℕ) (parts : List (List ℕ)) (ps : List ℕ) → rising_of least parts ≡ Ok ps →
+    Rising least ps × (parts ≡ map decimal ps)
 unfolding rising_of
 rising_found least [] ps h = let e = good_same [] ps h in rw (← e) (tt, refl)
 rising_found least (word ∷ parts) ps h =
@@ -106,7 +111,8 @@ rising_found least (word ∷ parts) ps h =
     let n = number_ok least 4294967295 word a.0 a.1 in
     let ih = rising_found (a.0 + 1) parts b.0 b.1 in
     let e = good_same (a.0 ∷ b.0) ps b.2 in
-    let whole : Rising least (a.0 ∷ b.0) × (word ∷ parts ≡ map decimal (a.0 ∷ b.0)) = ((n.0, omega (arith, n), ih.0), cc (n.2, ih.1)) in
+    let whole : Rising least (a.0 ∷ b.0) × (word ∷ parts ≡ map decimal (a.0 ∷ b.0)) =
+        ((n.0, omega (arith, n), ih.0), cc (n.2, ih.1)) in
     subst (λ (x : List ℕ). Rising least x × (word ∷ parts ≡ map decimal x)) e whole
 
 at_least_one : (ps : List ℕ) → Rising 0 ps → 0 < length (map decimal ps) → PositionsFit ps
@@ -124,7 +130,8 @@ positions_found word ps h =
 rising_again : (least : ℕ) (ps : List ℕ) → Rising least ps → rising_of least (map decimal ps) ≡ Ok ps
 unfolding rising_of
 rising_again least [] h = refl
-rising_again least (p ∷ ps) h = rw (number_again least 4294967295 p h.0 (omega arith) (omega arith), rising_again (p + 1) ps h.2) refl
+rising_again least (p ∷ ps) h =
+    rw (number_again least 4294967295 p h.0 (omega arith) (omega arith), rising_again (p + 1) ps h.2) refl
 
 no_comma : SparesDigits (λ b. b == 44)
 no_comma c low high = false_from_ne_true (c == 44) (λ t. let is = eqb-true c 44 t in omega arith)
@@ -146,7 +153,8 @@ any_append p (x ∷ xs) ys hx hy = let t = or_parts (p x) (list_any p xs) hx in 
 joined_clear : (p least : ℕ) (ps : List ℕ) → p < 2 ^ 32 → Rising least ps → list_any is_space (positions_word (p ∷ ps)) ≡ false
 joined_clear p least [] lt h = decimal_clear p (omega arith)
 joined_clear p least (q ∷ ps) lt h =
-    any_append is_space (decimal p) (44 ∷ positions_word (q ∷ ps)) (decimal_clear p (omega arith)) (joined_clear q (q + 1) ps h.1 h.2)
+    any_append is_space (decimal p) (44 ∷ positions_word (q ∷ ps)) (decimal_clear p (omega arith))
+        (joined_clear q (q + 1) ps h.1 h.2)
 
 positions_clear : (ps : List ℕ) → PositionsFit ps → list_any is_space (positions_word ps) ≡ false
 positions_clear [] h = absurd h

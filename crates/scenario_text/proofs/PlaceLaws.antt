@@ -48,7 +48,8 @@ file_law digits = name_law digits 102 64 (omega arith) refl
 
 -- ---- the server, or a name
 
-if_test : {A : Type 0} (b : Bool) (x y : A) (rest : Result A EventErr) → (if b then Ok x else rest) ≡ Ok y → ((b ≡ true) × (x ≡ y)) ⊎ (rest ≡ Ok y)
+if_test : {A : Type 0} (b : Bool) (x y : A) (rest : Result A EventErr) → (if b then Ok x else rest) ≡ Ok y →
+    ((b ≡ true) × (x ≡ y)) ⊎ (rest ≡ Ok y)
 if_test true x y rest h = inl (refl, cc h)
 if_test false x y rest h = inr h
 
@@ -78,21 +79,25 @@ server_law digits = record {
 }
 
 -- what a name gives that is made into another value
-named : {A : Type 0} (letter count : ℕ) (make : ℕ → A) (part : A → Part) (word : List ℕ) (x : A) → ((n : ℕ) → part (make n) ≡ Name letter count n)
-    → (digits : Digits) → (name_of letter count word >>= (λ n. Ok (make n))) ≡ Ok x → PartFits (part x) × SpellsPart (part x) digits word
+named : {A : Type 0} (letter count : ℕ) (make : ℕ → A) (part : A → Part) (word : List ℕ) (x : A) →
+    ((n : ℕ) → part (make n) ≡ Name letter count n)
+    → (digits : Digits) → (name_of letter count word >>= (λ n. Ok (make n))) ≡ Ok x →
+        PartFits (part x) × SpellsPart (part x) digits word
 named letter count make part word x is digits h =
     let a = bind_ok (name_of letter count word) _ x h in
     let n = name_ok letter count word a.0 a.1 in
     let whole : PartFits (part (make a.0)) × SpellsPart (part (make a.0)) digits word = rw (is a.0) (n.0, n.1) in
     subst (λ (y : _). PartFits (part y) × SpellsPart (part y) digits word) (good_same (make a.0) x a.2) whole
 
-server_says : {A : Type 0} (part : A → Part) (x y : A) (digits : Digits) (word : List ℕ) → part x ≡ server → (is_server word ≡ true) × (x ≡ y)
+server_says : {A : Type 0} (part : A → Part) (x y : A) (digits : Digits) (word : List ℕ) → part x ≡ server →
+    (is_server word ≡ true) × (x ≡ y)
     → PartFits (part y) × SpellsPart (part y) digits word
 server_says part x y digits word is s =
     let whole : PartFits (part x) × SpellsPart (part x) digits word = rw is (tt, s_is word s.0) in
     subst (λ (z : _). PartFits (part z) × SpellsPart (part z) digits word) s.1 whole
 
-sender_found : (digits : Digits) (word : List ℕ) (who : Sender) → sender_of word ≡ Ok who → PartFits (sender_part who) × SpellsPart (sender_part who) digits word
+sender_found : (digits : Digits) (word : List ℕ) (who : Sender) → sender_of word ≡ Ok who →
+    PartFits (sender_part who) × SpellsPart (sender_part who) digits word
 unfolding sender_of
 sender_found digits word who h =
     elim (if_test (is_server word) sender.Server who _ h) [
@@ -100,7 +105,8 @@ sender_found digits word who h =
       | inr name ↦ named 99 16 sender.Client sender_part word who (λ n. refl) digits name
     ]
 
-sender_again : (digits : Digits) (word : List ℕ) (who : Sender) → PartFits (sender_part who) → SpellsPart (sender_part who) digits word → sender_of word ≡ Ok who
+sender_again : (digits : Digits) (word : List ℕ) (who : Sender) → PartFits (sender_part who) →
+    SpellsPart (sender_part who) digits word → sender_of word ≡ Ok who
 unfolding sender_of
 sender_again digits word (sender.Client c) fits is =
     rw (is, no_s 99 (decimal c) (λ e. absurd (omega (arith, e))), name_again 99 16 c fits (omega (arith, fits))) refl
@@ -113,7 +119,8 @@ sender_clear sender.Server fits = refl
 pub sender_law : (digits : Digits) → Law digits sender_of sender_part
 sender_law digits = record { found = sender_found digits; again = sender_again digits; clear = sender_clear }
 
-machine_found : (digits : Digits) (word : List ℕ) (who : Machine) → machine_of word ≡ Ok who → PartFits (machine_part who) × SpellsPart (machine_part who) digits word
+machine_found : (digits : Digits) (word : List ℕ) (who : Machine) → machine_of word ≡ Ok who →
+    PartFits (machine_part who) × SpellsPart (machine_part who) digits word
 unfolding machine_of
 machine_found digits word who h =
     elim (if_test (is_server word) machine.Server who _ h) [
@@ -121,7 +128,8 @@ machine_found digits word who h =
       | inr name ↦ named 100 64 machine.Drive machine_part word who (λ n. refl) digits name
     ]
 
-machine_again : (digits : Digits) (word : List ℕ) (who : Machine) → PartFits (machine_part who) → SpellsPart (machine_part who) digits word → machine_of word ≡ Ok who
+machine_again : (digits : Digits) (word : List ℕ) (who : Machine) → PartFits (machine_part who) →
+    SpellsPart (machine_part who) digits word → machine_of word ≡ Ok who
 unfolding machine_of
 machine_again digits word (machine.Drive d) fits is =
     rw (is, no_s 100 (decimal d) (λ e. absurd (omega (arith, e))), name_again 100 64 d fits (omega (arith, fits))) refl
@@ -135,14 +143,16 @@ pub machine_law : (digits : Digits) → Law digits machine_of machine_part
 machine_law digits = record { found = machine_found digits; again = machine_again digits; clear = machine_clear }
 
 drive_or_client : (digits : Digits) (word : List ℕ) (who : Party) (r : Result ℕ EventErr) → drive_of word ≡ r
-    → drive_or r (client_of word >>= (λ c. Ok (party.Client c))) ≡ Ok who → PartFits (party_part who) × SpellsPart (party_part who) digits word
+    → drive_or r (client_of word >>= (λ c. Ok (party.Client c))) ≡ Ok who →
+        PartFits (party_part who) × SpellsPart (party_part who) digits word
 drive_or_client digits word who (Ok d) is h =
     let n = name_ok 100 64 word d is in
     let whole : PartFits (party_part (party.Drive d)) × SpellsPart (party_part (party.Drive d)) digits word = n in
     subst (λ (x : Party). PartFits (party_part x) × SpellsPart (party_part x) digits word) (good_same (party.Drive d) who h) whole
 drive_or_client digits word who (Err e) is h = named 99 16 party.Client party_part word who (λ n. refl) digits h
 
-party_found : (digits : Digits) (word : List ℕ) (who : Party) → party_of word ≡ Ok who → PartFits (party_part who) × SpellsPart (party_part who) digits word
+party_found : (digits : Digits) (word : List ℕ) (who : Party) → party_of word ≡ Ok who →
+    PartFits (party_part who) × SpellsPart (party_part who) digits word
 unfolding party_of
 party_found digits word who h =
     elim (if_test (is_server word) party.Server who _ h) [
@@ -154,7 +164,8 @@ no_drive : (c : ℕ) → drive_of (99 ∷ decimal c) ≡ Err BadName
 unfolding name_of
 no_drive c = refl
 
-party_again : (digits : Digits) (word : List ℕ) (who : Party) → PartFits (party_part who) → SpellsPart (party_part who) digits word → party_of word ≡ Ok who
+party_again : (digits : Digits) (word : List ℕ) (who : Party) → PartFits (party_part who) →
+    SpellsPart (party_part who) digits word → party_of word ≡ Ok who
 unfolding party_of
 party_again digits word (party.Drive d) fits is =
     rw (is, no_s 100 (decimal d) (λ e. absurd (omega (arith, e))), name_again 100 64 d fits (omega (arith, fits))) refl

@@ -72,15 +72,18 @@ lower_are (p ∷ ps) (word ∷ words) h = cc (lower_is p word h.0, lower_are ps 
 joined_again : (ps : List Part) (p : Part) (qs : List Part) → ps ≡ p ∷ qs → none_any is_space (map word_of ps) ≡ false
     → words_of (spaced (map word_of ps)) ≡ map word_of ps
 joined_again ps p qs is clear =
-    let c : none_any is_space (map word_of (p ∷ qs)) ≡ false = subst (λ (rs : List Part). none_any is_space (map word_of rs) ≡ false) is clear in
-    subst (λ (rs : List Part). words_of (spaced (map word_of rs)) ≡ map word_of rs) (sym is) (split_joined 32 (word_of p) (map word_of qs) c)
+    let c : none_any is_space (map word_of (p ∷ qs)) ≡ false =
+        subst (λ (rs : List Part). none_any is_space (map word_of rs) ≡ false) is clear in
+    subst (λ (rs : List Part). words_of (spaced (map word_of rs)) ≡ map word_of rs) (sym is)
+        (split_joined 32 (word_of p) (map word_of qs) c)
 
 -- the spelling with lower-case digits is a spelling
 pub event_text_spells : (e : Event) → Fits e → Spells e (event_text e)
 event_text_spells e fits =
     let f = first_part Either (event_by Either) event_parts (event_exact Either) e (event_path Either e) in
     let clear = line_clear Either (event_form Either) event_parts (event_exact Either) e (event_path Either e) fits in
-    subst (λ (ws : List (List ℕ)). SpellAll Either (event_parts e) ws) (sym (joined_again (event_parts e) f.0 f.1 f.2 clear)) (either_all (event_parts e) fits)
+    subst (λ (ws : List (List ℕ)). SpellAll Either (event_parts e) ws) (sym (joined_again (event_parts e) f.0 f.1 f.2 clear))
+        (either_all (event_parts e) fits)
 
 echoed : (ps : List Part) (p : Part) (qs : List Part) → ps ≡ p ∷ qs
     → codes "=" ++ behind 32 (map word_of ps) ≡ codes "= " ++ spaced (map word_of ps)
@@ -98,7 +101,8 @@ event_echoes e text h = λ fits.
 pub text_is : (l : Line) (text : List ℕ) → text ≡ head_word l ++ behind 32 (map word_of (tail_parts l)) → text ≡ line_text l
 text_is l text h = h ∙ sym (joined_is 32 (head_word l) (map word_of (tail_parts l)))
 
-pub line_spells : (l : Line) (text : List ℕ) → text ≡ head_word l ++ behind 32 (map word_of (tail_parts l)) → SpellsItsEvent l text
+pub line_spells : (l : Line) (text : List ℕ) → text ≡ head_word l ++ behind 32 (map word_of (tail_parts l)) →
+    SpellsItsEvent l text
 line_spells (line.Event e) text h = event_echoes e text h
 line_spells l text h = tt
 
@@ -122,11 +126,13 @@ pub found : (text : List ℕ) (r : Result Line EventErr) → GivesOrMemory (read
 found text (Ok l) h = text_found text l (ok_is_read _ l h)
 found text (Err e) h = tt
 
-only_of : (expected : Result Line EventErr) (r : Result Line EventErr) (l : Line) → GivesOrMemory expected r → expected ≡ Ok l → GivesLine l r
+only_of : (expected : Result Line EventErr) (r : Result Line EventErr) (l : Line) → GivesOrMemory expected r → expected ≡ Ok l →
+    GivesLine l r
 only_of expected (Ok x) l h is = let read = ok_is_read expected x h in cc (read, is)
 only_of expected (Err w) l h is = subst (λ (v : EventErr). GivesLine l (Err v)) (sym (err_is_memory expected w l h is)) tt
 
-pub only : (text : List ℕ) (r : Result Line EventErr) → GivesOrMemory (reads_line line_form (words_of text)) r → (l : Line) → LineFits l → text ≡ line_text l
+pub only : (text : List ℕ) (r : Result Line EventErr) → GivesOrMemory (reads_line line_form (words_of text)) r → (l : Line) →
+    LineFits l → text ≡ line_text l
     → GivesLine l r
 only text r h l fits is = only_of (reads_line line_form (words_of text)) r l h (text_again text l fits is)
 
@@ -138,6 +144,7 @@ memory_or : (text : List ℕ) (w : EventErr) → GivesOrMemory (reads_line line_
 memory_or text w (inl none) = let is : w ≡ Memory = cc none in subst (λ (v : EventErr). IsLineRefusal text v) (sym is) tt
 memory_or text w (inr h) = refusal text w (sym h)
 
-pub refused : (text : List ℕ) (r : Result Line EventErr) → GivesOrMemory (reads_line line_form (words_of text)) r → IfErr r (IsLineRefusal text)
+pub refused : (text : List ℕ) (r : Result Line EventErr) → GivesOrMemory (reads_line line_form (words_of text)) r →
+    IfErr r (IsLineRefusal text)
 refused text (Ok l) h = tt
 refused text (Err w) h = memory_or text w h

@@ -55,12 +55,14 @@ table_at p [] none h d = none
 table_at p (b ∷ t) none h zero = (or_parts (p b) (list_any p t) h).0
 table_at p (b ∷ t) none h (suc d) = table_at p t none (or_parts (p b) (list_any p t) h).1 d
 
-encoded_without : (p : ℕ → Bool) (t bytes : List ℕ) → p 0 ≡ false → list_any p t ≡ false → list_any p (encode_with t bytes) ≡ false
+encoded_without : (p : ℕ → Bool) (t bytes : List ℕ) → p 0 ≡ false → list_any p t ≡ false →
+    list_any p (encode_with t bytes) ≡ false
 unfolding encode_with
 encoded_without p t [] none h = refl
 encoded_without p t (b ∷ bytes) none h =
     or_from (p (slice_index t (b / 16))) _ (table_at p t none h (b / 16))
     (or_from (p (slice_index t (b % 16))) _ (table_at p t none h (b % 16)) (encoded_without p t bytes none h))
 
-pub encode_without : (p : ℕ → Bool) (bytes : List ℕ) → p 0 ≡ false → list_any p lower_digits ≡ false → list_any p (encode_lower bytes) ≡ false
+pub encode_without : (p : ℕ → Bool) (bytes : List ℕ) → p 0 ≡ false → list_any p lower_digits ≡ false →
+    list_any p (encode_lower bytes) ≡ false
 encode_without p bytes none h = encoded_without p lower_digits bytes none h

@@ -57,7 +57,8 @@ served_over s t new now inbox left piece h took rooms same fewer times ends stat
   limit = omega (arith, h.5);
   state = state;
   ends = record {
-    told = subst (λ (p : List ℕ). WasTaken t.ends.told now.told p) (nothing_taken piece inbox.room (ap (λ (i : Coming). length piece + i.room) (sym same) ∙ rooms)) took;
+    told = subst (λ (p : List ℕ). WasTaken t.ends.told now.told p)
+        (nothing_taken piece inbox.room (ap (λ (i : Coming). length piece + i.room) (sym same) ∙ rooms)) took;
     faults = fewer;
     times = times;
   };
@@ -71,5 +72,6 @@ served_over s t new now inbox left piece h took rooms same fewer times ends stat
     why (inr (inr (inr e))) = inr (inr (inr e))
 
 pub served_one : (n : ℕ) (old s new : Server) (before between accepted now : Ends)
-    → ServesAll n old s before between → AcceptsOne between accepted → ServesConnection s new accepted now → ServesAll (n + 1) old new before now
+    → ServesAll n old s before between → AcceptsOne between accepted → ServesConnection s new accepted now →
+        ServesAll (n + 1) old new before now
 served_one n old s new before between accepted now all accepts serves = rw add-one (s, between, all, accepted, accepts, serves)

@@ -20,7 +20,8 @@ use Rattle.server_command.specs.Steps as steps
 
 -- what is known of it
 abbrev pub CoreCarries : (done cut_off : List ServerStep) → (old new : Server) → Type 0
-CoreCarries done cut_off old new = Carries (λ (s : Server). s) (λ s. false) (λ s. 0) (λ s. ⊥) (λ s. 0) (λ s t c. ⊥) (λ s c. ⊥) done cut_off old new
+CoreCarries done cut_off old new =
+    Carries (λ (s : Server). s) (λ s. false) (λ s. 0) (λ s. ⊥) (λ s. 0) (λ s t c. ⊥) (λ s c. ⊥) done cut_off old new
 
 abbrev pub CoreWent : (done : List ServerStep) → (old new : Server) → Type 0
 CoreWent done old new = WentOn (λ (s : Server). s) (λ s. false) (λ s. 0) (λ s. ⊥) (λ s. 0) (λ s t c. ⊥) (λ s c. ⊥) done old new
@@ -52,7 +53,8 @@ core_broke x failed old new never = record { carries = carried [] (x ∷ []) old
 pub core_made : (file : ℕ) (raw : RawMap) (tag : ℕ) (chosen : List ℕ) (old new : Server) (s : RulesStep)
     → create_file old file raw tag false chosen ≡ Ok s → new ≡ s.state → CoreWent (steps.Makes file raw tag chosen ∷ []) old new
 core_made file raw tag chosen old new s is e =
-    core_went (steps.Makes file raw tag chosen ∷ []) old new (e ∙ sym (ap (λ (r : Result RulesStep Refusal). (unless_made old r).state) is))
+    core_went (steps.Makes file raw tag chosen ∷ []) old new
+        (e ∙ sym (ap (λ (r : Result RulesStep Refusal). (unless_made old r).state) is))
 
 -- it wasn't
 pub core_not : (file : ℕ) (raw : RawMap) (tag : ℕ) (old new : Server) (e : FileErr) (told : MakeErr)
@@ -62,7 +64,8 @@ pub core_not : (file : ℕ) (raw : RawMap) (tag : ℕ) (old new : Server) (e : F
 core_not file raw tag old new e told by memory refused = go e memory refused by
   where
     not : (e : FileErr) → ((r : Refusal) → e ≡ cause_of r → told ≡ Refused r)
-        → (r : Refusal) × (refusal old file raw false ≡ Some r) × (e ≡ cause_of r) × (new ≡ old) → CoreMakesNot file raw tag old new told
+        → (r : Refusal) × (refusal old file raw false ≡ Some r) × (e ≡ cause_of r) × (new ≡ old) →
+            CoreMakesNot file raw tag old new told
     not e by h = subst (λ (x : MakeErr). CoreMakesNot file raw tag old new x) (sym (by h.0 h.2)) (h.1, core_went [] old new h.3)
 
     go : (e : FileErr) → (e ≡ cause.Memory → told ≡ Memory)

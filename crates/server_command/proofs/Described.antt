@@ -1,11 +1,9 @@
 -- What a text that a server may read says of its drives and files.
 use Rattle.std.proofs.Common.{◌≡◌, ◌∙◌, ap, refl, subst, sym, arith}
 use Rattle.std.proofs.lemmas.Bool.Decides.{nat_tests}
-use Rattle.std.specs.Prelude.{ℕ, suc, codes, Bool, true, false, not, ◌-◌, ◌≤◌, ◌||◌, ◌&&◌, nat_le, if◌then◌else◌, List, [], ◌∷◌, length, map, Option, Some, None, is_some, is_none, Ok, Err}
+use Rattle.std.specs.Prelude.{ℕ, suc, codes, Bool, true, false, ◌-◌, ◌≤◌, ◌||◌, ◌&&◌, nat_le, if◌then◌else◌, List, [], ◌∷◌, length, map, Option, Some, None, is_some, is_none, Ok, Err}
 use Rattle.std.specs.List.{list_any}
-use Rattle.std.specs.Result.{result_ok}
 use Rattle.std.proofs.lemmas.Bool.{or_parts}
-use Rattle.hex.specs.Hex.{decode_sized}
 use Rattle.toml.specs.Data.{Members}
 use Rattle.data_map.specs.Check.{HasAlgorithm}
 use Rattle.data_map.specs.declared.check.RawMap.{RawMap}
@@ -17,10 +15,11 @@ use Rattle.cluster_text.specs.declared.cluster.Reader.TheVariants.{Server}
 use Rattle.cluster_text.specs.declared.errors.ClusterErr.TheVariants.{Refused}
 use Rattle.cluster_text.specs.declared.errors.ClusterKind.TheVariants.{Unknown, Missing, WrongType, Repeated}
 use Rattle.cluster_text.specs.declared.fields.TheConstants.{MAX_DRIVES, MAX_FILES}
-use Rattle.cluster_text.specs.Fields.{◌>>=◌, address_at, drive_in, file_in, format_in, in_range, is_good_map, key_in, key_of, map_in, natural_of, number_at}
+use Rattle.cluster_text.specs.Fields.{◌>>=◌, address_at, drive_in, file_in, format_in, in_range, is_good_map, key_in, map_in, natural_of, number_at}
 use Rattle.cluster_text.specs.Document.{all_in, cluster_in, cluster_of, document_of, has_good_counts, judged, judged_document, repeats, unrepeated}
 use Rattle.cluster_text.specs.Shape.{has_unknown, is_wrong, is_wrong_drive, lacks, lacks_drive_key}
 use Rattle.cluster_text.specs.Tables.{has, integer_at, tables_at, text_at}
+use Rattle.cluster_text.proofs.Keys.{bound, key_there, has_text}
 
 -- ---- what it says
 
@@ -42,34 +41,22 @@ pub record IsSound (c : Cluster) : Type 0 where
 
 -- ---- tests and options
 
-bound : {A B : Type 0} (o : Option A) (f : A → Option B) (y : B) → (o >>= f) ≡ Some y → (x : A) × (o ≡ Some x) × (f x ≡ Some y)
-bound (Some x) f y h = (x, refl, h)
-bound None f y h = cc h
-
 in_range_is : (least most n m : ℕ) → in_range least most n ≡ Some m → (least ≤ m) × (m ≤ most)
 in_range_is least most n m h = go (nat_le least n) (nat_le n most) refl refl h
   where
-    go : (a b : Bool) → nat_le least n ≡ a → nat_le n most ≡ b → (if a && b then Some n else None) ≡ Some m → (least ≤ m) × (m ≤ most)
+    go : (a b : Bool) → nat_le least n ≡ a → nat_le n most ≡ b → (if a && b then Some n else None) ≡ Some m →
+        (least ≤ m) × (m ≤ most)
     go true true l u e = let same : n ≡ m = cc e in (grind (arith, nat_tests, l, same), grind (arith, nat_tests, u, same))
     go true false l u e = cc e
     go false b l u e = cc e
 
 -- the number that a table has is in its range
-number_fits : (key : List ℕ) (least most : ℕ) (t : Members) (n : ℕ) → number_at key least most t ≡ Some n → (least ≤ n) × (n ≤ most)
+number_fits : (key : List ℕ) (least most : ℕ) (t : Members) (n : ℕ) → number_at key least most t ≡ Some n →
+    (least ≤ n) × (n ≤ most)
 number_fits key least most t n h =
     let a = bound (integer_at key t >>= natural_of) (in_range least most) n h in in_range_is least most a.0 n a.2
 
 -- ---- one table
-
-key_there : (digits : Option (List ℕ)) (key : Option (List ℕ)) → is_none digits ≡ false → key_of digits ≡ Some key → is_some key ≡ true
-key_there None key there h = cc there
-key_there (Some digits) key there h =
-    let a = bound (result_ok (decode_sized digits 20)) (λ k. Some (Some k)) key h in
-    let same : Some a.0 ≡ key = cc a.2 in rw (← same) refl
-
-has_text : (there none : Bool) → not there ≡ false → (there && none) ≡ false → none ≡ false
-has_text true none there h = h
-has_text false none there h = cc there
 
 not_above : (n : ℕ) → n ≤ 63 → nat_le 64 n ≡ false
 not_above n h = grind (arith, nat_tests, h)
@@ -117,14 +104,16 @@ file_row n t f h =
     map_or m (Some x) = x.map
 
     go : (number : ℕ) (m : RawMap) (good : Bool) → is_good_map n m ≡ good → HasAlgorithm m
-        → (if good then Some (record { number = number; map = m }) else None) ≡ Some f → (is_good_map n f.map ≡ true) × HasAlgorithm f.map
+        → (if good then Some (record { number = number; map = m }) else None) ≡ Some f →
+            (is_good_map n f.map ≡ true) × HasAlgorithm f.map
     go number m true is algorithm e =
         let same : m ≡ f.map = ap (λ (o : Option ClusterFile). map_or m o) e in rw (← same) (is, algorithm)
     go number m false is algorithm e = cc e
 
 -- ---- all tables
 
-knowable : (ts : List Members) (ds : List ClusterDrive) → all_in drive_in ts ≡ Some ds → list_any (lacks_drive_key true) ts ≡ false
+knowable : (ts : List Members) (ds : List ClusterDrive) → all_in drive_in ts ≡ Some ds →
+    list_any (lacks_drive_key true) ts ≡ false
     → list_any is_wrong_drive ts ≡ false → (AreKnowable ds) × (length ds ≡ length ts)
 knowable [] ds h lack wrong = let same : [] ≡ ds = cc h in rw (← same) (tt, refl)
 knowable (t ∷ ts) ds h lack wrong =
@@ -148,11 +137,13 @@ makeable n (t ∷ ts) fs h =
 
 -- ---- a text that is judged good
 
-from_document : (o : Option Members) (c : Cluster) → judged_document Server o ≡ Ok c → (top : Members) × (judged Server top ≡ Ok c)
+from_document : (o : Option Members) (c : Cluster) → judged_document Server o ≡ Ok c →
+    (top : Members) × (judged Server top ≡ Ok c)
 from_document None c h = cc h
 from_document (Some top) c h = (top, h)
 
-from_unrepeated : (a b : Bool) (x c : Cluster) → (if a || b then Err (Refused Repeated) else Ok x) ≡ Ok c → (a ≡ false) × (b ≡ false) × (x ≡ c)
+from_unrepeated : (a b : Bool) (x c : Cluster) → (if a || b then Err (Refused Repeated) else Ok x) ≡ Ok c →
+    (a ≡ false) × (b ≡ false) × (x ≡ c)
 from_unrepeated true b x c h = cc h
 from_unrepeated false true x c h = cc h
 from_unrepeated false false x c h = (refl, refl, cc h)
@@ -162,7 +153,8 @@ abbrev Unrepeated : Cluster → Type 0
 Unrepeated c = (repeats (map (λ d. d.number) c.drives) ≡ false) × (repeats (map (λ f. f.number) c.files) ≡ false)
 
 from_tests : (unknown lacking wrong : Bool) (o : Option Cluster) (c : Cluster)
-    → (if unknown then Err (Refused Unknown) else if lacking then Err (Refused Missing) else if wrong then Err (Refused WrongType) else unrepeated o) ≡ Ok c
+    → (if unknown then Err (Refused Unknown) else if lacking then Err (Refused Missing) else if wrong then Err
+        (Refused WrongType) else unrepeated o) ≡ Ok c
     → (lacking ≡ false) × (wrong ≡ false) × (o ≡ Some c) × Unrepeated c
 from_tests true lacking wrong o c h = cc h
 from_tests false true wrong o c h = cc h
@@ -177,10 +169,14 @@ parts_of : (top : Members) (ds fs : List Members) (c : Cluster) → cluster_in t
     → (all_in drive_in ds ≡ Some c.drives) × (all_in (file_in (length ds)) fs ≡ Some c.files)
 unfolding cluster_in
 parts_of top ds fs c h =
-    go (has_good_counts ds fs) (address_at (codes "server") top) (format_in top) (all_in drive_in ds) (all_in (file_in (length ds)) fs) h
+    go (has_good_counts ds fs) (address_at (codes "server") top) (format_in top) (all_in drive_in ds)
+        (all_in (file_in (length ds)) fs) h
   where
-    go : (good : Bool) (server : Option (List ℕ)) (format : Option ℕ) (drives : Option (List ClusterDrive)) (files : Option (List ClusterFile))
-        → (if good then (server >>= (λ s. format >>= (λ f. drives >>= (λ d. files >>= (λ x. Some (record { server = s; format = f; drives = d; files = x }))))))
+    go : (good : Bool) (server : Option (List ℕ)) (format : Option ℕ) (drives : Option (List ClusterDrive))
+        (files : Option (List ClusterFile))
+        → (if good then (server >>=
+            (λ s. format >>=
+            (λ f. drives >>= (λ d. files >>= (λ x. Some (record { server = s; format = f; drives = d; files = x }))))))
         else None) ≡ Some c → (drives ≡ Some c.drives) × (files ≡ Some c.files)
     go false server format drives files e = cc e
     go true None format drives files e = cc e

@@ -1,9 +1,8 @@
 -- Errors of a disk under other names.
 use Rattle.std.proofs.Common.{◌≡◌, refl}
-use Rattle.server_command.specs.ServerStops.{serve_err_of, stop_of_serving, stop_of_step}
+use Rattle.server_command.specs.ServerStops.{serve_err_of, stop_of_step}
 use Rattle.server_command.specs.declared.metadata_server.StepErr.{StepErr}
 use Rattle.server_command.specs.declared.metadata_server.StepErr.TheVariants as step
-use Rattle.server_command.specs.declared.serve_err.ServerServeErr.{ServerServeErr}
 use Rattle.server_command.specs.declared.serve_err.ServerServeErr.TheVariants as serving
 use Rattle.server_command.specs.declared.server_stop.ServerStop.TheVariants.{DiskFault}
 
@@ -14,8 +13,3 @@ serve_fault step.Memory is = absurd (cc is)
 pub step_fault : (e : StepErr) → stop_of_step e ≡ DiskFault → e ≡ step.DiskFault
 step_fault step.DiskFault is = refl
 step_fault step.Memory is = absurd (cc is)
-
-pub serving_fault : (e : ServerServeErr) → stop_of_serving e ≡ DiskFault → e ≡ serving.DiskFault
-serving_fault serving.LinkFault is = absurd (cc is)
-serving_fault serving.DiskFault is = refl
-serving_fault serving.Memory is = absurd (cc is)

@@ -27,14 +27,16 @@ use Rattle.server_command.specs.Files.{Begins, Makes, MakesFile, MakesTo}
 
 -- ---- the list of files
 
-none_behind : (h : File) (hs : List File) (n : ℕ) → file_at (h ∷ hs) n ≡ None → ((h.kept.number == n) ≡ false) × (file_at hs n ≡ None)
+none_behind : (h : File) (hs : List File) (n : ℕ) → file_at (h ∷ hs) n ≡ None →
+    ((h.kept.number == n) ≡ false) × (file_at hs n ≡ None)
 unfolding file_at
 none_behind h hs n e = elim (cases_Bool (h.kept.number == n)) [
   | inl t ↦ absurd (cc (rw t at e))
   | inr z ↦ (z, rw z at e)
 ]
 
-put_none : (fs : List File) (m : ℕ) (f : File) (n : ℕ) → f.kept.number ≡ m → file_at fs n ≡ None → file_at (put_file fs m f) n ≡ None
+put_none : (fs : List File) (m : ℕ) (f : File) (n : ℕ) → f.kept.number ≡ m → file_at fs n ≡ None →
+    file_at (put_file fs m f) n ≡ None
 unfolding file_at put_file
 put_none [] m f n k e = refl
 put_none (h ∷ hs) m f n k e =
@@ -43,7 +45,8 @@ put_none (h ∷ hs) m f n k e =
       | inr z ↦ grind (arith, nat_tests, z, b.0, put_none hs m f n k b.1)
     ]
 
-add_none : (fs : List File) (f : File) (n : ℕ) → (f.kept.number == n) ≡ false → file_at fs n ≡ None → file_at (add_file fs f) n ≡ None
+add_none : (fs : List File) (f : File) (n : ℕ) → (f.kept.number == n) ≡ false → file_at fs n ≡ None →
+    file_at (add_file fs f) n ≡ None
 unfolding file_at add_file
 add_none [] f n k e = rw k refl
 add_none (h ∷ hs) f n k e =
@@ -69,13 +72,15 @@ heard_keeps : (s : Server) (o : Option Going) → Keeps s (by_heard s o).state
 heard_keeps s None = same_keeps s s refl
 heard_keeps s (Some g) = record { drives = refl; none = λ n h. put_none s.files g.file.kept.number g.file n refl h }
 
-handled_keeps : (s : Server) (now : ℕ) (chosen : List ℕ) (drive : ℕ) (m : Message) → Keeps s (handled s now chosen (Drive drive) m).state
+handled_keeps : (s : Server) (now : ℕ) (chosen : List ℕ) (drive : ℕ) (m : Message) →
+    Keeps s (handled s now chosen (Drive drive) m).state
 unfolding on_drive_reply
 handled_keeps s now chosen drive (Asks q) = same_keeps s s refl
 handled_keeps s now chosen drive (Replies r) = heard_keeps s (heard_at s chosen drive r s.files)
 handled_keeps s now chosen drive (Orders o) = same_keeps s s refl
 
-message_keeps : (s : Server) (now : ℕ) (chosen : List ℕ) (drive : ℕ) (o : Option Message) → Keeps s (on_message_in s now chosen (Drive drive) o).state
+message_keeps : (s : Server) (now : ℕ) (chosen : List ℕ) (drive : ℕ) (o : Option Message) →
+    Keeps s (on_message_in s now chosen (Drive drive) o).state
 unfolding on_message
 message_keeps s now chosen drive None = same_keeps s s refl
 message_keeps s now chosen drive (Some m) = elim (cases_Bool (counters_have_room s)) [
@@ -88,7 +93,8 @@ message_keeps s now chosen drive (Some m) = elim (cases_Bool (counters_have_room
 hears_keeps : (drive : ℕ) (came : Option (List ℕ)) (s t : Serving) → Hears drive came s t → Keeps s.server t.server
 hears_keeps drive None s t e = same_keeps s.server t.server (ap (λ (x : Serving). x.server) e)
 hears_keeps drive (Some bytes) s t h =
-    subst (λ (x : Server). Keeps s.server x) (sym h.server) (message_keeps s.server h.time h.chosen drive (message_in (Drive drive) bytes))
+    subst (λ (x : Server). Keeps s.server x) (sym h.server)
+        (message_keeps s.server h.time h.chosen drive (message_in (Drive drive) bytes))
 
 to_keeps : (to : Node) (message : List ℕ) (s t : Serving) → MakesTo to message s t → Keeps s.server t.server
 to_keeps (Drive d) message s t h = hears_keeps d (h.0).came (record s { ends = (h.0).between }) t (h.0).hears
@@ -102,7 +108,8 @@ turn_keeps (m ∷ ms) s t h = then_keeps s.server (h.0).server t.server (to_keep
 rounds_keep : (rounds : ℕ) (s t : Serving) → Rounds Makes rounds s t → Keeps s.server t.server
 rounds_keep zero s t e = same_keeps s.server t.server (ap (λ (x : Serving). x.server) e)
 rounds_keep (suc n) s t h =
-    then_keeps s.server (h.0).server t.server (rounds_keep n s h.0 h.1) (turn_keeps (h.0).waiting (record (h.0) { waiting = [] }) t h.2)
+    then_keeps s.server (h.0).server t.server (rounds_keep n s h.0 h.1)
+        (turn_keeps (h.0).waiting (record (h.0) { waiting = [] }) t h.2)
 
 -- ---- a file
 
@@ -119,19 +126,22 @@ makes_keeps : (s : Server) (f : File) → KeepsBut f.kept.number s (makes_file s
 unfolding making
 makes_keeps s f = record {
   drives = refl;
-  none = λ n z h. put_none (add_file s.files f) f.kept.number (making (at_file (with_file s f) [] f)).file n (making_number _ (at_file (with_file s f) [] f)) (add_none s.files f n z h);
+  none = λ n z h. put_none (add_file s.files f) f.kept.number (making (at_file (with_file s f) [] f)).file n
+      (making_number _ (at_file (with_file s f) [] f)) (add_none s.files f n z h);
 }
 
 unrefused : (o : Option Refusal) (made step : Step) → unless_refused o made ≡ Ok step → made ≡ step
 unrefused None made step e = cc e
 unrefused (Some r) made step e = absurd (cc e)
 
-created_keeps : (s : Server) (number : ℕ) (map : RawMap) (tag : ℕ) (chosen : List ℕ) (step : Step) → create_file s number map tag false chosen ≡ Ok step
+created_keeps : (s : Server) (number : ℕ) (map : RawMap) (tag : ℕ) (chosen : List ℕ) (step : Step) →
+    create_file s number map tag false chosen ≡ Ok step
     → KeepsBut number s step.state
 unfolding create_file
 created_keeps s number map tag chosen step e =
     let f : File = unmade s number map tag false (places s.drives map.comps chosen) in
-    subst (λ (x : Step). KeepsBut number s x.state) (unrefused (refusal s number map false) (makes_file s f) step e) (makes_keeps s f)
+    subst (λ (x : Step). KeepsBut number s x.state) (unrefused (refusal s number map false) (makes_file s f) step e)
+        (makes_keeps s f)
 
 file_keeps : (file : ClusterFile) (s t : Serving) → MakesFile file s t → KeepsBut file.number s.server t.server
 file_keeps file s t h =

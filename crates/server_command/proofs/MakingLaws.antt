@@ -15,7 +15,7 @@ use Rattle.server_requests.specs.declared.outgoing.Sent.{Sent}
 use Rattle.server_command.specs.Messages.{Handles, InTurn, Round, Rounds, Serving, UntilNone, serving}
 use Rattle.server_command.proofs.WorkLaws.{Grows, measure, round_less, turn_grows, works_grows}
 use Rattle.server_command.specs.Faults.{fault_line, held_line, held_object}
-use Rattle.server_command.specs.Files.{Begins, Loses, LosesAll, LosesDrive, LosesFile, LosesFiles, LosesIn, Makes, MakesFile, MakesTo, RefusesFile, RefusesFiles, StopsAt, StopsBy}
+use Rattle.server_command.specs.Files.{Loses, LosesAll, LosesDrive, LosesFile, LosesFiles, LosesIn, Makes, MakesFile, MakesTo, RefusesFile, RefusesFiles, StopsAt, StopsBy}
 
 -- ---- where it stops
 
@@ -33,7 +33,8 @@ split_got [] i x e = absurd (cc e)
 split_got {A} (y ∷ xs) zero x e = ap (λ (z : A). z ∷ xs) (cc e)
 split_got {A} (y ∷ xs) (suc i) x e = ap (λ (zs : List A). y ∷ zs) (split_got xs i x e)
 
-pub stops_at : {A : Type 0} (Does : A → Serving → Serving → Type 0) (Stops : A → Serving → Type 0) (xs : List A) (i : ℕ) (x : A) (s u : Serving)
+pub stops_at : {A : Type 0} (Does : A → Serving → Serving → Type 0) (Stops : A → Serving → Type 0) (xs : List A) (i : ℕ) (x : A)
+    (s u : Serving)
     → slice_get xs i ≡ Some x → InTurn Does (take i xs) s u → Stops x u → StopsAt Does Stops xs s
 stops_at Does Stops xs i x s u e does stops = record {
   done = take i xs;
@@ -49,17 +50,21 @@ stops_at Does Stops xs i x s u e does stops = record {
 
 -- a record came for it that isn't Exists
 pub drive_makes : (drive : ℕ) (message reply : List ℕ) (s t : Serving) (between : Ends)
-    → Answered (Drive drive) message s.ends.told between.told s.ends.faults between.faults (Some reply) → between.times ≡ s.ends.times
-    → Handles (Drive drive) reply (record s { ends = between }) t → held_object message reply ≡ None → MakesTo (Drive drive) message s t
+    → Answered (Drive drive) message s.ends.told between.told s.ends.faults between.faults (Some reply) →
+        between.times ≡ s.ends.times
+    → Handles (Drive drive) reply (record s { ends = between }) t → held_object message reply ≡ None →
+        MakesTo (Drive drive) message s t
 drive_makes drive message reply s t between answered times hears none = (
   record { came = Some reply; between = between; answered = answered; times = times; hears = hears },
   ap (λ (o : Option ℕ). option_map (held_line drive) o) none,
 )
 
 -- none came, or one that is, and a note tells which
-pub drive_loses : (drive : ℕ) (message line : List ℕ) (came : Option (List ℕ)) (s : Serving) (told now : Option Traffic) (faults later : Faults)
+pub drive_loses : (drive : ℕ) (message line : List ℕ) (came : Option (List ℕ)) (s : Serving) (told now : Option Traffic)
+    (faults later : Faults)
     → Answered (Drive drive) message s.ends.told told s.ends.faults faults came → fault_line drive message came ≡ Some line
-    → now ≡ after_notes (line ∷ []) told → later ≡ faults → LosesDrive drive message s (record s { ends = ends_of now later s.ends.times })
+    → now ≡ after_notes (line ∷ []) told → later ≡ faults →
+        LosesDrive drive message s (record s { ends = ends_of now later s.ends.times })
 drive_loses drive message line came s told now faults later answered fault tells same = record {
   came = came;
   between = ends_of told faults s.ends.times;
@@ -81,14 +86,17 @@ to_grows (Client c) message s t h = works_grows None (record { to = Client c; by
 makes_grows : (m : Sent) (s t : Serving) → Makes m s t → Grows s t
 makes_grows m s t h = to_grows m.to m.bytes s t h
 
-pub makes_end : (s t : Serving) → 0 < length s.waiting → Round Makes s t → measure t.server.next_nonce t.waiting < measure s.server.next_nonce s.waiting
+pub makes_end : (s t : Serving) → 0 < length s.waiting → Round Makes s t →
+    measure t.server.next_nonce t.waiting < measure s.server.next_nonce s.waiting
 makes_end s t some r =
-    round_less (record s { waiting = [] }) t s.waiting refl some (turn_grows Makes makes_grows s.waiting (record s { waiting = [] }) t r)
+    round_less (record s { waiting = [] }) t s.waiting refl some
+        (turn_grows Makes makes_grows s.waiting (record s { waiting = [] }) t r)
 
 loses_from : (u t : Serving) (ms rest : List Sent) → ms ≡ u.waiting → rest ≡ [] → LosesIn ms (record u { waiting = rest }) t
     → LosesIn u.waiting (record u { waiting = [] }) t
 loses_from u t ms rest e f h =
-    subst (λ (ns : List Sent). LosesIn ns (record u { waiting = [] }) t) e (subst (λ (ns : List Sent). LosesIn ms (record u { waiting = ns }) t) f h)
+    subst (λ (ns : List Sent). LosesIn ns (record u { waiting = [] }) t) e
+        (subst (λ (ns : List Sent). LosesIn ms (record u { waiting = ns }) t) f h)
 
 pub all_made : (rounds : ℕ) (s : Serving) (server : Server) (waiting : List Sent) (ends : Ends)
     → Rounds Makes rounds s (serving server waiting true ends) → waiting ≡ [] → UntilNone Makes s (serving server [] true ends)
@@ -97,25 +105,24 @@ all_made rounds s server waiting ends h e =
 
 -- ---- why it stopped
 
-pub round_stops : (ms : List Sent) (i : ℕ) (m : Sent) (s u t : Serving) (stop : ServerStop) → slice_get ms i ≡ Some m → InTurn Makes (take i ms) s u
+pub round_stops : (ms : List Sent) (i : ℕ) (m : Sent) (s u t : Serving) (stop : ServerStop) → slice_get ms i ≡ Some m →
+    InTurn Makes (take i ms) s u
     → StopsBy (Loses m u t) ⊥ stop → StopsBy (LosesIn ms s t) ⊥ stop
 round_stops ms i m s u t stop e made h =
     stops_by (Loses m u t) (LosesIn ms s t) ⊥ ⊥ (λ l. stops_at Makes (λ n v. Loses n v t) ms i m s u e made l) (λ x. x) stop h
 
-pub all_stops : (rounds : ℕ) (s u : Serving) (waiting ms rest : List Sent) (server : Server) (ends : Ends) (stop : ServerStop) → Rounds Makes rounds s u
+pub all_stops : (rounds : ℕ) (s u : Serving) (waiting ms rest : List Sent) (server : Server) (ends : Ends) (stop : ServerStop) →
+    Rounds Makes rounds s u
     → ms ≡ u.waiting → rest ≡ [] → StopsBy (LosesIn ms (record u { waiting = rest }) (serving server waiting true ends)) ⊥ stop
     → StopsBy (LosesAll s server ends) ⊥ stop
 all_stops rounds s u waiting ms rest server ends stop made e f h =
     stops_by (LosesIn ms (record u { waiting = rest }) (serving server waiting true ends)) (LosesAll s server ends) ⊥ ⊥
     (λ l. (rounds, u, made, waiting, loses_from u (serving server waiting true ends) ms rest e f l)) (λ x. x) stop h
 
-pub file_stops : (file : ClusterFile) (s u : Serving) (server : Server) (ends : Ends) (stop : ServerStop) → Begins file s u
-    → StopsBy (LosesAll u server ends) ⊥ stop → StopsBy (LosesFile file s server ends) (RefusesFile file s.server) stop
-file_stops file s u server ends stop begins h =
-    stops_by (LosesAll u server ends) (LosesFile file s server ends) ⊥ (RefusesFile file s.server) (λ l. (u, begins, l)) (λ x. absurd x) stop h
-
-pub files_stop : (files : List ClusterFile) (i : ℕ) (f : ClusterFile) (s u : Serving) (server : Server) (ends : Ends) (stop : ServerStop)
-    → slice_get files i ≡ Some f → InTurn MakesFile (take i files) s u → StopsBy (LosesFile f u server ends) (RefusesFile f u.server) stop
+pub files_stop : (files : List ClusterFile) (i : ℕ) (f : ClusterFile) (s u : Serving) (server : Server) (ends : Ends)
+    (stop : ServerStop)
+    → slice_get files i ≡ Some f → InTurn MakesFile (take i files) s u →
+        StopsBy (LosesFile f u server ends) (RefusesFile f u.server) stop
     → StopsBy (LosesFiles files s server ends) (RefusesFiles files s) stop
 files_stop files i f s u server ends stop e made h =
     stops_by (LosesFile f u server ends) (LosesFiles files s server ends) (RefusesFile f u.server) (RefusesFiles files s)

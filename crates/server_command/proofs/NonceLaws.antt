@@ -39,7 +39,8 @@ here m g e = record { least = omega (arith, e.0); more = inl e.1 }
 sent_some : (m : Effects) (g : Going) (c : Awaited) (cs : List Awaited) → At m g → Rises m (sending g (c ∷ cs)).effects
 sent_some m g c cs e = record { least = omega (arith, e.0); more = inr (omega (arith, e.0)) }
 
-rests_or_rises : (m : Effects) (cs : List Awaited) (g : Going) (kind : JobKind) (work : Work) (later : Going) → At m g → Rises m later.effects
+rests_or_rises : (m : Effects) (cs : List Awaited) (g : Going) (kind : JobKind) (work : Work) (later : Going) → At m g →
+    Rises m later.effects
     → Rises m (rests_or cs g kind work later).effects
 rests_or_rises m [] g kind work later e h = h
 rests_or_rises m (c ∷ cs) g kind work later e h = sent_some m g c cs e
@@ -57,7 +58,8 @@ audit_rises m g e = rests_or_rises m _ g _ _ _ e (audits_rise m g _ _ e)
 
 -- ---- rebuild
 
-makes_or_rises : (m : Effects) (g : Going) (t : Option Target) (later : Going) → At m g → Rises m later.effects → Rises m (makes_or g t later).effects
+makes_or_rises : (m : Effects) (g : Going) (t : Option Target) (later : Going) → At m g → Rises m later.effects →
+    Rises m (makes_or g t later).effects
 makes_or_rises m g None later e h = h
 makes_or_rises m g (Some t) later e h = record { least = omega (arith, e.0); more = inr (omega (arith, e.0)) }
 
@@ -71,7 +73,8 @@ unfolding fills
 fills_rise m g t [] e = rebuilds_rise m _ _ _ e
 fills_rise m g t (p ∷ ps) e = rests_or_rises m _ g _ _ _ e (rebuilds_rise m _ _ _ e)
 
-filling_rises : (m : Effects) (g : Going) (t : Target) (p : Piece) (ps : List Piece) (bytes : List ℕ) → At m g → Rises m (filling g t p ps bytes).effects
+filling_rises : (m : Effects) (g : Going) (t : Target) (p : Piece) (ps : List Piece) (bytes : List ℕ) → At m g →
+    Rises m (filling g t p ps bytes).effects
 unfolding filling
 filling_rises m g t p ps bytes e = elim (cases_Bool (nat_lt 0 (end_of bytes (replicate p.count 0)))) [
   | inl i ↦ rw i (sent_some m g _ [] e)
@@ -92,16 +95,19 @@ after_rises m Revoking g e = here m g e
 after_rises m Rebuilding g e = rebuilds_rise m g _ _ e
 after_rises m Auditing g e = audit_rises m g e
 
-repairs_rise : (m : Effects) (kind : JobKind) (g : Going) (ps : List Piece) (short : List ℕ) → At m g → Rises m (repairs kind g ps short).effects
+repairs_rise : (m : Effects) (kind : JobKind) (g : Going) (ps : List Piece) (short : List ℕ) → At m g →
+    Rises m (repairs kind g ps short).effects
 unfolding repairs
 repairs_rise m kind g [] short e = after_rises m kind (mended g short) e
 repairs_rise m kind g (p ∷ ps) short e = rests_or_rises m _ g _ _ _ e (repairs_rise m kind g ps _ e)
 
-storing_rises : (m : Effects) (kind : JobKind) (g : Going) (p : Piece) (ps : List Piece) (short : List ℕ) (heard : List Heard) → At m g → Rises m (storing kind g p ps short heard).effects
+storing_rises : (m : Effects) (kind : JobKind) (g : Going) (p : Piece) (ps : List Piece) (short : List ℕ) (heard : List Heard) →
+    At m g → Rises m (storing kind g p ps short heard).effects
 unfolding storing
 storing_rises m kind g p ps short heard e = rests_or_rises m _ g _ _ _ e (repairs_rise m kind g ps short e)
 
-stored_rises : (m : Effects) (kind : JobKind) (g : Going) (p : Piece) (ps : List Piece) (short : List ℕ) (broken : Bool) → At m g → Rises m (stored kind g p ps short broken).effects
+stored_rises : (m : Effects) (kind : JobKind) (g : Going) (p : Piece) (ps : List Piece) (short : List ℕ) (broken : Bool) →
+    At m g → Rises m (stored kind g p ps short broken).effects
 stored_rises m kind g p ps short true e = repairs_rise m kind g (p ∷ ps) short e
 stored_rises m kind g p ps short false e = repairs_rise m kind g ps short e
 
@@ -115,15 +121,18 @@ fenced_rises : (m : Effects) (kind : JobKind) (g : Going) → At m g → Rises m
 unfolding fenced
 fenced_rises m kind g e = repair_rises m kind _ e
 
-fetched_rises : (m : Effects) (kind : JobKind) (g : Going) (ps : List Piece) (short : List ℕ) (heard : List Heard) → At m g → Rises m (fetched kind g ps short heard).effects
+fetched_rises : (m : Effects) (kind : JobKind) (g : Going) (ps : List Piece) (short : List ℕ) (heard : List Heard) → At m g →
+    Rises m (fetched kind g ps short heard).effects
 fetched_rises m kind g [] short heard e = repairs_rise m kind g [] short e
 fetched_rises m kind g (p ∷ ps) short heard e = storing_rises m kind g p ps short heard e
 
-written_rises : (m : Effects) (kind : JobKind) (g : Going) (ps : List Piece) (short : List ℕ) (broken : Bool) → At m g → Rises m (written kind g ps short broken).effects
+written_rises : (m : Effects) (kind : JobKind) (g : Going) (ps : List Piece) (short : List ℕ) (broken : Bool) → At m g →
+    Rises m (written kind g ps short broken).effects
 written_rises m kind g [] short broken e = repairs_rise m kind g [] short e
 written_rises m kind g (p ∷ ps) short broken e = stored_rises m kind g p ps short broken e
 
-gathered_rises : (m : Effects) (g : Going) (t : Target) (ps : List Piece) (heard : List Heard) → At m g → Rises m (gathered g t ps heard).effects
+gathered_rises : (m : Effects) (g : Going) (t : Target) (ps : List Piece) (heard : List Heard) → At m g →
+    Rises m (gathered g t ps heard).effects
 gathered_rises m g t [] heard e = fills_rise m g t [] e
 gathered_rises m g t (p ∷ ps) heard e = filling_rises m g t p ps _ e
 
@@ -131,11 +140,13 @@ filled_rises : (m : Effects) (g : Going) (t : Target) (ps : List Piece) → At m
 filled_rises m g t [] e = fills_rise m g t [] e
 filled_rises m g t (p ∷ ps) e = fills_rise m g t ps e
 
-checked_rises : (m : Effects) (g : Going) (ps : List Piece) (t : Tally) (heard : List Heard) → At m g → Rises m (audited_on g ps t heard).effects
+checked_rises : (m : Effects) (g : Going) (ps : List Piece) (t : Tally) (heard : List Heard) → At m g →
+    Rises m (audited_on g ps t heard).effects
 checked_rises m g [] t heard e = audits_rise m g [] t e
 checked_rises m g (p ∷ ps) t heard e = audits_rise m g ps _ e
 
-on_rises : (m : Effects) (kind : JobKind) (work : Work) (heard : List Heard) (g : Going) → At m g → Rises m (goes_on kind work heard g).effects
+on_rises : (m : Effects) (kind : JobKind) (work : Work) (heard : List Heard) (g : Going) → At m g →
+    Rises m (goes_on kind work heard g).effects
 unfolding goes_on
 on_rises m kind Creates heard g e = record { least = omega (arith, e.0); more = inl e.1 }
 on_rises m kind Fences heard g e = fenced_rises m kind g e
@@ -147,11 +158,13 @@ on_rises m kind (Fills t ps) heard g e = filled_rises m g t ps e
 on_rises m kind Lengths heard g e = audits_rise m g _ _ e
 on_rises m kind (Checks ps t) heard g e = checked_rises m g ps t heard e
 
-waits_or_on_rises : (m : Effects) (g : Going) (j : Job) (work : Work) (rest : List Awaited) (heard : List Heard) → At m g → Rises m (waits_or_on g j work rest heard).effects
+waits_or_on_rises : (m : Effects) (g : Going) (j : Job) (work : Work) (rest : List Awaited) (heard : List Heard) → At m g →
+    Rises m (waits_or_on g j work rest heard).effects
 waits_or_on_rises m g j work [] heard e = on_rises m j.kind work heard g e
 waits_or_on_rises m g j work (c ∷ cs) heard e = here m g e
 
-refills_rise : (m : Effects) (g : Going) (t : Target) (ps : List Piece) (gone : Bool) → At m g → Rises m (refills g t ps gone).effects
+refills_rise : (m : Effects) (g : Going) (t : Target) (ps : List Piece) (gone : Bool) → At m g →
+    Rises m (refills g t ps gone).effects
 refills_rise m g t ps true e = gone_rises m g t e
 refills_rise m g t ps false e = fills_rise m g t ps e
 
@@ -159,7 +172,8 @@ remakes_rise : (m : Effects) (g : Going) (t : Target) (gone : Bool) → At m g �
 remakes_rise m g t true e = gone_rises m g t e
 remakes_rise m g t false e = here m g e
 
-loses_rises : (m : Effects) (g : Going) (j : Job) (work : Work) (rest : List Awaited) (gone : Bool) → At m g → Rises m (loses g j work rest gone).effects
+loses_rises : (m : Effects) (g : Going) (j : Job) (work : Work) (rest : List Awaited) (gone : Bool) → At m g →
+    Rises m (loses g j work rest gone).effects
 unfolding loses
 loses_rises m g j (Fetches ps short) rest gone e = repairs_rise m j.kind g ps short e
 loses_rises m g j (Stores ps short broken) rest gone e = waits_or_on_rises m g j _ rest _ e
@@ -177,7 +191,8 @@ fills_up_rises m g j a (Gathers t todo) e = full_rises m g t e
 fills_up_rises m g j a (Fills t todo) e = full_rises m g t e
 fills_up_rises m g j a work e = loses_rises m _ j work _ false e
 
-hears_rises : (m : Effects) (g : Going) (j : Job) (a : Awaited) (r : Reply) (as_ : Hearing) → At m g → Rises m (hears g j a r as_).effects
+hears_rises : (m : Effects) (g : Going) (j : Job) (a : Awaited) (r : Reply) (as_ : Hearing) → At m g →
+    Rises m (hears g j a r as_).effects
 hears_rises m g j a r Older e = sent_some m g _ [] e
 hears_rises m g j a r Full e = fills_up_rises m g j a j.work e
 hears_rises m g j a r Done e = waits_or_on_rises m g j j.work _ _ e

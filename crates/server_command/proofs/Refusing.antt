@@ -39,7 +39,8 @@ none_apart : (ds : List ClusterDrive) → Apart [] ds
 none_apart [] = tt
 none_apart (d ∷ ds) = (refl, none_apart ds)
 
-added_number : (ks : List Drive) (k : Drive) (n : ℕ) → nat_eq k.number n ≡ false → has_number ks n ≡ false → has_number (add_drive ks k) n ≡ false
+added_number : (ks : List Drive) (k : Drive) (n : ℕ) → nat_eq k.number n ≡ false → has_number ks n ≡ false →
+    has_number (add_drive ks k) n ≡ false
 unfolding add_drive
 added_number [] k n e h = rw e refl
 added_number (j ∷ ks) k n e h =
@@ -48,7 +49,8 @@ added_number (j ∷ ks) k n e h =
       | inr z ↦ rw (z, e, b.0) b.1
     ]
 
-added_apart : (ks : List Drive) (k : Drive) (ds : List ClusterDrive) → list_any (λ m. nat_eq m k.number) (map (λ d. d.number) ds) ≡ false
+added_apart : (ks : List Drive) (k : Drive) (ds : List ClusterDrive) →
+    list_any (λ m. nat_eq m k.number) (map (λ d. d.number) ds) ≡ false
     → Apart ks ds → Apart (add_drive ks k) ds
 added_apart ks k [] e a = tt
 added_apart ks k (d ∷ ds) e a =
@@ -77,11 +79,13 @@ key_in : (o : Option (List ℕ)) → is_some o ≡ true → (key : List ℕ) × 
 key_in None e = cc e
 key_in (Some key) e = (key, refl)
 
-known_one : (s : Server) (d : ClusterDrive) (key : List ℕ) → d.key ≡ Some key → nat_le 64 d.number ≡ false → has_number s.drives d.number ≡ false
+known_one : (s : Server) (d : ClusterDrive) (key : List ℕ) → d.key ≡ Some key → nat_le 64 d.number ≡ false →
+    has_number s.drives d.number ≡ false
     → with_drive s d ≡ Ok (record s { drives = add_drive s.drives (drive_with d key) })
 known_one s d key e low new = ap (with_key s d) e ∙ rw (low, new) refl
 
-knows : (s : Server) (ds : List ClusterDrive) → AreKnowable ds → repeats (map (λ d. d.number) ds) ≡ false → Apart s.drives ds → Knows s ds
+knows : (s : Server) (ds : List ClusterDrive) → AreKnowable ds → repeats (map (λ d. d.number) ds) ≡ false → Apart s.drives ds →
+    Knows s ds
 knows s [] k r a = record { server = s; is = refl; online = omega arith; files = refl }
 knows s (d ∷ ds) k r a =
     let key = key_in d.key k.0 in
@@ -114,7 +118,8 @@ has_server c sound =
 
 -- ---- the files
 
-not_first : (b : Bool) (e : MapErr) (r : Result RawMap MapErr) → is_ok (if b then Err e else r) ≡ true → (b ≡ false) × (is_ok r ≡ true)
+not_first : (b : Bool) (e : MapErr) (r : Result RawMap MapErr) → is_ok (if b then Err e else r) ≡ true →
+    (b ≡ false) × (is_ok r ≡ true)
 not_first true e r h = cc h
 not_first false e r h = (refl, h)
 
@@ -137,7 +142,8 @@ unfolding checked_64
 checked_as m h few =
     let c = checked_is m h in rw (c.0, few_enough m.comps 64 few) c.1
 
-pub unrefused : (s : Server) (number : ℕ) (m : RawMap) (n : ℕ) → file_at s.files number ≡ None → length (online s.drives) ≡ n → is_good_map n m ≡ true
+pub unrefused : (s : Server) (number : ℕ) (m : RawMap) (n : ℕ) → file_at s.files number ≡ None → length (online s.drives) ≡ n →
+    is_good_map n m ≡ true
     → refusal s number m false ≡ None
 unfolding refusal
 unrefused s number m n none drives good =
@@ -145,35 +151,46 @@ unrefused s number m n none drives good =
     let b = and_parts (is_ok (checked m)) (nat_le m.comps 64) a.0 in
     rw (none, checked_as m b.0 b.1, drives, few_enough m.comps n a.1) refl
 
-unrepeated : (done : List ClusterFile) (next : ClusterFile) (left : List ClusterFile) → repeats (map (λ f. f.number) (done ++ next ∷ left)) ≡ false
+unrepeated : (done : List ClusterFile) (next : ClusterFile) (left : List ClusterFile) →
+    repeats (map (λ f. f.number) (done ++ next ∷ left)) ≡ false
     → has_file done next.number ≡ false
 unrepeated [] next left h = refl
 unrepeated (f ∷ done) next left h =
-    let n = or_parts (list_any (λ m. nat_eq m f.number) (map (λ x. x.number) (done ++ next ∷ left))) (repeats (map (λ x. x.number) (done ++ next ∷ left))) h in
+    let n = or_parts (list_any (λ m. nat_eq m f.number) (map (λ x. x.number) (done ++ next ∷ left)))
+        (repeats (map (λ x. x.number) (done ++ next ∷ left))) h in
     rw (swapped next.number f.number (in_middle done n.0)) (unrepeated done next left n.1)
   where
     in_middle : (fs : List ClusterFile) → list_any (λ m. nat_eq m f.number) (map (λ x. x.number) (fs ++ next ∷ left)) ≡ false
         → nat_eq next.number f.number ≡ false
     in_middle [] e = (or_parts (nat_eq next.number f.number) (list_any (λ m. nat_eq m f.number) (map (λ x. x.number) left)) e).0
-    in_middle (g ∷ fs) e = in_middle fs (or_parts (nat_eq g.number f.number) (list_any (λ m. nat_eq m f.number) (map (λ x. x.number) (fs ++ next ∷ left))) e).1
+    in_middle (g ∷ fs) e =
+        in_middle fs
+            (or_parts (nat_eq g.number f.number)
+            (list_any (λ m. nat_eq m f.number) (map (λ x. x.number) (fs ++ next ∷ left))) e).1
 
-pub makeable_at : (n : ℕ) (done : List ClusterFile) (next : ClusterFile) (left : List ClusterFile) → AreMakeable n (done ++ next ∷ left)
+pub makeable_at : (n : ℕ) (done : List ClusterFile) (next : ClusterFile) (left : List ClusterFile) →
+    AreMakeable n (done ++ next ∷ left)
     → (is_good_map n next.map ≡ true) × HasAlgorithm next.map
 makeable_at n [] next left h = (h.0, h.1)
 makeable_at n (f ∷ done) next left h = makeable_at n done next left h.2
 
-none_refused : (c : Cluster) (first : Server) (ends : Ends) → IsSound c → length (online first.drives) ≡ length c.drives → first.files ≡ []
+none_refused : (c : Cluster) (first : Server) (ends : Ends) → IsSound c → length (online first.drives) ≡ length c.drives →
+    first.files ≡ []
     → RefusesFiles c.files (serving first [] true ends) → ⊥
 unfolding file_at
 none_refused c first ends sound drives files r =
     let kept = files_keep r.done (serving first [] true ends) r.before r.does in
-    let apart = unrepeated r.done r.next r.left (subst (λ (fs : List ClusterFile). repeats (map (λ f. f.number) fs) ≡ false) r.are sound.files) in
+    let apart = unrepeated r.done r.next r.left
+        (subst (λ (fs : List ClusterFile). repeats (map (λ f. f.number) fs) ≡ false) r.are sound.files) in
     let none = kept.none (r.next).number apart (rw files refl) in
-    let maps = makeable_at (length c.drives) r.done r.next r.left (subst (λ (fs : List ClusterFile). AreMakeable (length c.drives) fs) r.are sound.maps) in
-    let many : length (online (r.before).server.drives) ≡ length c.drives = ap (λ (ds : List Drive). length (online ds)) kept.drives ∙ drives in
+    let maps = makeable_at (length c.drives) r.done r.next r.left
+        (subst (λ (fs : List ClusterFile). AreMakeable (length c.drives) fs) r.are sound.maps) in
+    let many : length (online (r.before).server.drives) ≡ length c.drives =
+        ap (λ (ds : List Drive). length (online ds)) kept.drives ∙ drives in
     go (unrefused (r.before).server (r.next).number (r.next).map (length c.drives) none many maps.0) maps.1 r.stops
   where
-    go : refusal (r.before).server (r.next).number (r.next).map false ≡ None → HasAlgorithm (r.next).map → RefusesFile r.next (r.before).server → ⊥
+    go : refusal (r.before).server (r.next).number (r.next).map false ≡ None → HasAlgorithm (r.next).map →
+        RefusesFile r.next (r.before).server → ⊥
     go none algorithm (inl some) = cc (sym none ∙ some.1)
     go none algorithm (inr without) = without algorithm
 
@@ -182,4 +199,5 @@ is_served c ends kind sound (inl e) = cc (sym (has_server c sound).is ∙ e)
 is_served c ends kind sound (inr r) =
     let h = has_server c sound in
     let same : h.server ≡ r.1 = cc (sym h.is ∙ r.2) in
-    none_refused c r.1 ends sound (ap (λ (s : Server). length (online s.drives)) (sym same) ∙ h.online) (ap (λ (s : Server). s.files) (sym same) ∙ h.files) r.3
+    none_refused c r.1 ends sound (ap (λ (s : Server). length (online s.drives)) (sym same) ∙ h.online)
+        (ap (λ (s : Server). s.files) (sym same) ∙ h.files) r.3

@@ -19,7 +19,8 @@ use Rattle.server_command.specs.Files.{Makes, MakesFile, MakesFiles, MakesTo}
 
 -- ---- one exchange, one answer
 
-caused : (e : ExchangeErr) (count : Faults → ℕ) (before now : Faults) → HasExchangeCause count before now (Err e) → before.listening ≤ now.listening
+caused : (e : ExchangeErr) (count : Faults → ℕ) (before now : Faults) → HasExchangeCause count before now (Err e) →
+    before.listening ≤ now.listening
 caused LinkFault count before now h = h.0.listening
 caused Ended count before now h = omega (arith, ap (λ (f : Faults). f.listening) h)
 caused TooLong count before now h = omega (arith, ap (λ (f : Faults). f.listening) h)
@@ -48,7 +49,8 @@ asks drive message s t a =
     let rest = hears drive a.came (record s { ends = a.between }) t a.hears in
     omega (arith, first, rest)
 
-put_cause : (whole : Bool) (message : List ℕ) (before now : Faults) → HasPutCause whole message before now → before.listening ≤ now.listening
+put_cause : (whole : Bool) (message : List ℕ) (before now : Faults) → HasPutCause whole message before now →
+    before.listening ≤ now.listening
 put_cause true message before now e = omega (arith, ap (λ (f : Faults). f.listening) e)
 put_cause false message before now h = h.0.listening
 
@@ -86,7 +88,8 @@ makes_files files s t h = turn MakesFile makes_file files s t h
 
 -- ---- connections
 
-works_to : (to : Node) (sender : Option Node) (message : List ℕ) (s t : Serving) → WorksTo to sender message s t → NoFewer s.ends t.ends
+works_to : (to : Node) (sender : Option Node) (message : List ℕ) (s t : Serving) → WorksTo to sender message s t →
+    NoFewer s.ends t.ends
 works_to (Drive d) sender message s t h = asks d message s t h
 works_to TheServer sender message s t h = puts _ message s t h
 works_to (Client c) sender message s t h = puts _ message s t h
@@ -98,7 +101,8 @@ record_served : (message : List ℕ) (s t : Serving) → ServesRecord message s 
 record_served message s t h =
     omega (arith, ap (λ (f : Faults). f.listening) (h.1).faults, works (Some (sender_of message)) h.0 t h.2)
 
-pieces : (n : ℕ) (taken : List ℕ) (records : List (List ℕ)) (s t : Serving) → ServesPieces n taken records s t → NoFewer s.ends t.ends
+pieces : (n : ℕ) (taken : List ℕ) (records : List (List ℕ)) (s t : Serving) → ServesPieces n taken records s t →
+    NoFewer s.ends t.ends
 pieces zero taken records s t h = same_ends s t h.2
 pieces (suc n) taken records s t h =
     let first = pieces n h.0 h.2 s h.4 h.6 in

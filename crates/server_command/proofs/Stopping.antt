@@ -21,8 +21,10 @@ use Rattle.server_command.proofs.Rising.{makes_files, rises}
 
 -- ---- as the server of a cluster
 
-pub has_made : (cluster : Cluster) (before settled between : Ends) (first made : Server) (files : List ClusterFile) → settled ≡ before
-    → files ≡ cluster.files → server_in cluster ≡ Ok first → MakesFiles files (serving first [] true settled) (serving made [] true between)
+pub has_made : (cluster : Cluster) (before settled between : Ends) (first made : Server) (files : List ClusterFile) →
+    settled ≡ before
+    → files ≡ cluster.files → server_in cluster ≡ Ok first →
+        MakesFiles files (serving first [] true settled) (serving made [] true between)
     → HasMade cluster before made between
 has_made cluster before settled between first made files e f is makes = record {
   first = first;
@@ -31,11 +33,13 @@ has_made cluster before settled between first made files e f is makes = record {
       (subst (λ (fs : List ClusterFile). MakesFiles fs (serving first [] true settled) (serving made [] true between)) f makes);
 }
 
-module _ (connections : ℕ) (cluster : Cluster) (before now : Ends) (taken_before taken : Option (List ℕ)) (failed_before failed : ℕ) where
+module _ (connections : ℕ) (cluster : Cluster) (before now : Ends) (taken_before taken : Option (List ℕ))
+    (failed_before failed : ℕ) where
   pub serving_in : (stop : CommandStop) (made last : Server) (between : Ends) → HasMade cluster before made between
       → StopsServing connections made last between now taken_before taken failed_before failed stop
       → StopsIn connections cluster before now taken_before taken failed_before failed stop
-  serving_in WriteFault made last between has s = (record { made = made; between = between; has_made = has; last = last; cuts = s.0 }, s.1)
+  serving_in WriteFault made last between has s =
+      (record { made = made; between = between; has_made = has; last = last; cuts = s.0 }, s.1)
   serving_in LinkFault made last between has s =
       inr (inr (
         record {
@@ -64,7 +68,8 @@ module _ (connections : ℕ) (cluster : Cluster) (before now : Ends) (taken_befo
 
   -- the files weren't made
   making_in : (stop : CommandStop) (first last : Server) → server_in cluster ≡ Ok first → taken ≡ taken_before
-      → StopsBy (LosesFiles cluster.files (serving first [] true before) last now) (RefusesFiles cluster.files (serving first [] true before)) (Command stop)
+      → StopsBy (LosesFiles cluster.files (serving first [] true before) last now)
+          (RefusesFiles cluster.files (serving first [] true before)) (Command stop)
       → StopsIn connections cluster before now taken_before taken failed_before failed stop
   making_in WriteFault first last is same s = absurd s
   making_in LinkFault first last is same s = inr (inl ((first, is, last, s), same))
@@ -78,9 +83,11 @@ module _ (connections : ℕ) (cluster : Cluster) (before now : Ends) (taken_befo
   StopsMaking first last files begun told =
       StopsBy (LosesFiles files (serving first [] true begun) last now) (RefusesFiles files (serving first [] true begun)) told
 
-  pub making_in_memory : (told : ServerStop) (stop : CommandStop) (first last : Server) (settled : Ends) (files : List ClusterFile)
+  pub making_in_memory : (told : ServerStop) (stop : CommandStop) (first last : Server) (settled : Ends)
+      (files : List ClusterFile)
       → told ≡ Command stop → settled ≡ before → files ≡ cluster.files → server_in cluster ≡ Ok first → taken ≡ taken_before
-      → StopsBy (LosesFiles files (serving first [] true settled) last now) (RefusesFiles files (serving first [] true settled)) told
+      → StopsBy (LosesFiles files (serving first [] true settled) last now)
+          (RefusesFiles files (serving first [] true settled)) told
       → StopsIn connections cluster before now taken_before taken failed_before failed stop
   making_in_memory told stop first last settled files is e f known same s = making_in stop first last known same
       (subst (λ (x : ServerStop). StopsMaking first last cluster.files before x) is

@@ -25,7 +25,8 @@ use Rattle.server_command.proofs.NonceLaws.{RisesIn, reply_rises}
 
 -- ---- one after the other
 
-pub turn_more : {A : Type 0} (R : A → Serving → Serving → Type 0) (xs : List A) (x : A) (s t u : Serving) → InTurn R xs s t → R x t u → InTurn R (xs ++ x ∷ []) s u
+pub turn_more : {A : Type 0} (R : A → Serving → Serving → Type 0) (xs : List A) (x : A) (s t u : Serving) → InTurn R xs s t →
+    R x t u → InTurn R (xs ++ x ∷ []) s u
 turn_more R [] x s t u e r = (u, subst (λ (v : Serving). R x v u) e r, refl)
 turn_more R (y ∷ xs) x s t u h r = (h.0, h.1, turn_more R xs x h.0 t u h.2 r)
 
@@ -41,11 +42,13 @@ or_rises : (m : Effects) (o later : Option Going) → RisesIn m o → RisesIn m 
 or_rises m None later a b = b
 or_rises m (Some g) later a b = a
 
-heard_rises : (s : Server) (chosen : List ℕ) (drive : ℕ) (r : Reply) (fs : List File) → RisesIn (begins s) (heard_at s chosen drive r fs)
+heard_rises : (s : Server) (chosen : List ℕ) (drive : ℕ) (r : Reply) (fs : List File) →
+    RisesIn (begins s) (heard_at s chosen drive r fs)
 unfolding heard_at
 heard_rises s chosen drive r [] = tt
 heard_rises s chosen drive r (f ∷ fs) =
-    or_rises (begins s) (on_reply (at_file s chosen f) drive r) (heard_at s chosen drive r fs) (reply_rises (begins s) (at_file s chosen f) drive r (refl, refl)) (heard_rises s chosen drive r fs)
+    or_rises (begins s) (on_reply (at_file s chosen f) drive r) (heard_at s chosen drive r fs)
+        (reply_rises (begins s) (at_file s chosen f) drive r (refl, refl)) (heard_rises s chosen drive r fs)
 
 still_grows : (s : Server) → StepGrows s (still s)
 still_grows s = (omega arith, inl refl)
@@ -63,13 +66,16 @@ low_nonce : (s : Server) → counters_have_room s ≡ true → s.next_nonce < CO
 unfolding counters_have_room
 low_nonce s e = grind (arith, nat_tests, e)
 
-handled_grows : (s : Server) (now : ℕ) (chosen : List ℕ) (drive : ℕ) (m : Message) → s.next_nonce < COUNTERS_END → StepGrows s (handled s now chosen (Drive drive) m)
+handled_grows : (s : Server) (now : ℕ) (chosen : List ℕ) (drive : ℕ) (m : Message) → s.next_nonce < COUNTERS_END →
+    StepGrows s (handled s now chosen (Drive drive) m)
 unfolding on_drive_reply
 handled_grows s now chosen drive (Asks q) low = still_grows s
-handled_grows s now chosen drive (Replies r) low = heard_grows s (heard_at s chosen drive r s.files) low (heard_rises s chosen drive r s.files)
+handled_grows s now chosen drive (Replies r) low =
+    heard_grows s (heard_at s chosen drive r s.files) low (heard_rises s chosen drive r s.files)
 handled_grows s now chosen drive (Orders o) low = still_grows s
 
-message_grows : (s : Server) (now : ℕ) (chosen : List ℕ) (drive : ℕ) (o : Option Message) → StepGrows s (on_message_in s now chosen (Drive drive) o)
+message_grows : (s : Server) (now : ℕ) (chosen : List ℕ) (drive : ℕ) (o : Option Message) →
+    StepGrows s (on_message_in s now chosen (Drive drive) o)
 unfolding on_message
 message_grows s now chosen drive None = still_grows s
 message_grows s now chosen drive (Some m) = elim (cases_Bool (counters_have_room s)) [
@@ -128,7 +134,8 @@ works_grow (Client c) sender message s t p = puts_grow _ message s t p
 pub works_grows : (sender : Option Node) (m : Sent) (s t : Serving) → Works sender m s t → Grows s t
 works_grows sender m s t w = works_grow m.to sender m.bytes s t w
 
-pub turn_grows : (R : Sent → Serving → Serving → Type 0) → ((m : Sent) (s t : Serving) → R m s t → Grows s t) → (ms : List Sent) (s t : Serving) → InTurn R ms s t → Grows s t
+pub turn_grows : (R : Sent → Serving → Serving → Type 0) → ((m : Sent) (s t : Serving) → R m s t → Grows s t) →
+    (ms : List Sent) (s t : Serving) → InTurn R ms s t → Grows s t
 turn_grows R grows [] s t e = same_grows s t (ap (λ (x : Serving). x.server) e) (ap (λ (x : Serving). x.waiting) e)
 turn_grows R grows (m ∷ ms) s t h = then_grows s h.0 t (grows m s h.0 h.1) (turn_grows R grows ms h.0 t h.2)
 
@@ -138,7 +145,8 @@ turn_grows R grows (m ∷ ms) s t h = then_grows s h.0 t (grows m s h.0 h.1) (tu
 abbrev pub measure : (nonce : ℕ) → (waiting : List Sent) → ℕ
 measure nonce waiting = (COUNTERS_END - nonce) + min 1 (length waiting)
 
-pub round_less : (s t : Serving) (waiting : List Sent) → s.waiting ≡ [] → 0 < length waiting → Grows s t → measure t.server.next_nonce t.waiting < measure s.server.next_nonce waiting
+pub round_less : (s t : Serving) (waiting : List Sent) → s.waiting ≡ [] → 0 < length waiting → Grows s t →
+    measure t.server.next_nonce t.waiting < measure s.server.next_nonce waiting
 round_less s t waiting e some g = less g.1
   where
     less : (t.waiting ≡ s.waiting) ⊎ ((s.server.next_nonce < t.server.next_nonce) × (s.server.next_nonce < COUNTERS_END))
@@ -149,12 +157,14 @@ round_less s t waiting e some g = less g.1
 pub round_from : (R : Sent → Serving → Serving → Type 0) (s t : Serving) (ms rest : List Sent) → ms ≡ s.waiting → rest ≡ []
     → InTurn R ms (record s { waiting = rest }) t → Round R s t
 round_from R s t ms rest e f h =
-    subst (λ (ns : List Sent). InTurn R ns (record s { waiting = [] }) t) e (subst (λ (ns : List Sent). InTurn R ms (record s { waiting = ns }) t) f h)
+    subst (λ (ns : List Sent). InTurn R ns (record s { waiting = [] }) t) e
+        (subst (λ (ns : List Sent). InTurn R ms (record s { waiting = ns }) t) f h)
 
 pub round_ends : (sender : Option Node) (s t : Serving) → 0 < length s.waiting → Round (Works sender) s t
     → measure t.server.next_nonce t.waiting < measure s.server.next_nonce s.waiting
 round_ends sender s t some r =
-    round_less (record s { waiting = [] }) t s.waiting refl some (turn_grows (Works sender) (works_grows sender) s.waiting (record s { waiting = [] }) t r)
+    round_less (record s { waiting = [] }) t s.waiting refl some
+        (turn_grows (Works sender) (works_grows sender) s.waiting (record s { waiting = [] }) t r)
 
 pub some_wait : (b : Bool) (ms : List Sent) → b ≡ false → IsTrue b ↔ (ms ≡ []) → 0 < length ms
 some_wait b [] e i = absurd (cc (sym e ∙ i.1 refl))

@@ -64,7 +64,8 @@ fn put_file(writer: &mut Writer, v: &FileEntry) -> Result<(), Memory>
 
 // The stripes of a grant, and its expiry.
 fn put_term(writer: &mut Writer, v: &Grant) -> Result<(), Memory>
-    ensures written { OnOk result (writer.new ≡ writer.old ++ (u64_item v.now.first ++ (u64_item v.now.end ++ u64_item v.now.expiry))) }
+    ensures written { OnOk result
+        (writer.new ≡ writer.old ++ (u64_item v.now.first ++ (u64_item v.now.end ++ u64_item v.now.expiry))) }
     ensures fits { OnOk result ((v.now.first < 2 ^ 64) × (v.now.end < 2 ^ 64) × (v.now.expiry < 2 ^ 64)) }
 {
     writer.u64(v.first)?;

@@ -19,19 +19,24 @@ one_server s t c is also =
 
 no_other_header : (c : List ℕ) (at : ℕ) (s : Server) → HasOtherHeader c at → IsJournalOf s c → ⊥
 no_other_header c at s o is =
-    o.other (front_begins o.header [] o.stands.front o.stands.gate o.stands.rest journal_header is.records c o.stands.is_front o.stands.contents is.log).0
+    o.other (front_begins o.header [] o.stands.front o.stands.gate o.stands.rest journal_header is.records c o.stands.is_front
+    o.stands.contents is.log).0
 
 some_none : (s : Server) → Some s ≡ None → ⊥
 some_none s is = cc is
 
 no_unmade : (c : List ℕ) (at : ℕ) (s : Server) → IsUnmade c at → IsJournalOf s c → ⊥
 no_unmade c at s n is =
-    let begins = front_begins journal_header (n.records ++ n.bytes ∷ []) n.behind.front n.behind.gate n.behind.rest journal_header is.records c n.behind.is_front n.behind.contents is.log in
+    let begins =
+    front_begins journal_header
+    (n.records ++ n.bytes ∷ []) n.behind.front n.behind.gate n.behind.rest journal_header is.records c n.behind.is_front
+    n.behind.contents is.log in
     some_none s (sym is.lead
     ∙ ap (λ (records : List (List ℕ)). replayed (Some (new_server [])) records) begins.1.1
     ∙ replayed-then (Some (new_server [])) (n.records ++ n.bytes ∷ []) begins.1.0
     ∙ ap (λ (o : Option Server). replayed o begins.1.0)
-    (replayed-more (Some (new_server [])) n.records n.bytes ∙ ap (λ (o : Option Server). after_record_of o n.bytes) n.lead ∙ n.none)
+    (replayed-more (Some (new_server [])) n.records n.bytes ∙ ap (λ (o : Option Server). after_record_of o n.bytes) n.lead
+    ∙ n.none)
     ∙ replayed-none begins.1.0)
 
 pub refused_is_none : (c : List ℕ) (at : ℕ) → IsNoJournalAt c at → (s : Server) → IsJournalOf s c → ⊥

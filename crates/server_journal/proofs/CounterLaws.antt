@@ -53,7 +53,8 @@ made : (can : Bool) (s u t : Server) → CountsOn s u → (if can then Some u el
 made true s u t counts is = subst (λ (x : Server). CountsOn s x) (some_is u t is) counts
 made false s u t counts is = none_is t is
 
-at_file : (s : Server) (n : ℕ) (can : Kept → Bool) (does : Kept → Kept) (o : Option File) (t : Server) → changed_at s n can does o ≡ Some t → CountsOn s t
+at_file : (s : Server) (n : ℕ) (can : Kept → Bool) (does : Kept → Kept) (o : Option File) (t : Server) →
+    changed_at s n can does o ≡ Some t → CountsOn s t
 at_file s n can does None t is = none_is t is
 at_file s n can does (Some f) t is =
     made (can f.kept) s (record s { files = put_file s.files n (kept_file (does f.kept)) }) t (counts_same s) is
@@ -64,7 +65,9 @@ returning s grant (Some file) t is = at_file s file (λ f. has_number f.grants g
 
 counting : (s : Server) (c : Counters) → can_count s c ≡ true → CountsOn s (counted s c)
 counting s c can =
-    let halves = and_parts (nat_le s.next_grant (next_grant_of c.next_grant) && nat_le s.next_object c.next_object) (nat_le s.next_nonce c.next_nonce && nat_le s.next_recall c.next_recall) can in
+    let halves =
+    and_parts (nat_le s.next_grant (next_grant_of c.next_grant) && nat_le s.next_object c.next_object)
+    (nat_le s.next_nonce c.next_nonce && nat_le s.next_recall c.next_recall) can in
     let first = and_parts (nat_le s.next_grant (next_grant_of c.next_grant)) (nat_le s.next_object c.next_object) halves.0 in
     let last = and_parts (nat_le s.next_nonce c.next_nonce) (nat_le s.next_recall c.next_recall) halves.1 in
     record {
@@ -74,13 +77,15 @@ counting s c can =
       recalls = leb-true s.next_recall c.next_recall last.1;
     }
 
-counts_made : (can : Bool) (s : Server) (c : Counters) (t : Server) → can_count s c ≡ can → (if can then Some (counted s c) else None) ≡ Some t → CountsOn s t
+counts_made : (can : Bool) (s : Server) (c : Counters) (t : Server) → can_count s c ≡ can →
+    (if can then Some (counted s c) else None) ≡ Some t → CountsOn s t
 counts_made true s c t can is = made true s (counted s c) t (counting s c can) is
 counts_made false s c t can is = none_is t is
 
 answering : (s : Server) (v : SlotEntry) (r : Result Envelope OpErr) (t : Server) → answered s v r ≡ Some t → CountsOn s t
 answering s v (Ok (envelope.Answer a)) t is =
-    made (can_answer s v a) s (record s { slots = keep s.slots (record { client = v.client; last = v.sequence; kept = a }) }) t (counts_same s) is
+    made (can_answer s v a) s (record s { slots = keep s.slots (record { client = v.client; last = v.sequence; kept = a }) }) t
+    (counts_same s) is
 answering s v (Ok (envelope.Request q)) t is = none_is t is
 answering s v (Ok (envelope.Recall r)) t is = none_is t is
 answering s v (Ok (envelope.RecallAnswer r)) t is = none_is t is
@@ -90,8 +95,10 @@ answering s v (Err e) t is = none_is t is
 
 entry_counts : (s : Server) (e : Entry) (t : Server) → applied s e ≡ Some t → CountsOn s t
 unfolding applied
-entry_counts s (entry.Drive d) t is = made (nat_lt d.number MAX_DRIVES) s (record s { drives = put_drive s.drives d }) t (counts_same s) is
-entry_counts s (entry.File f) t is = made (can_make s f) s (record s { files = add_file s.files (new_file f) }) t (counts_same s) is
+entry_counts s (entry.Drive d) t is =
+    made (nat_lt d.number MAX_DRIVES) s (record s { drives = put_drive s.drives d }) t (counts_same s) is
+entry_counts s (entry.File f) t is =
+    made (can_make s f) s (record s { files = add_file s.files (new_file f) }) t (counts_same s) is
 entry_counts s (entry.Grant g) t is = at_file s g.file (can_grant s g) (granted g) (file_at s.files g.file) t is
 entry_counts s (entry.Return grant) t is = returning s grant (holder_of s.files grant) t is
 entry_counts s (entry.Change file change) t is = at_file s file (can_change s change) (changed change) (file_at s.files file) t is
@@ -99,7 +106,8 @@ entry_counts s (entry.Counters c) t is = counts_made (can_count s c) s c t refl 
 entry_counts s (entry.Slot v) t is = answering s v (envelope_of v.answer) t is
 entry_counts s (entry.Format format) t is = made (is_format format) s (record s { format = format }) t (counts_same s) is
 entry_counts s (entry.Zone drive zone) t is =
-    made (is_known drive s.drives && not (is_in_zone drive s.drives)) s (record s { drives = put_in_zone s.drives drive zone }) t (counts_same s) is
+    made (is_known drive s.drives && not (is_in_zone drive s.drives)) s (record s { drives = put_in_zone s.drives drive zone }) t
+    (counts_same s) is
 
 -- ---- one after another
 
@@ -121,7 +129,8 @@ reading_counts : (s : Server) (r : Result Record LayoutErr) (t : Server) → aft
 reading_counts s (Ok r) t is = entries_count r.entries s t is
 reading_counts s (Err e) t is = none_is t is
 
-records_from : (s : Server) (o : Option Server) (records : List (List ℕ)) (t : Server) → ((u : Server) → o ≡ Some u → CountsOn s u)
+records_from : (s : Server) (o : Option Server) (records : List (List ℕ)) (t : Server) →
+    ((u : Server) → o ≡ Some u → CountsOn s u)
     → ((u : Server) → replayed (Some u) records ≡ Some t → CountsOn u t) → replayed o records ≡ Some t → CountsOn s t
 records_from s None records t first next is = none_is t (sym (replayed-none records) ∙ is)
 records_from s (Some u) records t first next is = counts_then s u t (first u refl) (next u is)
@@ -129,9 +138,11 @@ records_from s (Some u) records t first next is = counts_then s u t (first u ref
 records_count : (records : List (List ℕ)) (s t : Server) → replayed (Some s) records ≡ Some t → CountsOn s t
 records_count [] s t is = made true s s t (counts_same s) is
 records_count (bytes ∷ records) s t is =
-    records_from s (after_record s bytes) records t (λ u. reading_counts s (whole record_in bytes) u) (λ u. records_count records u t) is
+    records_from s (after_record s bytes) records t (λ u. reading_counts s (whole record_in bytes) u)
+    (λ u. records_count records u t) is
 
 -- and so no records that are added
-pub counters_never_fall : (records more : List (List ℕ)) (s t : Server) → LeadTo records s → LeadTo (records ++ more) t → CountsOn s t
+pub counters_never_fall : (records more : List (List ℕ)) (s t : Server) → LeadTo records s → LeadTo (records ++ more) t →
+    CountsOn s t
 counters_never_fall records more s t leads longer = records_count more s t
     (ap (λ (o : Option Server). replayed o more) (sym leads) ∙ sym (replayed-then (Some (new_server [])) records more) ∙ longer)

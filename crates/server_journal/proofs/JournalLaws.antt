@@ -42,7 +42,8 @@ pub spelled : (bytes : List ℕ) (r s : Record) → r ≡ s → whole record_in 
 spelled bytes r s same is = is ∙ ap (λ (x : Record). Ok x) same
 
 -- an error's cause, told without the result
-pub journal_cause : {T : Type 0} (before now : ℕ) (e : JournalErr) (r : Result T JournalErr) → HasJournalCause before now r → r ≡ Err e → HasErrCause before now e
+pub journal_cause : {T : Type 0} (before now : ℕ) (e : JournalErr) (r : Result T JournalErr) → HasJournalCause before now r →
+    r ≡ Err e → HasErrCause before now e
 journal_cause before now e r cause is = record {
   later = cause.later;
   failed = λ fault. cause.failed (is ∙ ap (λ (x : JournalErr). Err x) fault);
@@ -51,7 +52,8 @@ journal_cause before now e r cause is = record {
 -- the server after a file was made is the one that the rules make
 pub made_after : (old new : Server) (file : ℕ) (raw : RawMap) (tag : ℕ) (zoned : Bool) (chosen : List ℕ) (step : Step)
     → create_file old file raw tag zoned chosen ≡ Ok step → new ≡ step.state → new ≡ after_making old file raw tag zoned chosen
-made_after old new file raw tag zoned chosen step made is = is ∙ ap (λ (r : Result Step Refusal). (unless_made old r).state) (sym made)
+made_after old new file raw tag zoned chosen step made is =
+    is ∙ ap (λ (r : Result Step Refusal). (unless_made old r).state) (sym made)
 
 -- a log without a record or with it stands for the server before it or after it
 with_or_without : (records : List (List ℕ)) (s t : Server) (bytes : List ℕ) → LeadTo records s → after_record s bytes ≡ Some t
@@ -74,7 +76,8 @@ module _ {D : Type 0} (k : Ghosts D) where
   }
 
   -- one stretch after another
-  pub on_and_on : (old mid new : D) (P : List ℕ → Type 0) → LeavesOnly k.moment k.left_since old mid P → LeavesOnly k.moment k.left_since mid new P
+  pub on_and_on : (old mid new : D) (P : List ℕ → Type 0) → LeavesOnly k.moment k.left_since old mid P →
+      LeavesOnly k.moment k.left_since mid new P
       → LeavesOnly k.moment k.left_since old new P
   on_and_on old mid new P first next = record {
     later = omega (arith, first.later, next.later);
@@ -83,7 +86,8 @@ module _ {D : Type 0} (k : Ghosts D) where
   }
 
   -- where no call is made
-  pub still : ((disk : D) (c : List ℕ) → k.left_since disk (k.moment disk) c → k.may_leave disk c) → (s t : Server) (log : GateLog D)
+  pub still : ((disk : D) (c : List ℕ) → k.left_since disk (k.moment disk) c → k.may_leave disk c) →
+      (s t : Server) (log : GateLog D)
       → KeepsServer k s log → LeavesEither k (disk_of log) (disk_of log) s t
   still only_now s t log kept = record {
     later = omega arith;
@@ -92,13 +96,15 @@ module _ {D : Type 0} (k : Ghosts D) where
   }
 
   -- the record of what a call changed is added, or isn't
-  pub added_or_not : (was : Server) (now : Keeping) (old : GateLog D) (new : D) (bytes : List ℕ) → whole record_in bytes ≡ Ok now.changes
+  pub added_or_not : (was : Server) (now : Keeping) (old : GateLog D) (new : D) (bytes : List ℕ) →
+      whole record_in bytes ≡ Ok now.changes
       → ((header : List ℕ) (bodies : List (List ℕ)) → IsAtRest k.tells k.seen k.may_leave header bodies old
       → LeavesOnly k.moment k.left_since (disk_of old) new (λ c. IsLog header bodies c ⊎ IsLog header (bodies ++ bytes ∷ []) c))
       → Follows was now → KeepsServer k was old → LeavesEither k (disk_of old) new was (crash now.server)
   added_or_not was now old new bytes spelled leaves follows kept =
       weaker (disk_of old) new _ (StandForEither was (crash now.server)) (leaves journal_header kept.records kept.rest)
-      (with_or_without kept.records was (crash now.server) bytes kept.lead (entries_lead was (crash now.server) now.changes bytes spelled follows))
+      (with_or_without kept.records was (crash now.server) bytes kept.lead
+      (entries_lead was (crash now.server) now.changes bytes spelled follows))
 
   -- and once it was, the disk has the server after the call
   pub added : (was : Server) (now : Keeping) (old new : GateLog D) (bytes : List ℕ) → whole record_in bytes ≡ Ok now.changes
@@ -108,11 +114,13 @@ module _ {D : Type 0} (k : Ghosts D) where
   added was now old new bytes spelled rests follows kept = record {
     records = kept.records ++ bytes ∷ [];
     rest = rests journal_header kept.records kept.rest;
-    lead = lead_more kept.records was (crash now.server) bytes kept.lead (entries_lead was (crash now.server) now.changes bytes spelled follows);
+    lead = lead_more kept.records was (crash now.server) bytes kept.lead
+        (entries_lead was (crash now.server) now.changes bytes spelled follows);
   }
 
   -- where there are no entries, the disk has it already
-  pub unchanged : (was : Server) (now : Keeping) (log : GateLog D) → length now.changes.entries ≡ 0 → Follows was now → KeepsServer k was log
+  pub unchanged : (was : Server) (now : Keeping) (log : GateLog D) → length now.changes.entries ≡ 0 → Follows was now →
+      KeepsServer k was log
       → KeepsServer k (crash now.server) log
   unchanged was now log none follows kept =
       subst (λ (s : Server). KeepsServer k s log) (none_lead was (crash now.server) now.changes none follows) kept
@@ -120,11 +128,16 @@ module _ {D : Type 0} (k : Ghosts D) where
   -- ---- calls
 
   -- one that was answered; `kept` is the server that it made
-  pub answered : (old new : JournaledServer D) (kept : Keeping) → Keeps old.kept kept → IsQuiet old.kept kept → kept.is_over ≡ false → new.kept ≡ kept
-      → ((was : Server) → Follows was kept → KeepsServer k was old.log → LeavesEither k (disk_in old) (disk_in new) was (crash kept.server))
-      → ((was : Server) → Follows was kept → KeepsServer k was old.log → IsKept k new) → (kept.changes.entries ≡ [] → disk_in new ≡ disk_in old) → Answered k old new
+  pub answered : (old new : JournaledServer D) (kept : Keeping) → Keeps old.kept kept → IsQuiet old.kept kept →
+      kept.is_over ≡ false → new.kept ≡ kept
+      → ((was : Server) → Follows was kept → KeepsServer k was old.log →
+      LeavesEither k (disk_in old) (disk_in new) was (crash kept.server))
+      → ((was : Server) → Follows was kept → KeepsServer k was old.log → IsKept k new) →
+      (kept.changes.entries ≡ [] → disk_in new ≡ disk_in old) → Answered k old new
   answered old new kept keeps quiet runs same leaves keeps_on still = record {
-    any_moment = λ is. subst (λ (x : Keeping). LeavesEither k (disk_in old) (disk_in new) (crash (core_of old)) (crash x.server)) (sym same)
+    any_moment =
+        λ is. subst (λ (x : Keeping). LeavesEither k (disk_in old) (disk_in new) (crash (core_of old)) (crash x.server))
+        (sym same)
         (leaves (crash (core_of old)) (keeps runs) is);
     kept = λ is. keeps_on (crash (core_of old)) (keeps runs) is;
     idle = λ is. still (quiet runs (is ∙ ap (λ (x : Keeping). crash x.server) same));
@@ -133,19 +146,24 @@ module _ {D : Type 0} (k : Ghosts D) where
   }
 
   -- one that was cut off before anything was written
-  pub stopped : ((disk : D) (c : List ℕ) → k.left_since disk (k.moment disk) c → k.may_leave disk c) → (old new : JournaledServer D) (after : List ℕ → Server)
+  pub stopped : ((disk : D) (c : List ℕ) → k.left_since disk (k.moment disk) c → k.may_leave disk c) →
+      (old new : JournaledServer D) (after : List ℕ → Server)
       → new.log ≡ old.log → CutOff k old new after
   stopped only_now old new after same = record {
     chosen = [];
-    any_moment = λ is. subst (λ (log : GateLog D). LeavesEither k (disk_in old) (disk_of log) (crash (core_of old)) (crash (after []))) (sym same)
+    any_moment =
+        λ is. subst (λ (log : GateLog D). LeavesEither k (disk_in old) (disk_of log) (crash (core_of old)) (crash (after [])))
+        (sym same)
         (still only_now (crash (core_of old)) (crash (after [])) old.log is);
     idle = λ is. ap (λ (log : GateLog D). disk_of log) same;
   }
 
   -- one that was cut off while its record was added; `kept` is the server that it made
-  pub cut_off : (old new : JournaledServer D) (kept : Keeping) (after : List ℕ → Server) (chosen : List ℕ) → kept.server ≡ after chosen
+  pub cut_off : (old new : JournaledServer D) (kept : Keeping) (after : List ℕ → Server) (chosen : List ℕ) →
+      kept.server ≡ after chosen
       → Keeps old.kept kept → IsQuiet old.kept kept → kept.is_over ≡ false
-      → ((was : Server) → Follows was kept → KeepsServer k was old.log → LeavesEither k (disk_in old) (disk_in new) was (crash kept.server))
+      → ((was : Server) → Follows was kept → KeepsServer k was old.log →
+      LeavesEither k (disk_in old) (disk_in new) was (crash kept.server))
       → (kept.changes.entries ≡ [] → disk_in new ≡ disk_in old) → CutOff k old new after
   cut_off old new kept after chosen is_after keeps quiet runs leaves still = record {
     chosen = chosen;
@@ -157,8 +175,10 @@ module _ {D : Type 0} (k : Ghosts D) where
   -- ---- files
 
   -- the rules refuse a file, and nothing changed
-  pub refused : (old new : JournaledServer D) (file : ℕ) (raw : RawMap) (tag : ℕ) (zoned : Bool) (e : FileErr) → (e ≡ cause.Memory → ⊥) → (reason : Refusal)
-      → refusal (core_of old) file raw zoned ≡ Some reason → e ≡ cause_of reason → Stays old new → MakesNot k old new file raw tag zoned (file_told_by e)
+  pub refused : (old new : JournaledServer D) (file : ℕ) (raw : RawMap) (tag : ℕ) (zoned : Bool) (e : FileErr) →
+      (e ≡ cause.Memory → ⊥) → (reason : Refusal)
+      → refusal (core_of old) file raw zoned ≡ Some reason → e ≡ cause_of reason → Stays old new →
+      MakesNot k old new file raw tag zoned (file_told_by e)
   refused old new file raw tag zoned cause.FileExists other reason is told stays =
       record { reason = reason; refused = is; told = ap (λ (x : FileErr). file_told_by x) told; stays = stays }
   refused old new file raw tag zoned (cause.BadMap why) other reason is told stays =

@@ -54,7 +54,8 @@ module _ {D : Type 0} (k : Ghosts D) where
   }
 
   -- another header
-  pub other_header_at : (header : List ℕ) (disk : D) (at gate : ℕ) (c : List ℕ) → StandsAt k.tells k.seen k.may_leave header [] disk at gate
+  pub other_header_at : (header : List ℕ) (disk : D) (at gate : ℕ) (c : List ℕ) →
+      StandsAt k.tells k.seen k.may_leave header [] disk at gate
       → k.seen disk ≡ c → (header ≡ journal_header → ⊥) → IsNoJournalAt c 0
   other_header_at header disk at gate c s same other = inr (inl (record {
     header = header;
@@ -65,7 +66,8 @@ module _ {D : Type 0} (k : Ghosts D) where
   }))
 
   -- before the first record
-  pub taken_first : (header : List ℕ) (reader : LogReader D) → header ≡ journal_header → HasRead k.tells k.seen k.may_leave header [] reader
+  pub taken_first : (header : List ℕ) (reader : LogReader D) → header ≡ journal_header →
+      HasRead k.tells k.seen k.may_leave header [] reader
       → HasTaken k (new_server []) reader
   taken_first header reader is read = record {
     records = [];
@@ -74,7 +76,8 @@ module _ {D : Type 0} (k : Ghosts D) where
   }
 
   -- one record more
-  pub taken_more : (s t : Server) (bytes : List ℕ) (old new : LogReader D) → HasTaken k s old → after_record s bytes ≡ Some t → Reads old new bytes
+  pub taken_more : (s t : Server) (bytes : List ℕ) (old new : LogReader D) → HasTaken k s old → after_record s bytes ≡ Some t →
+      Reads old new bytes
       → HasTaken k t new
   taken_more s t bytes old new taken leads reads = record {
     records = taken.records ++ bytes ∷ [];
@@ -84,13 +87,15 @@ module _ {D : Type 0} (k : Ghosts D) where
 
   -- none more
   pub taken_none : (s : Server) (old new : LogReader D) → HasTaken k s old
-      → ((header : List ℕ) (bodies : List (List ℕ)) → HasRead k.tells k.seen k.may_leave header bodies old → HasRead k.tells k.seen k.may_leave header bodies new)
+      → ((header : List ℕ) (bodies : List (List ℕ)) → HasRead k.tells k.seen k.may_leave header bodies old →
+      HasRead k.tells k.seen k.may_leave header bodies new)
       → HasTaken k s new
   taken_none s old new taken reads =
       record { records = taken.records; lead = taken.lead; read = reads journal_header taken.records taken.read }
 
   -- one of which nothing can be made
-  pub not_taken : (s : Server) (bytes : List ℕ) (old new : LogReader D) (c : List ℕ) (at : ℕ) → HasTaken k s old → after_record s bytes ≡ None
+  pub not_taken : (s : Server) (bytes : List ℕ) (old new : LogReader D) (c : List ℕ) (at : ℕ) → HasTaken k s old →
+      after_record s bytes ≡ None
       → Reads old new bytes → k.seen (read_disk old) ≡ c → k.seen (read_disk new) ≡ c → at ≡ place_of old → IsNoJournalAt c at
   not_taken s bytes old new c at taken none reads seen_old seen_new is =
       let behind = reads journal_header taken.records taken.read in
@@ -107,7 +112,9 @@ module _ {D : Type 0} (k : Ghosts D) where
 
   -- the log's error is one of the journal
   pub broken_told : (s : Server) (reader : LogReader D) (c : List ℕ) (e : LogErr) (T : Type 0) → (T → HasTaken k s reader)
-      → NotALogSays (λ at. (header : List ℕ) (bodies : List (List ℕ)) → HasRead k.tells k.seen k.may_leave header bodies reader → IsBrokenAt (k.seen (read_disk reader)) at) e
+      → NotALogSays
+      (λ at. (header : List ℕ) (bodies : List (List ℕ)) → HasRead k.tells k.seen k.may_leave header bodies reader →
+      IsBrokenAt (k.seen (read_disk reader)) at) e
       → k.seen (read_disk reader) ≡ c → NotAJournalSays (λ at. T → IsNoJournalAt c at) (told_by e)
   broken_told s reader c (log.NotEmpty size) T taken says same = says
   broken_told s reader c (log.NotALog at) T taken says same =
@@ -117,13 +124,15 @@ module _ {D : Type 0} (k : Ghosts D) where
 
   -- a log that was read to its end has the server
   pub taken_kept : (s : Server) (reader : LogReader D) (log : GateLog D) → HasTaken k s reader
-      → ((header : List ℕ) (bodies : List (List ℕ)) → HasRead k.tells k.seen k.may_leave header bodies reader → IsAtRest k.tells k.seen k.may_leave header bodies log)
+      → ((header : List ℕ) (bodies : List (List ℕ)) → HasRead k.tells k.seen k.may_leave header bodies reader →
+      IsAtRest k.tells k.seen k.may_leave header bodies log)
       → KeepsServer k s log
   taken_kept s reader log taken rests =
       record { records = taken.records; rest = rests journal_header taken.records taken.read; lead = taken.lead }
 
   -- a new log has the server without drives and files
-  pub new_kept : (header : List ℕ) (log : GateLog D) → header ≡ journal_header → IsAtRest k.tells k.seen k.may_leave header [] log → KeepsServer k (new_server []) log
+  pub new_kept : (header : List ℕ) (log : GateLog D) → header ≡ journal_header →
+      IsAtRest k.tells k.seen k.may_leave header [] log → KeepsServer k (new_server []) log
   new_kept header log is rest = record {
     records = [];
     rest = subst (λ (h : List ℕ). IsAtRest k.tells k.seen k.may_leave h [] log) is rest;
@@ -131,17 +140,20 @@ module _ {D : Type 0} (k : Ghosts D) where
   }
 
   -- what was read is a journal of the server
-  pub stood_for : (disk : D) (s : Server) (log : GateLog D) → OnlyRead k.tells k.seen k.may_leave k.moment k.left_since disk (disk_of log) → KeepsServer k s log
+  pub stood_for : (disk : D) (s : Server) (log : GateLog D) →
+      OnlyRead k.tells k.seen k.may_leave k.moment k.left_since disk (disk_of log) → KeepsServer k s log
       → IsJournalOf s (k.seen disk)
   stood_for disk s log read kept = subst (λ (c : List ℕ). IsJournalOf s c) read.seen_same (stands k s log kept)
 
   -- and then what the step of the opening changed was added, or wasn't
-  pub opening_leaves : ((d : D) (c : List ℕ) → k.left_since d (k.moment d) c → k.may_leave d c) → (disk new : D) (s : Server) (log : GateLog D)
+  pub opening_leaves : ((d : D) (c : List ℕ) → k.left_since d (k.moment d) c → k.may_leave d c) →
+      (disk new : D) (s : Server) (log : GateLog D)
       → OnlyRead k.tells k.seen k.may_leave k.moment k.left_since disk (disk_of log) → KeepsServer k s log
       → LeavesEither k (disk_of log) new s (crash (reopen s).state) → LeavesOpening k disk new
   opening_leaves only_now disk new s log read kept leaves =
       on_and_on k disk (disk_of log) new (λ c. k.may_leave disk c ⊎ IsOfOpening (k.seen disk) c)
-      (leaves_as_before k.tells k.seen k.may_leave k.moment k.left_since disk (disk_of log) (λ c. k.may_leave disk c ⊎ IsOfOpening (k.seen disk) c) read only_now (λ c left. inl left))
+      (leaves_as_before k.tells k.seen k.may_leave k.moment k.left_since disk (disk_of log)
+      (λ c. k.may_leave disk c ⊎ IsOfOpening (k.seen disk) c) read only_now (λ c left. inl left))
       (weaker k (disk_of log) new _ (λ c. k.may_leave disk c ⊎ IsOfOpening (k.seen disk) c) leaves
       (λ c either. inr (s, stood_for disk s log read kept, either)))
 
@@ -150,12 +162,15 @@ module _ {D : Type 0} (k : Ghosts D) where
       → OnlyRead k.tells k.seen k.may_leave k.moment k.left_since disk read → LeavesOpening k disk new
   read_leaves only_now disk read new same only_read =
       subst (λ (d : D). LeavesOpening k disk d) (sym same)
-      (leaves_as_before k.tells k.seen k.may_leave k.moment k.left_since disk read (λ c. k.may_leave disk c ⊎ IsOfOpening (k.seen disk) c)
+      (leaves_as_before k.tells k.seen k.may_leave k.moment k.left_since disk read
+      (λ c. k.may_leave disk c ⊎ IsOfOpening (k.seen disk) c)
       only_read only_now (λ c left. inl left))
 
   -- the disk of the log was only read so far
-  pub read_so_far : (disk : D) (first reader : LogReader D) (log : GateLog D) → OnlyRead k.tells k.seen k.may_leave k.moment k.left_since disk (read_disk first)
-      → OnlyRead k.tells k.seen k.may_leave k.moment k.left_since (read_disk first) (read_disk reader) → disk_of log ≡ read_disk reader
+  pub read_so_far : (disk : D) (first reader : LogReader D) (log : GateLog D) →
+      OnlyRead k.tells k.seen k.may_leave k.moment k.left_since disk (read_disk first)
+      → OnlyRead k.tells k.seen k.may_leave k.moment k.left_since (read_disk first) (read_disk reader) →
+      disk_of log ≡ read_disk reader
       → OnlyRead k.tells k.seen k.may_leave k.moment k.left_since disk (disk_of log)
   read_so_far disk first reader log begun more same =
       subst (λ (d : D). OnlyRead k.tells k.seen k.may_leave k.moment k.left_since disk d) (sym same)

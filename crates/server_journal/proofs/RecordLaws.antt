@@ -16,11 +16,13 @@ pub some_bytes : (r : Record) → 0 < length (record_item r)
 unfolding list_item u32_item
 some_bytes r = omega arith
 
-pub replayed-more : (s : Option Server) (records : List (List ℕ)) (bytes : List ℕ) → replayed s (records ++ bytes ∷ []) ≡ after_record_of (replayed s records) bytes
+pub replayed-more : (s : Option Server) (records : List (List ℕ)) (bytes : List ℕ) →
+    replayed s (records ++ bytes ∷ []) ≡ after_record_of (replayed s records) bytes
 replayed-more s [] bytes = refl
 replayed-more s (r ∷ records) bytes = replayed-more (after_record_of s r) records bytes
 
-pub replayed-then : (s : Option Server) (records more : List (List ℕ)) → replayed s (records ++ more) ≡ replayed (replayed s records) more
+pub replayed-then : (s : Option Server) (records more : List (List ℕ)) →
+    replayed s (records ++ more) ≡ replayed (replayed s records) more
 replayed-then s [] more = refl
 replayed-then s (r ∷ records) more = replayed-then (after_record_of s r) records more
 
@@ -29,12 +31,14 @@ replayed-none [] = refl
 replayed-none (r ∷ records) = replayed-none records
 
 -- one record more
-pub lead_more : (records : List (List ℕ)) (s t : Server) (bytes : List ℕ) → LeadTo records s → after_record s bytes ≡ Some t → LeadTo (records ++ bytes ∷ []) t
+pub lead_more : (records : List (List ℕ)) (s t : Server) (bytes : List ℕ) → LeadTo records s → after_record s bytes ≡ Some t →
+    LeadTo (records ++ bytes ∷ []) t
 lead_more records s t bytes lead one =
     replayed-more (Some (new_server [])) records bytes ∙ ap (λ (o : Option Server). after_record_of o bytes) lead ∙ one
 
 -- the bytes of a record lead where its entries do
-pub entries_lead : (s t : Server) (r : Record) (bytes : List ℕ) → whole record_in bytes ≡ Ok r → applied_all s r.entries ≡ Some t → after_record s bytes ≡ Some t
+pub entries_lead : (s t : Server) (r : Record) (bytes : List ℕ) → whole record_in bytes ≡ Ok r →
+    applied_all s r.entries ≡ Some t → after_record s bytes ≡ Some t
 entries_lead s t r bytes spelled made = ap (λ (x : Result Record LayoutErr). after_reading s x) spelled ∙ made
 
 -- no entries lead nowhere

@@ -17,5 +17,6 @@ module _ {D : Type 0} (k : Ghosts D) where
   }
 
   -- and so does whatever a crash leaves
-  pub kept_leaves : (s : Server) (log : GateLog D) → KeepsServer k s log → (c : List ℕ) → k.may_leave (disk_of log) c → IsJournalOf s c
+  pub kept_leaves : (s : Server) (log : GateLog D) → KeepsServer k s log → (c : List ℕ) → k.may_leave (disk_of log) c →
+      IsJournalOf s c
   kept_leaves s log kept c left = subst (IsJournalOf s) (sym (kept.rest.durable c left)) (stands s log kept)

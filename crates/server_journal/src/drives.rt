@@ -24,7 +24,8 @@ impl<D: Disk> JournaledServer<D> {
         requires goes_on { is_over_in self.old ≡ false }
         requires new { IsNew info.number (core_of self.old).drives }
         requires low { info.number < MAX_DRIVES }
-        ensures did { OnOk result (core_of self.new ≡ record (core_of self.old) { drives = add_drive (core_of self.old).drives (drive_of info) }) }
+        ensures did { OnOk result
+            (core_of self.new ≡ record (core_of self.old) { drives = add_drive (core_of self.old).drives (drive_of info) }) }
         ensures answered { OnOk result (Answered D.Disk self.old self.new) }
         ensures cut_off { OnErr result (CutOffBefore D.Disk self.old self.new
             (record (core_of self.old) { drives = add_drive (core_of self.old).drives (drive_of info) })) }

@@ -15,8 +15,8 @@ impl<D: Disk> JournaledServer<D> {
     ghost use Rattle.server_journal.specs.Calls.{Answered, MakesNot};
     ghost use Rattle.server_journal.specs.Journals.{core_of, disk_in, is_over_in};
 
-    /// A file is made on drives that the placer names, and its components are sent CREATE. Zones count for nothing. What changes is
-    /// on the disk at `Ok`.
+    /// A file is made on drives that the placer names, and its components are sent CREATE. Zones count for nothing. What changes
+    /// is on the disk at `Ok`.
     ///
     /// # Errors
     ///

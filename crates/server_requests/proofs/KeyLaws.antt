@@ -1,12 +1,8 @@
 -- No key and one of zeros are alike to an HMAC.
-use Rattle.std.specs.Prelude.{ℕ, List, [], refl, ◌≡◌, replicate}
+use Rattle.std.specs.Prelude.{[], refl, ◌≡◌, replicate}
 use Rattle.hmac_tags.specs.Mac.{hmac}
 use Rattle.osd_capability.specs.Keys.{key_of}
 use Rattle.osd_capability.specs.declared.layout.Capability.{Capability}
-
-no_key : (hash : List ℕ → List ℕ) (text : List ℕ) → hmac hash (replicate 20 0) text ≡ hmac hash [] text
-unfolding hmac
-no_key hash text = refl
 
 pub zeros_as_none : (c : Capability) → key_of (replicate 20 0) c ≡ key_of [] c
 unfolding hmac

@@ -1,5 +1,4 @@
 pub mod RowLaws
-pub mod ReturnLaws
 pub mod KeyLaws
 pub mod SealLaws
 pub mod SizeLaws

@@ -16,7 +16,9 @@ use Rattle.server_requests.specs.Keys.{IsKeyAt}
 -- the bytes before the check value
 length-head : (c : Command) → length (head c) ≡ 256 - check_len c.capability.format
 unfolding head
-length-head c = simp (length-append, length-replicate, length-fields c, length-spelling c.capability) (omega (arith, check_len-bounds c.capability.format))
+length-head c =
+    simp (length-append, length-replicate, length-fields c, length-spelling c.capability)
+    (omega (arith, check_len-bounds c.capability.format))
 
 pub head-taken : (c : Command) → take (256 - check_len c.capability.format) (spelling c) ≡ head c
 unfolding spelling
@@ -24,8 +26,14 @@ head-taken c = rw (← length-head c) (take-append_seam (head c) _)
 
 -- a command's head, its check value under the drive's key, and its payload
 pub sealed_as : (ds : List Drive) (a : Awaited) (key : List ℕ) → IsKeyAt ds a.drive key → (bytes : List ℕ) →
-    bytes ≡ (head a.command ++ take (check_len a.command.capability.format) (check_of (key_of key a.command.capability) (head a.command ++ a.command.payload))) ++ a.command.payload →
+    bytes ≡ (head a.command ++ take (check_len a.command.capability.format)
+    (check_of (key_of key a.command.capability) (head a.command ++ a.command.payload))) ++ a.command.payload →
     bytes ≡ spelling (sealed ds a)
 unfolding spelling check_under
 sealed_as ds a key k bytes e =
-    e ∙ rw (append_assoc, k a.command.capability, head-check a.command (check_of (key_of (key_at ds a.drive) a.command.capability) (head a.command ++ a.command.payload))) refl
+    e ∙ rw (
+      append_assoc,
+      k a.command.capability,
+      head-check a.command (check_of (key_of (key_at ds a.drive) a.command.capability) (head a.command ++ a.command.payload)),
+    )
+    refl

@@ -25,7 +25,15 @@ length-opaque bytes = simp (length-append, length-u32) (omega (arith, length-fix
 small_cred : (c : ObjectCred) → IsCredential c → length (cred_item c) ≤ 192
 small_cred c s =
     simp (length-append, length-u32, length-u64)
-    (omega (arith, length-fixed c.oc_object_id.oid_device_id, length-opaque c.oc_capability_key, length-opaque c.oc_capability, s.device, s.key, s.capability))
+    (omega (
+      arith,
+      length-fixed c.oc_object_id.oid_device_id,
+      length-opaque c.oc_capability_key,
+      length-opaque c.oc_capability,
+      s.device,
+      s.key,
+      s.capability,
+    ))
 
 small_more : (a b : List ℕ) (n : ℕ) → length a ≤ 192 → length b ≤ 192 * n → length (a ++ b) ≤ 192 * suc n
 small_more a b n h k = simp length-append (omega (arith, h, k))
@@ -38,6 +46,7 @@ small_layout : (l : Layout) → IsSmall l.olo_components → length (layout_item
 unfolding list_item
 small_layout l s = simp (length-append, length-u32, length-u64) (omega (arith, small_list l.olo_components s.each, s.few))
 
-pub if_small : (r : Result (List ℕ) Memory) (l : Layout) → IsSmall l.olo_components → IfOk r (λ b. b ≡ layout_item l) → IfOk r IsBody
+pub if_small : (r : Result (List ℕ) Memory) (l : Layout) → IsSmall l.olo_components → IfOk r (λ b. b ≡ layout_item l) →
+    IfOk r IsBody
 if_small (Ok b) l s e = rw e (small_layout l s)
 if_small (Err m) l s e = tt

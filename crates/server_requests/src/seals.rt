@@ -6,10 +6,8 @@ ghost use Rattle.server_requests.specs.Keys.{IsKeyAt, with_number};
 ghost use Rattle.server_requests.specs.Sending.{sent_as, all_sent};
 
 use crate::outgoing::{Sends, Sent};
-use osd_capability::{
-    CHECK_BYTES, DRIVE_KEY_BYTES, FORMAT_SHA256, SHA1_TAG_BYTES, capability_key, check_value,
-};
-use osd_commands::write_command;
+use osd_capability::{DRIVE_KEY_BYTES, capability_key, check_value};
+use osd_commands::{check_len, write_command};
 use osd_lists::{Bytes, Memory, Node};
 use server_rules::{Awaited, Drive};
 use std::alloc::Global;
@@ -38,17 +36,6 @@ pub fn key_of_drive(drives: &[Drive], number: u32) -> [u8; DRIVE_KEY_BYTES]
     match drive_at(drives, number) {
         Some(drive) => drive.key,
         None => [0; DRIVE_KEY_BYTES],
-    }
-}
-
-// How many bytes the check value has in a format.
-fn check_len(format: u8) -> usize
-    ensures { result ≡ check_len format }
-{
-    if format == FORMAT_SHA256 {
-        CHECK_BYTES
-    } else {
-        SHA1_TAG_BYTES
     }
 }
 

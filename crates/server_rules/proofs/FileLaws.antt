@@ -21,7 +21,8 @@ number_at (g ∷ fs) n f e = elim (cases_Bool (g.kept.number == n)) [
 ]
 
 -- the file that was put back is found again, and every other is as it was
-pub put_same : (fs : List File) (n : ℕ) (f g : File) → f.kept.number ≡ n → file_at fs n ≡ Some g → file_at (put_file fs n f) n ≡ Some f
+pub put_same : (fs : List File) (n : ℕ) (f g : File) → f.kept.number ≡ n → file_at fs n ≡ Some g →
+    file_at (put_file fs n f) n ≡ Some f
 unfolding file_at put_file
 put_same [] n f g m e = absurd (cc e)
 put_same (h ∷ hs) n f g m e = elim (cases_Bool (h.kept.number == n)) [

@@ -58,7 +58,8 @@ leaves_here g s = record { number = refl; safe = s }
 pub leaves_fence : (kind : JobKind) (format : ℕ) (g : Going) → Leaves g.file.kept (fence_begins kind format g)
 unfolding fence_begins
 leaves_fence kind format g =
-    left_by (ending g.file.kept format) (fences kind (keeping g (ending g.file.kept format))) (ran_fences kind (keeping g (ending g.file.kept format))) refl
+    left_by (ending g.file.kept format) (fences kind (keeping g (ending g.file.kept format)))
+        (ran_fences kind (keeping g (ending g.file.kept format))) refl
 
 pub none_in : (g : Going) (drive : ℕ) (j : Option Job) → j ≡ None → g.file.job ≡ None → (declared_in g drive j).file.job ≡ None
 none_in g drive None e n = n
@@ -78,7 +79,8 @@ leaves_declared g drive s = record {
   safe = record {
     rests = (ran_declares g drive s.rests).rests;
     apart = apart_same (declares g drive).file.kept.grants g.file.kept.grants (ran_declares g drive s.rests).grants s.apart;
-    alone = alone_from g.file.job (declares g drive).file.job g.file.kept.grants (declares g drive).file.kept.grants (none_declared g drive)
+    alone = alone_from g.file.job (declares g drive).file.job g.file.kept.grants (declares g drive).file.kept.grants
+        (none_declared g drive)
         (ran_declares g drive s.rests).grants s.alone;
   };
 }
@@ -110,7 +112,8 @@ leaves_opened format g s = elim (cases_Bool (is_unsettled g.file.kept)) [
 
 -- ---- a reply
 
-pub some_renewed : (a b c : Awaited) (cs js : List Awaited) → js ≡ c ∷ cs → map (renewed a b) js ≡ renewed a b c ∷ map (renewed a b) cs
+pub some_renewed : (a b c : Awaited) (cs js : List Awaited) → js ≡ c ∷ cs →
+    map (renewed a b) js ≡ renewed a b c ∷ map (renewed a b) cs
 some_renewed a b c cs js e = rw e refl
 
 pub ran_full_up : (g : Going) (j : Job) (a : Awaited) (work : Work) → Rests g.file.job → Ran g.file.kept (fills_up g j a work)
@@ -119,14 +122,16 @@ ran_full_up g j a (Gathers t todo) h = ran_full g t
 ran_full_up g j a (Fills t todo) h = ran_full g t
 ran_full_up g j a work h = ran_loses _ j work _ false h
 
-pub ran_hears : (g : Going) (j : Job) (a : Awaited) (r : Reply) (as_ : Hearing) → Rests (Some j) → Rests g.file.job → Ran g.file.kept (hears g j a r as_)
+pub ran_hears : (g : Going) (j : Job) (a : Awaited) (r : Reply) (as_ : Hearing) → Rests (Some j) → Rests g.file.job →
+    Ran g.file.kept (hears g j a r as_)
 ran_hears g j a r Older w h = record {
   number = refl;
   map = refl;
   size = refl;
   high = refl;
   grants = refl;
-  rests = (renewed a (again_in_2 a g.effects.nonce) w.0, map (renewed a (again_in_2 a g.effects.nonce)) w.1, some_renewed a _ w.0 w.1 j.awaited w.2);
+  rests = (renewed a (again_in_2 a g.effects.nonce) w.0, map (renewed a (again_in_2 a g.effects.nonce)) w.1,
+      some_renewed a _ w.0 w.1 j.awaited w.2);
 }
 ran_hears g j a r Full w h = ran_full_up g j a j.work h
 ran_hears g j a r Done w h = ran_waits_or_on g j j.work _ _
@@ -136,11 +141,14 @@ abbrev pub Heard_out : Kept → Option Going → Type 0
 Heard_out k None = Unit {0}
 Heard_out k (Some g) = Leaves k g
 
-pub out_by : (g : Going) (r : Reply) (j : Job) (o : Option Awaited) → Rests (Some j) → g.file.kept.grants ≡ [] → IsSafe g.file → Heard_out g.file.kept (heard_by g r j o)
+pub out_by : (g : Going) (r : Reply) (j : Job) (o : Option Awaited) → Rests (Some j) → g.file.kept.grants ≡ [] → IsSafe g.file →
+    Heard_out g.file.kept (heard_by g r j o)
 out_by g r j None w e s = tt
-out_by g r j (Some a) w e s = left_by g.file.kept (hears g j a r (hearing g.file.kept a r)) (ran_hears g j a r (hearing g.file.kept a r) w s.rests) e
+out_by g r j (Some a) w e s =
+    left_by g.file.kept (hears g j a r (hearing g.file.kept a r)) (ran_hears g j a r (hearing g.file.kept a r) w s.rests) e
 
-pub out_in : (g : Going) (drive : ℕ) (r : Reply) (j : Option Job) → g.file.job ≡ j → IsSafe g.file → Heard_out g.file.kept (heard_in g drive r j)
+pub out_in : (g : Going) (drive : ℕ) (r : Reply) (j : Option Job) → g.file.job ≡ j → IsSafe g.file →
+    Heard_out g.file.kept (heard_in g drive r j)
 out_in g drive r None e s = tt
 out_in g drive r (Some j) e s = out_by g r j (find (answers drive r) j.awaited) (rw e at s.rests) (rw e at s.alone) s
 
@@ -163,7 +171,8 @@ given f next g e = elim (cases_Bool (nat_lt GREATEST_GRANT next)) [
   | inr z ↦ by_lacked_gives (lacked f g) _ (rw z at e)
 ]
 
-pub leaves_late : (go : Going) (next : ℕ) (g : Grant) (l : Late) → late go.file.kept next g ≡ l → go.file.job ≡ None → grant_of go.file.kept.grants g.client ≡ None → IsSafe go.file →
+pub leaves_late : (go : Going) (next : ℕ) (g : Grant) (l : Late) → late go.file.kept next g ≡ l → go.file.job ≡ None →
+    grant_of go.file.kept.grants g.client ≡ None → IsSafe go.file →
     Leaves go.file.kept (by_late go g l).going
 leaves_late go next g NoNumber e n own s = leaves_here go s
 leaves_late go next g (Lacks k) e n own s = leaves_here go s
@@ -177,12 +186,14 @@ leaves_late go next g Gives e n own s = record {
   };
 }
 
-pub leaves_given : (go : Going) (next : ℕ) (g : Grant) → go.file.job ≡ None → grant_of go.file.kept.grants g.client ≡ None → IsSafe go.file →
+pub leaves_given : (go : Going) (next : ℕ) (g : Grant) → go.file.job ≡ None → grant_of go.file.kept.grants g.client ≡ None →
+    IsSafe go.file →
     Leaves go.file.kept (give_or_refuse go next g).going
 unfolding give_or_refuse
 leaves_given go next g n own s = leaves_late go next g (late go.file.kept next g) refl n own s
 
-pub leaves_after : (go : Going) (next : ℕ) (g : Grant) (j : Option Job) → go.file.job ≡ j → grant_of go.file.kept.grants g.client ≡ None → IsSafe go.file →
+pub leaves_after : (go : Going) (next : ℕ) (g : Grant) (j : Option Job) → go.file.job ≡ j →
+    grant_of go.file.kept.grants g.client ≡ None → IsSafe go.file →
     Leaves go.file.kept (after_fence go next g j).going
 leaves_after go next g None n own s = leaves_given go next g n own s
 leaves_after go next g (Some j) n own s = leaves_here go s
@@ -204,16 +215,21 @@ pub no_fence : (now : ℕ) (gs : List Grant) (g : Grant) → must_fence now gs g
 unfolding must_fence
 no_fence now gs g e = grind (arith, e)
 
-pub leaves_first : (go : Going) (next format : ℕ) (g : Grant) → IsSafe go.file → Leaves go.file.kept (fence_first go next format g).going
+pub leaves_first : (go : Going) (next format : ℕ) (g : Grant) → IsSafe go.file →
+    Leaves go.file.kept (fence_first go next format g).going
 unfolding fence_first
 leaves_first go next format g s = elim (cases_Bool (go.file.kept.tag == GREATEST_TAG)) [
   | inl t ↦ rw t (record { number = refl; safe = s })
-  | inr z ↦ rw z (then_leaves go.file.kept (fence_begins Revoking format go) (fence_then (fence_begins Revoking format go) next g).going (leaves_fence Revoking format go)
+  | inr z ↦ rw z
+      (then_leaves go.file.kept (fence_begins Revoking format go) (fence_then (fence_begins Revoking format go) next g).going
+      (leaves_fence Revoking format go)
       (leaves_after (fence_begins Revoking format go) next g (fence_begins Revoking format go).file.job refl
-      (nobody_left (fence_begins Revoking format go).file.kept.grants g.client (fence_leaves_none Revoking format go)) (leaves_fence Revoking format go).safe))
+      (nobody_left (fence_begins Revoking format go).file.kept.grants g.client (fence_leaves_none Revoking format go))
+          (leaves_fence Revoking format go).safe))
 ]
 
-pub leaves_grants : (go : Going) (next format now : ℕ) (g : Grant) → go.file.job ≡ None → IsSafe go.file → Leaves go.file.kept (on_grants go next format now g).going
+pub leaves_grants : (go : Going) (next format now : ℕ) (g : Grant) → go.file.job ≡ None → IsSafe go.file →
+    Leaves go.file.kept (on_grants go next format now g).going
 unfolding on_grants
 leaves_grants go next format now g n s = elim (cases_Bool (must_fence now go.file.kept.grants g)) [
   | inl t ↦ rw t (leaves_first go next format g s)
@@ -235,16 +251,19 @@ idle f iomode offset count e = elim (cases_Bool (not ((iomode == 1) || (iomode =
   ]
 ]
 
-pub leaves_early : (go : Going) (next format now : ℕ) (g : Grant) (e : Early) → (e ≡ On → go.file.job ≡ None) → IsSafe go.file → Leaves go.file.kept (by_early go next format now g e).going
+pub leaves_early : (go : Going) (next format now : ℕ) (g : Grant) (e : Early) → (e ≡ On → go.file.job ≡ None) → IsSafe go.file →
+    Leaves go.file.kept (by_early go next format now g e).going
 leaves_early go next format now g BadMode n s = leaves_here go s
 leaves_early go next format now g Invalid n s = leaves_here go s
 leaves_early go next format now g Unable n s = leaves_here go s
 leaves_early go next format now g (Waits k) n s = leaves_here go s
 leaves_early go next format now g On n s = leaves_grants go next format now g (n refl) s
 
-pub leaves_gets : (go : Going) (next format now client iomode offset count : ℕ) → IsSafe go.file → Leaves go.file.kept (gets go next format now client iomode offset count).going
+pub leaves_gets : (go : Going) (next format now client iomode offset count : ℕ) → IsSafe go.file →
+    Leaves go.file.kept (gets go next format now client iomode offset count).going
 unfolding gets
-leaves_gets go next format now client iomode offset count s = leaves_early go next format now _ (early go.file iomode offset count) (idle go.file iomode offset count) s
+leaves_gets go next format now client iomode offset count s =
+    leaves_early go next format now _ (early go.file iomode offset count) (idle go.file iomode offset count) s
 
 -- ---- LAYOUTCOMMIT and LAYOUTRETURN
 
@@ -253,40 +272,49 @@ leaves_commit go NoCommit s = leaves_here go s
 leaves_commit go Wrong s = leaves_here go s
 leaves_commit go (Sizes size) s = record { number = refl; safe = s }
 
-pub leaves_commits : (go : Going) (client : ℕ) (last : Option ℕ) → IsSafe go.file → Leaves go.file.kept (commits go client last).going
+pub leaves_commits : (go : Going) (client : ℕ) (last : Option ℕ) → IsSafe go.file →
+    Leaves go.file.kept (commits go client last).going
 unfolding commits
 leaves_commits go client last s = leaves_commit go (commit_row go.file.kept client last) s
 
-pub leaves_reports : (go : Going) (ks : List ℕ) (cs : List Component) (k : ℕ) → IsSafe go.file → Leaves go.file.kept (reports_from go ks cs k)
+pub leaves_reports : (go : Going) (ks : List ℕ) (cs : List Component) (k : ℕ) → IsSafe go.file →
+    Leaves go.file.kept (reports_from go ks cs k)
 unfolding reports_from
 leaves_reports go ks [] k s = leaves_here go s
 leaves_reports go ks (at ∷ cs) k s = leaves_reports (noting_if (among k ks) go (Reported k)) ks cs (k + 1) s
 
 pub leaves_loss : (go : Going) (ks : List ℕ) → IsSafe go.file → Leaves go.file.kept (takes_loss go ks)
 unfolding takes_loss
-leaves_loss go ks s = leaves_reports (keeping go (record go.file.kept { components = lose_from ks go.file.kept.components 0 })) ks go.file.kept.components 0 s
+leaves_loss go ks s =
+    leaves_reports
+        (keeping go (record go.file.kept { components = lose_from ks go.file.kept.components 0 })) ks go.file.kept.components 0 s
 
 pub leaves_ended : (go : Going) (client : ℕ) → IsSafe go.file → Leaves go.file.kept (ends_grant go client)
 leaves_ended go client s = record {
   number = refl;
-  safe = record { rests = s.rests; apart = apart_without go.file.kept.grants client s.apart; alone = alone_without go.file.job go.file.kept.grants client s.alone };
+  safe = record { rests = s.rests; apart = apart_without go.file.kept.grants client s.apart; alone =
+      alone_without go.file.job go.file.kept.grants client s.alone };
 }
 
-pub leaves_return : (go : Going) (format client : ℕ) (r : Returned) → IsSafe go.file → Leaves go.file.kept (by_return go format client r).going
+pub leaves_return : (go : Going) (format client : ℕ) (r : Returned) → IsSafe go.file →
+    Leaves go.file.kept (by_return go format client r).going
 leaves_return go format client NoGrant s = leaves_here go s
 leaves_return go format client Clean s = leaves_ended go client s
 leaves_return go format client (Taken ks) s =
-    then_leaves go.file.kept (takes_loss go ks) (ends_grant (takes_loss go ks) client) (leaves_loss go ks s) (leaves_ended (takes_loss go ks) client (leaves_loss go ks s).safe)
+    then_leaves go.file.kept (takes_loss go ks) (ends_grant (takes_loss go ks) client) (leaves_loss go ks s)
+        (leaves_ended (takes_loss go ks) client (leaves_loss go ks s).safe)
 leaves_return go format client TooMany s = leaves_here (noting go Spent) s
 leaves_return go format client Fencing s = leaves_fence Revoking format go
 
-pub leaves_returns : (go : Going) (format client : ℕ) (report : List IoErr) → IsSafe go.file → Leaves go.file.kept (returns_on go format client report).going
+pub leaves_returns : (go : Going) (format client : ℕ) (report : List IoErr) → IsSafe go.file →
+    Leaves go.file.kept (returns_on go format client report).going
 unfolding returns_on
 leaves_returns go format client report s = leaves_return go format client (return_row go.file.kept client report) s
 
 -- ---- a request
 
-pub leaves_served : (go : Going) (next format now client : ℕ) (args : RequestArgs) → IsSafe go.file → Leaves go.file.kept (serves go next format now client args).going
+pub leaves_served : (go : Going) (next format now client : ℕ) (args : RequestArgs) → IsSafe go.file →
+    Leaves go.file.kept (serves go next format now client args).going
 leaves_served go next format now client (Get iomode offset count) s = leaves_gets go next format now client iomode offset count s
 leaves_served go next format now client (Commit last) s = leaves_commits go client last s
 leaves_served go next format now client (Return report) s = leaves_returns go format client report s

@@ -17,9 +17,11 @@ use Rattle.server_rules.specs.Laws.{Rests, Ran}
 pub ran_over : (g : Going) → Ran g.file.kept (over g)
 ran_over g = record { number = refl; map = refl; size = refl; high = refl; grants = refl; rests = tt }
 
-pub ran_rests_or : (cs : List Awaited) (g : Going) (kind : JobKind) (work : Work) (later : Going) → Ran g.file.kept later → Ran g.file.kept (rests_or cs g kind work later)
+pub ran_rests_or : (cs : List Awaited) (g : Going) (kind : JobKind) (work : Work) (later : Going) → Ran g.file.kept later →
+    Ran g.file.kept (rests_or cs g kind work later)
 ran_rests_or [] g kind work later h = h
-ran_rests_or (c ∷ cs) g kind work later h = record { number = refl; map = refl; size = refl; high = refl; grants = refl; rests = (c, cs, refl) }
+ran_rests_or (c ∷ cs) g kind work later h =
+    record { number = refl; map = refl; size = refl; high = refl; grants = refl; rests = (c, cs, refl) }
 
 -- ---- audit
 
@@ -36,7 +38,8 @@ ran_audit g = ran_rests_or _ g _ _ _ (ran_audits g _ _)
 
 pub ran_makes_or : (g : Going) (t : Option Target) (later : Going) → Ran g.file.kept later → Ran g.file.kept (makes_or g t later)
 ran_makes_or g None later h = h
-ran_makes_or g (Some t) later h = record { number = refl; map = refl; size = refl; high = refl; grants = refl; rests = (_, _, refl) }
+ran_makes_or g (Some t) later h =
+    record { number = refl; map = refl; size = refl; high = refl; grants = refl; rests = (_, _, refl) }
 
 pub ran_rebuilds : (g : Going) (cs : List Component) (k : ℕ) → Ran g.file.kept (rebuilds g cs k)
 unfolding rebuilds
@@ -48,7 +51,8 @@ unfolding fills
 ran_fills g t [] = ran_rebuilds _ _ _
 ran_fills g t (p ∷ ps) = ran_rests_or _ g _ _ _ (ran_rebuilds _ _ _)
 
-pub ran_filling : (g : Going) (t : Target) (p : Piece) (ps : List Piece) (bytes : List ℕ) → Ran g.file.kept (filling g t p ps bytes)
+pub ran_filling : (g : Going) (t : Target) (p : Piece) (ps : List Piece) (bytes : List ℕ) →
+    Ran g.file.kept (filling g t p ps bytes)
 unfolding filling
 ran_filling g t p ps bytes = elim (cases_Bool (nat_lt 0 (end_of bytes (replicate p.count 0)))) [
   | inl e ↦ rw e (record { number = refl; map = refl; size = refl; high = refl; grants = refl; rests = (_, _, refl) })
@@ -74,11 +78,13 @@ unfolding repairs
 ran_repairs kind g [] short = ran_after kind (mended g short)
 ran_repairs kind g (p ∷ ps) short = ran_rests_or _ g _ _ _ (ran_repairs kind g ps _)
 
-pub ran_storing : (kind : JobKind) (g : Going) (p : Piece) (ps : List Piece) (short : List ℕ) (heard : List Heard) → Ran g.file.kept (storing kind g p ps short heard)
+pub ran_storing : (kind : JobKind) (g : Going) (p : Piece) (ps : List Piece) (short : List ℕ) (heard : List Heard) →
+    Ran g.file.kept (storing kind g p ps short heard)
 unfolding storing
 ran_storing kind g p ps short heard = ran_rests_or _ g _ _ _ (ran_repairs kind g ps short)
 
-pub ran_stored : (kind : JobKind) (g : Going) (p : Piece) (ps : List Piece) (short : List ℕ) (broken : Bool) → Ran g.file.kept (stored kind g p ps short broken)
+pub ran_stored : (kind : JobKind) (g : Going) (p : Piece) (ps : List Piece) (short : List ℕ) (broken : Bool) →
+    Ran g.file.kept (stored kind g p ps short broken)
 ran_stored kind g p ps short true = ran_repairs kind g (p ∷ ps) short
 ran_stored kind g p ps short false = ran_repairs kind g ps short
 
@@ -99,11 +105,13 @@ ran_fenced kind g = ran_repair kind _
 pub ran_fences : (kind : JobKind) (g : Going) → Ran g.file.kept (fences kind g)
 ran_fences kind g = ran_rests_or _ g _ _ _ (ran_fenced kind g)
 
-pub ran_fetched : (kind : JobKind) (g : Going) (ps : List Piece) (short : List ℕ) (heard : List Heard) → Ran g.file.kept (fetched kind g ps short heard)
+pub ran_fetched : (kind : JobKind) (g : Going) (ps : List Piece) (short : List ℕ) (heard : List Heard) →
+    Ran g.file.kept (fetched kind g ps short heard)
 ran_fetched kind g [] short heard = ran_repairs kind g [] short
 ran_fetched kind g (p ∷ ps) short heard = ran_storing kind g p ps short heard
 
-pub ran_written : (kind : JobKind) (g : Going) (ps : List Piece) (short : List ℕ) (broken : Bool) → Ran g.file.kept (written kind g ps short broken)
+pub ran_written : (kind : JobKind) (g : Going) (ps : List Piece) (short : List ℕ) (broken : Bool) →
+    Ran g.file.kept (written kind g ps short broken)
 ran_written kind g [] short broken = ran_repairs kind g [] short
 ran_written kind g (p ∷ ps) short broken = ran_stored kind g p ps short broken
 
@@ -131,9 +139,11 @@ ran_on kind (Fills t ps) heard g = ran_filled g t ps
 ran_on kind Lengths heard g = ran_audits g _ _
 ran_on kind (Checks ps t) heard g = ran_checked g ps t heard
 
-pub ran_waits_or_on : (g : Going) (j : Job) (work : Work) (rest : List Awaited) (heard : List Heard) → Ran g.file.kept (waits_or_on g j work rest heard)
+pub ran_waits_or_on : (g : Going) (j : Job) (work : Work) (rest : List Awaited) (heard : List Heard) →
+    Ran g.file.kept (waits_or_on g j work rest heard)
 ran_waits_or_on g j work [] heard = ran_on j.kind work heard g
-ran_waits_or_on g j work (c ∷ cs) heard = record { number = refl; map = refl; size = refl; high = refl; grants = refl; rests = (c, cs, refl) }
+ran_waits_or_on g j work (c ∷ cs) heard =
+    record { number = refl; map = refl; size = refl; high = refl; grants = refl; rests = (c, cs, refl) }
 
 -- ---- a component is lost meanwhile
 
@@ -148,7 +158,8 @@ pub ran_remakes : (g : Going) (t : Target) (gone : Bool) → Rests g.file.job �
 ran_remakes g t true h = ran_gone g t
 ran_remakes g t false h = ran_here g h
 
-pub ran_loses : (g : Going) (j : Job) (work : Work) (rest : List Awaited) (gone : Bool) → Rests g.file.job → Ran g.file.kept (loses g j work rest gone)
+pub ran_loses : (g : Going) (j : Job) (work : Work) (rest : List Awaited) (gone : Bool) → Rests g.file.job →
+    Ran g.file.kept (loses g j work rest gone)
 unfolding loses
 ran_loses g j (Fetches ps short) rest gone h = ran_repairs j.kind g ps short
 ran_loses g j (Stores ps short broken) rest gone h = ran_waits_or_on g j _ rest _

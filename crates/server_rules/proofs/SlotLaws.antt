@@ -32,11 +32,13 @@ pub same_reply : (s : Server) (chosen : List ℕ) (drive : ℕ) (r : Reply) → 
 unfolding on_drive_reply
 same_reply s chosen drive r = same_heard s (heard_at s chosen drive r s.files)
 
-pub same_job : (s : Server) (chosen : List ℕ) (kind : JobKind) (f : File) (j : Option Job) → (begins_job s chosen kind f j).step.state.slots ≡ s.slots
+pub same_job : (s : Server) (chosen : List ℕ) (kind : JobKind) (f : File) (j : Option Job) →
+    (begins_job s chosen kind f j).step.state.slots ≡ s.slots
 same_job s chosen kind f (Some j) = refl
 same_job s chosen kind f None = elim (cases_Bool (f.kept.tag == GREATEST_TAG)) [ inl t ↦ rw t refl | inr z ↦ rw z refl ]
 
-pub same_start : (s : Server) (chosen : List ℕ) (kind : JobKind) (o : Option File) → (starts s chosen kind o).step.state.slots ≡ s.slots
+pub same_start : (s : Server) (chosen : List ℕ) (kind : JobKind) (o : Option File) →
+    (starts s chosen kind o).step.state.slots ≡ s.slots
 same_start s chosen kind None = refl
 same_start s chosen kind (Some f) = same_job s chosen kind f f.job
 
@@ -44,12 +46,14 @@ pub same_recall : (s : Server) (o : Option File) → (recalls_on s o).step.state
 same_recall s None = refl
 same_recall s (Some f) = refl
 
-pub same_declared : (s : Server) (chosen : List ℕ) (drive : ℕ) (b : Bool) → (declares_known s chosen drive b).step.state.slots ≡ s.slots
+pub same_declared : (s : Server) (chosen : List ℕ) (drive : ℕ) (b : Bool) →
+    (declares_known s chosen drive b).step.state.slots ≡ s.slots
 unfolding declare
 same_declared s chosen drive true = refl
 same_declared s chosen drive false = refl
 
-pub same_ordered : (s : Server) (chosen : List ℕ) (kind : OrderKind) (n : ℕ) → (ordered s chosen kind n).step.state.slots ≡ s.slots
+pub same_ordered : (s : Server) (chosen : List ℕ) (kind : OrderKind) (n : ℕ) →
+    (ordered s chosen kind n).step.state.slots ≡ s.slots
 unfolding ordered
 same_ordered s chosen ToRecall n = same_recall s (file_at s.files n)
 same_ordered s chosen ToRevoke n = same_start s chosen Revoking (file_at s.files n)
@@ -62,7 +66,8 @@ pub same_made : (s : Server) (n : ℕ) (m : RawMap) (tag : ℕ) (zoned : Bool) (
 same_made s n m tag zoned ds None = refl
 same_made s n m tag zoned ds (Some r) = refl
 
-pub same_created : (s : Server) (n : ℕ) (m : RawMap) (tag : ℕ) (zoned : Bool) (chosen : List ℕ) → (unless_made s (create_file s n m tag zoned chosen)).state.slots ≡ s.slots
+pub same_created : (s : Server) (n : ℕ) (m : RawMap) (tag : ℕ) (zoned : Bool) (chosen : List ℕ) →
+    (unless_made s (create_file s n m tag zoned chosen)).state.slots ≡ s.slots
 unfolding create_file
 same_created s n m tag zoned chosen = same_made s n m tag zoned (drives_for zoned s.drives m chosen) (refusal s n m zoned)
 
@@ -75,10 +80,14 @@ same_reopened s = elim (cases_Bool (counters_have_room s)) [ inl t ↦ rw t refl
 -- the number behind the last
 pub admit_new : (o : Option Slot) (n : ℕ) → admit o n ≡ New → n ≡ last_of o + 1
 unfolding admit admit_after
-admit_new None n e = elim (cases_Bool ((n == 0 + 1) && nat_lt 0 GREATEST_SEQUENCE)) [ inl t ↦ grind (arith, nat_tests, t) | inr z ↦ absurd (cc (rw z at e)) ]
+admit_new None n e =
+    elim (cases_Bool ((n == 0 + 1) && nat_lt 0 GREATEST_SEQUENCE))
+        [ inl t ↦ grind (arith, nat_tests, t) | inr z ↦ absurd (cc (rw z at e)) ]
 admit_new (Some t) n e = elim (cases_Bool (n == t.last)) [
   | inl x ↦ absurd (cc (rw x at e))
-  | inr y ↦ elim (cases_Bool ((n == t.last + 1) && nat_lt t.last GREATEST_SEQUENCE)) [ inl x ↦ grind (arith, nat_tests, x) | inr z ↦ absurd (cc (rw (y, z) at e)) ]
+  | inr y ↦ elim
+      (cases_Bool ((n == t.last + 1) && nat_lt t.last GREATEST_SEQUENCE))
+          [ inl x ↦ grind (arith, nat_tests, x) | inr z ↦ absurd (cc (rw (y, z) at e)) ]
 ]
 
 -- the last number again
@@ -92,7 +101,8 @@ IsCarriedOut s q t =
     (a : Answer) × (front : List Outgoing) × (t.sends ≡ front ++ (Answers a ∷ []))
     × (slot_of t.state.slots q.client ≡ Some (record { client = q.client; last = q.sequence; kept = a }))
 
-pub leaves_answer : (s : Server) (now : ℕ) (chosen : List ℕ) (q : ClientRequest) (o : Option File) → IsCarriedOut s q (carries_out s now chosen q o)
+pub leaves_answer : (s : Server) (now : ℕ) (chosen : List ℕ) (q : ClientRequest) (o : Option File) →
+    IsCarriedOut s q (carries_out s now chosen q o)
 leaves_answer s now chosen q None =
     let a : Answer = answer_without q
     in (a, [], refl, keep_same s.slots (record { client = q.client; last = q.sequence; kept = a }))
@@ -101,37 +111,47 @@ leaves_answer s now chosen q (Some f) =
     in (
       answer_with s q v,
       to_drives s.drives v.going.effects.sent ++ recalls_from s.next_recall v.recalled,
-      sym (append_assoc (to_drives s.drives v.going.effects.sent) (recalls_from s.next_recall v.recalled) (Answers (answer_with s q v) ∷ [])),
+      sym (append_assoc (to_drives s.drives v.going.effects.sent) (recalls_from s.next_recall v.recalled)
+          (Answers (answer_with s q v) ∷ [])),
       keep_same s.slots (record { client = q.client; last = q.sequence; kept = answer_with s q v }),
     )
 
-pub by_new : (s : Server) (now : ℕ) (chosen : List ℕ) (q : ClientRequest) (a : Admit) → a ≡ New → IsCarriedOut s q (by_admit s now chosen q a)
+pub by_new : (s : Server) (now : ℕ) (chosen : List ℕ) (q : ClientRequest) (a : Admit) → a ≡ New →
+    IsCarriedOut s q (by_admit s now chosen q a)
 by_new s now chosen q New e = leaves_answer s now chosen q (file_at s.files q.file)
 by_new s now chosen q (Again kept) e = absurd (cc e)
 by_new s now chosen q (Misordered expected) e = absurd (cc e)
 
-pub carried_out : (s : Server) (now : ℕ) (chosen : List ℕ) (q : ClientRequest) → admit (slot_of s.slots q.client) q.sequence ≡ New → IsCarriedOut s q (on_request s now chosen q)
+pub carried_out : (s : Server) (now : ℕ) (chosen : List ℕ) (q : ClientRequest) →
+    admit (slot_of s.slots q.client) q.sequence ≡ New → IsCarriedOut s q (on_request s now chosen q)
 unfolding on_request
 carried_out s now chosen q e = by_new s now chosen q (admit (slot_of s.slots q.client) q.sequence) e
 
 -- one that isn't carried out changes nothing
-pub by_old : (s : Server) (now : ℕ) (chosen : List ℕ) (q : ClientRequest) (a : Admit) → where_new a q.sequence ≡ [] → (by_admit s now chosen q a).state ≡ s
+pub by_old : (s : Server) (now : ℕ) (chosen : List ℕ) (q : ClientRequest) (a : Admit) → where_new a q.sequence ≡ [] →
+    (by_admit s now chosen q a).state ≡ s
 by_old s now chosen q New e = absurd (cc e)
 by_old s now chosen q (Again kept) e = refl
 by_old s now chosen q (Misordered expected) e = refl
 
-pub not_carried : (s : Server) (now : ℕ) (chosen : List ℕ) (q : ClientRequest) → where_new (admit (slot_of s.slots q.client) q.sequence) q.sequence ≡ [] → (on_request s now chosen q).state ≡ s
+pub not_carried : (s : Server) (now : ℕ) (chosen : List ℕ) (q : ClientRequest) →
+    where_new (admit (slot_of s.slots q.client) q.sequence) q.sequence ≡ [] → (on_request s now chosen q).state ≡ s
 unfolding on_request
 not_carried s now chosen q e = by_old s now chosen q (admit (slot_of s.slots q.client) q.sequence) e
 
 -- the slot of another client stays
-pub other_kept : (s : Server) (now : ℕ) (chosen : List ℕ) (q : ClientRequest) (client : ℕ) (o : Option File) → (q.client == client) ≡ false →
+pub other_kept : (s : Server) (now : ℕ) (chosen : List ℕ) (q : ClientRequest) (client : ℕ) (o : Option File) →
+    (q.client == client) ≡ false →
     slot_of (carries_out s now chosen q o).state.slots client ≡ slot_of s.slots client
-other_kept s now chosen q client None z = keep_other s.slots (record { client = q.client; last = q.sequence; kept = answer_without q }) client z
+other_kept s now chosen q client None z =
+    keep_other s.slots (record { client = q.client; last = q.sequence; kept = answer_without q }) client z
 other_kept s now chosen q client (Some f) z =
-    keep_other s.slots (record { client = q.client; last = q.sequence; kept = answer_with s q (serves (at_file s chosen f) s.next_grant s.format now q.client q.args) }) client z
+    keep_other s.slots
+        (record { client = q.client; last = q.sequence; kept =
+        answer_with s q (serves (at_file s chosen f) s.next_grant s.format now q.client q.args) }) client z
 
-pub other_admitted : (s : Server) (now : ℕ) (chosen : List ℕ) (q : ClientRequest) (client : ℕ) (a : Admit) → (q.client == client) ≡ false →
+pub other_admitted : (s : Server) (now : ℕ) (chosen : List ℕ) (q : ClientRequest) (client : ℕ) (a : Admit) →
+    (q.client == client) ≡ false →
     slot_of (by_admit s now chosen q a).state.slots client ≡ slot_of s.slots client
 other_admitted s now chosen q client New z = other_kept s now chosen q client (file_at s.files q.file) z
 other_admitted s now chosen q client (Again kept) z = refl
@@ -157,39 +177,51 @@ pub slot_last : (o : Option Slot) (t : Slot) → o ≡ Some t → last_of o ≡ 
 slot_last o t e = rw e refl
 
 -- of its own requests
-pub own_counts : (s : Server) (now : ℕ) (chosen : List ℕ) (q : ClientRequest) (a : Admit) → admit (slot_of s.slots q.client) q.sequence ≡ a →
+pub own_counts : (s : Server) (now : ℕ) (chosen : List ℕ) (q : ClientRequest) (a : Admit) →
+    admit (slot_of s.slots q.client) q.sequence ≡ a →
     Counts s q.client (where_new a q.sequence) (on_request s now chosen q).state
 own_counts s now chosen q New e =
     let w : IsCarriedOut s q (on_request s now chosen q) = carried_out s now chosen q e
-    in inr (q.sequence, refl, admit_new (slot_of s.slots q.client) q.sequence e, slot_last (slot_of (on_request s now chosen q).state.slots q.client) _ w.3)
+    in inr (q.sequence, refl, admit_new (slot_of s.slots q.client) q.sequence e,
+        slot_last (slot_of (on_request s now chosen q).state.slots q.client) _ w.3)
 own_counts s now chosen q (Again kept) e = inl (refl, ap (λ t. slot_of t.slots q.client) (not_carried s now chosen q (rw e refl)))
-own_counts s now chosen q (Misordered expected) e = inl (refl, ap (λ t. slot_of t.slots q.client) (not_carried s now chosen q (rw e refl)))
+own_counts s now chosen q (Misordered expected) e =
+    inl (refl, ap (λ t. slot_of t.slots q.client) (not_carried s now chosen q (rw e refl)))
 
 -- of a request that is taken, the client's or another's
 pub request_counts : (s : Server) (now client : ℕ) (chosen : List ℕ) (q : ClientRequest) → (b : Bool) → (q.client == client) ≡ b →
-    Counts s client (if b then where_new (admit (slot_of s.slots client) q.sequence) q.sequence else []) (on_request s now chosen q).state
+    Counts s client (if b then where_new (admit (slot_of s.slots client) q.sequence) q.sequence else [])
+        (on_request s now chosen q).state
 request_counts s now client chosen q true e =
-    subst (λ c. Counts s c (where_new (admit (slot_of s.slots c) q.sequence) q.sequence) (on_request s now chosen q).state) (eqb-true q.client client e)
+    subst (λ c. Counts s c (where_new (admit (slot_of s.slots c) q.sequence) q.sequence) (on_request s now chosen q).state)
+        (eqb-true q.client client e)
     (own_counts s now chosen q (admit (slot_of s.slots q.client) q.sequence) refl)
 request_counts s now client chosen q false e = inl (refl, other_slot s now chosen q client e)
 
 -- a request from client c, once the counters have room
 pub taken_counts : (s : Server) (now client c : ℕ) (chosen : List ℕ) (q : ClientRequest) →
-    Counts s client (if (c == client) && ((q.client == c) && nat_le c MAX_CLIENT) then where_new (admit (slot_of s.slots client) q.sequence) q.sequence else [])
+    Counts s client
+        (if (c == client) && ((q.client == c) && nat_le c MAX_CLIENT) then where_new
+        (admit (slot_of s.slots client) q.sequence) q.sequence else [])
     (handled s now chosen (FromClient c) (Asks q)).state
 taken_counts s now client c chosen q = elim (cases_Bool ((q.client == c) && nat_le c MAX_CLIENT)) [
   | inl y ↦ elim (cases_Bool (c == client)) [
     | inl x ↦ rw (x, y) (request_counts s now client chosen q true (grind (arith, nat_tests, x, y)))
     | inr x ↦ rw (x, y) (request_counts s now client chosen q false (grind (arith, nat_tests, x, y)))
   ]
-  | inr y ↦ elim (cases_Bool (c == client)) [ inl x ↦ rw (x, y) (none_counts s client s refl) | inr x ↦ rw (x, y) (none_counts s client s refl) ]
+  | inr y ↦ elim
+      (cases_Bool (c == client))
+          [ inl x ↦ rw (x, y) (none_counts s client s refl) | inr x ↦ rw (x, y) (none_counts s client s refl) ]
 ]
 
-pub message_counts : (s : Server) (now client : ℕ) (chosen : List ℕ) (from : Node) (m : Message) → Counts s client (carried_for s client from m) (on_message s now chosen from m).state
+pub message_counts : (s : Server) (now client : ℕ) (chosen : List ℕ) (from : Node) (m : Message) →
+    Counts s client (carried_for s client from m) (on_message s now chosen from m).state
 unfolding on_message
 message_counts s now client chosen (FromClient c) (Asks q) = elim (cases_Bool (counters_have_room s)) [
   | inl l ↦ rw l (taken_counts s now client c chosen q)
-  | inr z ↦ elim (cases_Bool (c == client)) [ inl x ↦ rw (x, z) (none_counts s client s refl) | inr x ↦ rw (x, z) (none_counts s client s refl) ]
+  | inr z ↦ elim
+      (cases_Bool (c == client))
+          [ inl x ↦ rw (x, z) (none_counts s client s refl) | inr x ↦ rw (x, z) (none_counts s client s refl) ]
 ]
 message_counts s now client chosen (FromDrive d) (Replies r) =
     none_counts s client (on_message s now chosen (FromDrive d) (Replies r)).state
@@ -198,12 +230,16 @@ message_counts s now client chosen FromServer (Orders o) =
     none_counts s client (on_message s now chosen FromServer (Orders o)).state
     (elim (cases_Bool (counters_have_room s)) [ inl t ↦ rw t (same_ordered s chosen o.order o.target) | inr z ↦ rw z refl ])
 message_counts s now client chosen from m =
-    none_counts s client (on_message s now chosen from m).state (elim (cases_Bool (counters_have_room s)) [ inl t ↦ rw t refl | inr z ↦ rw z refl ])
+    none_counts s client (on_message s now chosen from m).state
+        (elim (cases_Bool (counters_have_room s)) [ inl t ↦ rw t refl | inr z ↦ rw z refl ])
 
-pub step_counts : (s : Server) (client : ℕ) (chosen : List ℕ) (i : Input) → Counts s client (carried_by s client i) (step s chosen i).state
+pub step_counts : (s : Server) (client : ℕ) (chosen : List ℕ) (i : Input) →
+    Counts s client (carried_by s client i) (step s chosen i).state
 step_counts s client chosen (Hears now from m) = message_counts s now client chosen from m
-step_counts s client chosen (Makes n m tag zoned) = none_counts s client (step s chosen (Makes n m tag zoned)).state (same_created s n m tag zoned chosen)
-step_counts s client chosen (Obeys kind n) = none_counts s client (step s chosen (Obeys kind n)).state (same_ordered s chosen kind n)
+step_counts s client chosen (Makes n m tag zoned) =
+    none_counts s client (step s chosen (Makes n m tag zoned)).state (same_created s n m tag zoned chosen)
+step_counts s client chosen (Obeys kind n) =
+    none_counts s client (step s chosen (Obeys kind n)).state (same_ordered s chosen kind n)
 step_counts s client chosen (Zones d z) = none_counts s client (step s chosen (Zones d z)).state refl
 step_counts s client chosen (Adds d) = none_counts s client (step s chosen (Adds d)).state refl
 step_counts s client chosen (Formats n) = none_counts s client (step s chosen (Formats n)).state refl
@@ -213,7 +249,8 @@ step_counts s client chosen Opens = none_counts s client (step s chosen Opens).s
 
 -- ---- any steps
 
-pub add_counts : (s t : Server) (client : ℕ) (ns rest : List ℕ) → Counts s client ns t → CountOnFrom (last_of (slot_of t.slots client)) rest →
+pub add_counts : (s t : Server) (client : ℕ) (ns rest : List ℕ) → Counts s client ns t →
+    CountOnFrom (last_of (slot_of t.slots client)) rest →
     CountOnFrom (last_of (slot_of s.slots client)) (ns ++ rest)
 add_counts s t client ns rest (inl w) h = rw w.0 (subst (λ o. CountOnFrom (last_of o) rest) w.1 h)
 add_counts s t client ns rest (inr w) h = rw w.1 (w.2, subst (λ k. CountOnFrom k rest) w.3 h)
@@ -222,14 +259,17 @@ pub count_on : RequestsAreCarriedOutInOrder
 unfolding carried
 count_on s client [] = tt
 count_on s client (a ∷ acts) =
-    add_counts s (step s a.chosen a.input).state client (carried_by s client a.input) (carried (step s a.chosen a.input).state client acts)
+    add_counts s (step s a.chosen a.input).state client (carried_by s client a.input)
+        (carried (step s a.chosen a.input).state client acts)
     (step_counts s client a.chosen a.input) (count_on (step s a.chosen a.input).state client acts)
 
 pub others_change_nothing : OtherRequestsChangeNothing
 unfolding on_message
 others_change_nothing s now client chosen q e = elim (cases_Bool (counters_have_room s)) [
   | inl l ↦ elim (cases_Bool ((q.client == client) && nat_le client MAX_CLIENT)) [
-    | inl y ↦ rw (l, y) (not_carried s now chosen q (subst (λ c. where_new (admit (slot_of s.slots c) q.sequence) q.sequence ≡ []) (sym (is_client y))
+    | inl y ↦ rw (l, y)
+        (not_carried s now chosen q
+        (subst (λ c. where_new (admit (slot_of s.slots c) q.sequence) q.sequence ≡ []) (sym (is_client y))
         (rw (eq-eqb client client refl, l, y) at e)))
     | inr y ↦ rw (l, y) refl
   ]
@@ -246,22 +286,28 @@ both_empty (x ∷ xs) ys e = absurd (cc e)
 pub none_and_one : (ns : List ℕ) (n : ℕ) → ns ≡ [] → ns ≡ n ∷ [] → ⊥
 none_and_one ns n e f = cc (sym e ∙ f)
 
-pub stays_by : (s t : Server) (client : ℕ) (ns : List ℕ) → ns ≡ [] → Counts s client ns t → slot_of t.slots client ≡ slot_of s.slots client
+pub stays_by : (s t : Server) (client : ℕ) (ns : List ℕ) → ns ≡ [] → Counts s client ns t →
+    slot_of t.slots client ≡ slot_of s.slots client
 stays_by s t client ns e (inl w) = w.1
 stays_by s t client ns e (inr w) = absurd (none_and_one ns w.0 e w.1)
 
 -- the slot stays until a request of its client is carried out
-pub slot_after : (s : Server) (client : ℕ) (acts : List Act) → carried s client acts ≡ [] → slot_of (state_after s acts).slots client ≡ slot_of s.slots client
+pub slot_after : (s : Server) (client : ℕ) (acts : List Act) → carried s client acts ≡ [] →
+    slot_of (state_after s acts).slots client ≡ slot_of s.slots client
 unfolding carried
 slot_after s client [] e = refl
 slot_after s client (a ∷ acts) e =
     slot_after (step s a.chosen a.input).state client acts (both_empty (carried_by s client a.input) _ e).1
-    ∙ stays_by s (step s a.chosen a.input).state client (carried_by s client a.input) (both_empty (carried_by s client a.input) _ e).0 (step_counts s client a.chosen a.input)
+    ∙ stays_by s (step s a.chosen a.input).state client (carried_by s client a.input)
+        (both_empty (carried_by s client a.input) _ e).0 (step_counts s client a.chosen a.input)
 
-pub answers_again : (s : Server) (q : ClientRequest) (a : Answer) → slot_of s.slots q.client ≡ Some (record { client = q.client; last = q.sequence; kept = a }) → IsAnsweredAgain s q a
+pub answers_again : (s : Server) (q : ClientRequest) (a : Answer) →
+    slot_of s.slots q.client ≡ Some (record { client = q.client; last = q.sequence; kept = a }) → IsAnsweredAgain s q a
 unfolding on_request
 answers_again s q a e = λ now chosen r c n.
-    ap (by_admit s now chosen r) (admit_again (slot_of s.slots r.client) (record { client = q.client; last = q.sequence; kept = a }) r.sequence (ap (slot_of s.slots) c ∙ e) n)
+    ap (by_admit s now chosen r)
+        (admit_again (slot_of s.slots r.client) (record { client = q.client; last = q.sequence; kept = a }) r.sequence
+        (ap (slot_of s.slots) c ∙ e) n)
 
 pub repeats_alike : RepeatsAreAnsweredAlike
 repeats_alike s now chosen q e =

@@ -24,35 +24,43 @@ use Rattle.server_rules.proofs.HandlerLaws.{Heard_out, leaves_fence, leaves_decl
 
 -- ---- a request
 
-pub safe_carried : (s : Server) (now : ℕ) (chosen : List ℕ) (q : ClientRequest) (o : Option File) → file_at s.files q.file ≡ o → AreSafe s.files →
+pub safe_carried : (s : Server) (now : ℕ) (chosen : List ℕ) (q : ClientRequest) (o : Option File) → file_at s.files q.file ≡ o →
+    AreSafe s.files →
     AreSafe (carries_out s now chosen q o).state.files
 safe_carried s now chosen q None e h = h
 safe_carried s now chosen q (Some f) e h =
-    safe_put s.files q.file _ h (leaves_served (at_file s chosen f) s.next_grant s.format now q.client q.args (safe_at s.files q.file f h e)).safe
+    safe_put s.files q.file _ h
+        (leaves_served (at_file s chosen f) s.next_grant s.format now q.client q.args (safe_at s.files q.file f h e)).safe
 
-pub safe_admitted : (s : Server) (now : ℕ) (chosen : List ℕ) (q : ClientRequest) (a : Admit) → AreSafe s.files → AreSafe (by_admit s now chosen q a).state.files
+pub safe_admitted : (s : Server) (now : ℕ) (chosen : List ℕ) (q : ClientRequest) (a : Admit) → AreSafe s.files →
+    AreSafe (by_admit s now chosen q a).state.files
 safe_admitted s now chosen q New h = safe_carried s now chosen q (file_at s.files q.file) refl h
 safe_admitted s now chosen q (Again kept) h = h
 safe_admitted s now chosen q (Misordered expected) h = h
 
-pub safe_request : (s : Server) (now : ℕ) (chosen : List ℕ) (q : ClientRequest) → AreSafe s.files → AreSafe (on_request s now chosen q).state.files
+pub safe_request : (s : Server) (now : ℕ) (chosen : List ℕ) (q : ClientRequest) → AreSafe s.files →
+    AreSafe (on_request s now chosen q).state.files
 unfolding on_request
 safe_request s now chosen q h = safe_admitted s now chosen q (admit (slot_of s.slots q.client) q.sequence) h
 
-pub others_carried : (s : Server) (now : ℕ) (chosen : List ℕ) (q : ClientRequest) (o : Option File) → file_at s.files q.file ≡ o → AreSafe s.files →
+pub others_carried : (s : Server) (now : ℕ) (chosen : List ℕ) (q : ClientRequest) (o : Option File) → file_at s.files q.file ≡ o →
+    AreSafe s.files →
     OthersStay q.file s.files (carries_out s now chosen q o).state.files
 others_carried s now chosen q None e h = λ n z. refl
 others_carried s now chosen q (Some f) e h =
     put_other s.files q.file (serves (at_file s chosen f) s.next_grant s.format now q.client q.args).going.file
-    ((leaves_served (at_file s chosen f) s.next_grant s.format now q.client q.args (safe_at s.files q.file f h e)).number ∙ number_at s.files q.file f e)
+    ((leaves_served (at_file s chosen f) s.next_grant s.format now q.client q.args (safe_at s.files q.file f h e)).number
+        ∙ number_at s.files q.file f e)
 
-pub others_admitted : (s : Server) (now : ℕ) (chosen : List ℕ) (q : ClientRequest) (a : Admit) → AreSafe s.files → OthersStay q.file s.files (by_admit s now chosen q a).state.files
+pub others_admitted : (s : Server) (now : ℕ) (chosen : List ℕ) (q : ClientRequest) (a : Admit) → AreSafe s.files →
+    OthersStay q.file s.files (by_admit s now chosen q a).state.files
 others_admitted s now chosen q New h = others_carried s now chosen q (file_at s.files q.file) refl h
 others_admitted s now chosen q (Again kept) h = λ n z. refl
 others_admitted s now chosen q (Misordered expected) h = λ n z. refl
 
 -- a request changes its file at most
-pub others_request : (s : Server) (now : ℕ) (chosen : List ℕ) (q : ClientRequest) → AreSafe s.files → OthersStay q.file s.files (on_request s now chosen q).state.files
+pub others_request : (s : Server) (now : ℕ) (chosen : List ℕ) (q : ClientRequest) → AreSafe s.files →
+    OthersStay q.file s.files (on_request s now chosen q).state.files
 unfolding on_request
 others_request s now chosen q h = others_admitted s now chosen q (admit (slot_of s.slots q.client) q.sequence) h
 
@@ -70,17 +78,21 @@ pub safe_either : (a b : Option Going) → Safe_out a → Safe_out b → Safe_ou
 safe_either None b h i = i
 safe_either (Some g) b h i = h
 
-pub safe_heard : (s : Server) (chosen : List ℕ) (drive : ℕ) (r : Reply) (fs : List File) → AreSafe fs → Safe_out (heard_at s chosen drive r fs)
+pub safe_heard : (s : Server) (chosen : List ℕ) (drive : ℕ) (r : Reply) (fs : List File) → AreSafe fs →
+    Safe_out (heard_at s chosen drive r fs)
 unfolding heard_at
 safe_heard s chosen drive r [] h = tt
 safe_heard s chosen drive r (f ∷ fs) h =
-    safe_either (on_reply (at_file s chosen f) drive r) _ (safe_from f.kept (on_reply (at_file s chosen f) drive r) (leaves_reply (at_file s chosen f) drive r h.0)) (safe_heard s chosen drive r fs h.1)
+    safe_either (on_reply (at_file s chosen f) drive r) _
+        (safe_from f.kept (on_reply (at_file s chosen f) drive r) (leaves_reply (at_file s chosen f) drive r h.0))
+            (safe_heard s chosen drive r fs h.1)
 
 pub safe_by_heard : (s : Server) (o : Option Going) → AreSafe s.files → Safe_out o → AreSafe (by_heard s o).state.files
 safe_by_heard s None h i = h
 safe_by_heard s (Some g) h i = safe_put s.files g.file.kept.number g.file h i
 
-pub safe_reply : (s : Server) (chosen : List ℕ) (drive : ℕ) (r : Reply) → AreSafe s.files → AreSafe (on_drive_reply s chosen drive r).state.files
+pub safe_reply : (s : Server) (chosen : List ℕ) (drive : ℕ) (r : Reply) → AreSafe s.files →
+    AreSafe (on_drive_reply s chosen drive r).state.files
 unfolding on_drive_reply
 safe_reply s chosen drive r h = safe_by_heard s (heard_at s chosen drive r s.files) h (safe_heard s chosen drive r s.files h)
 
@@ -89,20 +101,23 @@ others_by_heard s None = (0, λ n z. refl)
 others_by_heard s (Some g) = (g.file.kept.number, put_other s.files g.file.kept.number g.file refl)
 
 -- a reply changes one file at most
-pub others_reply : (s : Server) (chosen : List ℕ) (drive : ℕ) (r : Reply) → (m : ℕ) × OthersStay m s.files (on_drive_reply s chosen drive r).state.files
+pub others_reply : (s : Server) (chosen : List ℕ) (drive : ℕ) (r : Reply) →
+    (m : ℕ) × OthersStay m s.files (on_drive_reply s chosen drive r).state.files
 unfolding on_drive_reply
 others_reply s chosen drive r = others_by_heard s (heard_at s chosen drive r s.files)
 
 -- ---- orders
 
-pub safe_job : (s : Server) (chosen : List ℕ) (kind : JobKind) (f : File) (j : Option Job) → AreSafe s.files → IsSafe f → AreSafe (begins_job s chosen kind f j).step.state.files
+pub safe_job : (s : Server) (chosen : List ℕ) (kind : JobKind) (f : File) (j : Option Job) → AreSafe s.files → IsSafe f →
+    AreSafe (begins_job s chosen kind f j).step.state.files
 safe_job s chosen kind f (Some j) h i = safe_put s.files f.kept.number f h i
 safe_job s chosen kind f None h i = elim (cases_Bool (f.kept.tag == GREATEST_TAG)) [
   | inl t ↦ rw t (safe_put s.files f.kept.number f h i)
   | inr z ↦ rw z (safe_put s.files f.kept.number _ h (leaves_fence kind s.format (at_file s chosen f)).safe)
 ]
 
-pub safe_starts : (s : Server) (chosen : List ℕ) (kind : JobKind) (n : ℕ) (o : Option File) → file_at s.files n ≡ o → AreSafe s.files → AreSafe (starts s chosen kind o).step.state.files
+pub safe_starts : (s : Server) (chosen : List ℕ) (kind : JobKind) (n : ℕ) (o : Option File) → file_at s.files n ≡ o →
+    AreSafe s.files → AreSafe (starts s chosen kind o).step.state.files
 safe_starts s chosen kind n None e h = h
 safe_starts s chosen kind n (Some f) e h = safe_job s chosen kind f f.job h (safe_at s.files n f h e)
 
@@ -110,19 +125,23 @@ pub safe_recalls : (s : Server) (o : Option File) → AreSafe s.files → AreSaf
 safe_recalls s None h = h
 safe_recalls s (Some f) h = h
 
-pub safe_each : (drive : ℕ) (ds : List Drive) (fs : List File) (m : Effects) (chosen : List ℕ) → AreSafe fs → AreSafe (declares_each drive ds fs m chosen).files
+pub safe_each : (drive : ℕ) (ds : List Drive) (fs : List File) (m : Effects) (chosen : List ℕ) → AreSafe fs →
+    AreSafe (declares_each drive ds fs m chosen).files
 unfolding declares_each
 safe_each drive ds [] m chosen h = tt
 safe_each drive ds (f ∷ fs) m chosen h =
     let g : Going = declares (record { file = f; effects = m; drives = ds; chosen = chosen }) drive
-    in ((leaves_declared (record { file = f; effects = m; drives = ds; chosen = chosen }) drive h.0).safe, safe_each drive ds fs g.effects g.chosen h.1)
+    in ((leaves_declared (record { file = f; effects = m; drives = ds; chosen = chosen }) drive h.0).safe,
+        safe_each drive ds fs g.effects g.chosen h.1)
 
-pub safe_declared : (s : Server) (chosen : List ℕ) (drive : ℕ) (b : Bool) → AreSafe s.files → AreSafe (declares_known s chosen drive b).step.state.files
+pub safe_declared : (s : Server) (chosen : List ℕ) (drive : ℕ) (b : Bool) → AreSafe s.files →
+    AreSafe (declares_known s chosen drive b).step.state.files
 unfolding declare
 safe_declared s chosen drive true h = safe_each drive _ s.files _ chosen h
 safe_declared s chosen drive false h = h
 
-pub safe_ordered : (s : Server) (chosen : List ℕ) (kind : OrderKind) (n : ℕ) → AreSafe s.files → AreSafe (ordered s chosen kind n).step.state.files
+pub safe_ordered : (s : Server) (chosen : List ℕ) (kind : OrderKind) (n : ℕ) → AreSafe s.files →
+    AreSafe (ordered s chosen kind n).step.state.files
 unfolding ordered
 safe_ordered s chosen ToRecall n h = safe_recalls s (file_at s.files n) h
 safe_ordered s chosen ToRevoke n h = safe_starts s chosen Revoking n (file_at s.files n) refl h
@@ -132,7 +151,8 @@ safe_ordered s chosen ToAudit n h = safe_starts s chosen Auditing n (file_at s.f
 
 -- ---- messages
 
-pub safe_handled : (s : Server) (now : ℕ) (chosen : List ℕ) (from : Node) (m : Message) → AreSafe s.files → AreSafe (handled s now chosen from m).state.files
+pub safe_handled : (s : Server) (now : ℕ) (chosen : List ℕ) (from : Node) (m : Message) → AreSafe s.files →
+    AreSafe (handled s now chosen from m).state.files
 safe_handled s now chosen (FromClient c) (Asks q) h = elim (cases_Bool ((q.client == c) && nat_le c MAX_CLIENT)) [
   | inl t ↦ rw t (safe_request s now chosen q h)
   | inr z ↦ rw z h
@@ -141,7 +161,8 @@ safe_handled s now chosen (FromDrive d) (Replies r) h = safe_reply s chosen d r 
 safe_handled s now chosen FromServer (Orders o) h = safe_ordered s chosen o.order o.target h
 safe_handled s now chosen from m h = h
 
-pub safe_message : (s : Server) (now : ℕ) (chosen : List ℕ) (from : Node) (m : Message) → AreSafe s.files → AreSafe (on_message s now chosen from m).state.files
+pub safe_message : (s : Server) (now : ℕ) (chosen : List ℕ) (from : Node) (m : Message) → AreSafe s.files →
+    AreSafe (on_message s now chosen from m).state.files
 unfolding on_message
 safe_message s now chosen from m h = elim (cases_Bool (counters_have_room s)) [
   | inl t ↦ rw t (safe_handled s now chosen from m h)
@@ -154,9 +175,11 @@ pub safe_made : (s : Server) (n : ℕ) (m : RawMap) (tag : ℕ) (zoned : Bool) (
     AreSafe (unless_made s (unless_refused o (makes_file s (unmade s n m tag zoned ds)))).state.files
 safe_made s n m tag zoned ds (Some r) h = h
 safe_made s n m tag zoned ds None h =
-    safe_put _ n _ (safe_add s.files _ h (record { rests = tt; apart = apart_none; alone = tt })) (leaves_new (at_file (with_file s (unmade s n m tag zoned ds)) [] (unmade s n m tag zoned ds)) refl).safe
+    safe_put _ n _ (safe_add s.files _ h (record { rests = tt; apart = apart_none; alone = tt }))
+        (leaves_new (at_file (with_file s (unmade s n m tag zoned ds)) [] (unmade s n m tag zoned ds)) refl).safe
 
-pub safe_create : (s : Server) (n : ℕ) (m : RawMap) (tag : ℕ) (zoned : Bool) (chosen : List ℕ) → AreSafe s.files → AreSafe (unless_made s (create_file s n m tag zoned chosen)).state.files
+pub safe_create : (s : Server) (n : ℕ) (m : RawMap) (tag : ℕ) (zoned : Bool) (chosen : List ℕ) → AreSafe s.files →
+    AreSafe (unless_made s (create_file s n m tag zoned chosen)).state.files
 unfolding create_file
 safe_create s n m tag zoned chosen h = safe_made s n m tag zoned _ (refusal s n m zoned) h
 
@@ -164,16 +187,19 @@ pub safe_crashed : (fs : List File) → AreSafe fs → AreSafe (map crashed_file
 safe_crashed [] h = tt
 safe_crashed (f ∷ fs) h = (record { rests = tt; apart = h.0.apart; alone = tt }, safe_crashed fs h.1)
 
-pub safe_opened : (format : ℕ) (ds : List Drive) (fs : List File) (m : Effects) → AreSafe fs → AreSafe (opens_each format ds fs m).files
+pub safe_opened : (format : ℕ) (ds : List Drive) (fs : List File) (m : Effects) → AreSafe fs →
+    AreSafe (opens_each format ds fs m).files
 unfolding opens_each
 safe_opened format ds [] m h = tt
 safe_opened format ds (f ∷ fs) m h =
     let g : Going = opens format (record { file = f; effects = m; drives = ds; chosen = [] })
-    in ((leaves_opened format (record { file = f; effects = m; drives = ds; chosen = [] }) h.0).safe, safe_opened format ds fs g.effects h.1)
+    in ((leaves_opened format (record { file = f; effects = m; drives = ds; chosen = [] }) h.0).safe,
+        safe_opened format ds fs g.effects h.1)
 
 pub safe_reopened : (s : Server) → AreSafe s.files → AreSafe (reopen s).state.files
 unfolding reopen
-safe_reopened s h = elim (cases_Bool (counters_have_room s)) [ inl t ↦ rw t (safe_opened s.format s.drives s.files _ h) | inr z ↦ rw z h ]
+safe_reopened s h =
+    elim (cases_Bool (counters_have_room s)) [ inl t ↦ rw t (safe_opened s.format s.drives s.files _ h) | inr z ↦ rw z h ]
 
 -- ---- every step
 
@@ -197,18 +223,23 @@ safe_run ds acts = safe_after (new_server ds) acts tt
 
 -- ---- an order on a file
 
-pub others_job : (s : Server) (chosen : List ℕ) (kind : JobKind) (n : ℕ) (f : File) (j : Option Job) → f.kept.number ≡ n → OthersStay n s.files (begins_job s chosen kind f j).step.state.files
+pub others_job : (s : Server) (chosen : List ℕ) (kind : JobKind) (n : ℕ) (f : File) (j : Option Job) → f.kept.number ≡ n →
+    OthersStay n s.files (begins_job s chosen kind f j).step.state.files
 others_job s chosen kind n f (Some j) e = rw (← e) (put_other s.files f.kept.number f refl)
 others_job s chosen kind n f None e = rw (← e) (elim (cases_Bool (f.kept.tag == GREATEST_TAG)) [
   | inl t ↦ rw t (put_other s.files f.kept.number f refl)
-  | inr z ↦ rw z (put_other s.files f.kept.number (fence_begins kind s.format (at_file s chosen f)).file (leaves_fence kind s.format (at_file s chosen f)).number)
+  | inr z ↦ rw z
+      (put_other s.files f.kept.number (fence_begins kind s.format (at_file s chosen f)).file
+      (leaves_fence kind s.format (at_file s chosen f)).number)
 ])
 
-pub others_starts : (s : Server) (chosen : List ℕ) (kind : JobKind) (n : ℕ) (o : Option File) → file_at s.files n ≡ o → OthersStay n s.files (starts s chosen kind o).step.state.files
+pub others_starts : (s : Server) (chosen : List ℕ) (kind : JobKind) (n : ℕ) (o : Option File) → file_at s.files n ≡ o →
+    OthersStay n s.files (starts s chosen kind o).step.state.files
 others_starts s chosen kind n None e = λ m z. refl
 others_starts s chosen kind n (Some f) e = others_job s chosen kind n f f.job (number_at s.files n f e)
 
-pub others_ordered : (s : Server) (chosen : List ℕ) (kind : JobKind) (n : ℕ) → OthersStay n s.files (starts s chosen kind (file_at s.files n)).step.state.files
+pub others_ordered : (s : Server) (chosen : List ℕ) (kind : JobKind) (n : ℕ) →
+    OthersStay n s.files (starts s chosen kind (file_at s.files n)).step.state.files
 others_ordered s chosen kind n = others_starts s chosen kind n (file_at s.files n) refl
 
 -- ---- one file at most
@@ -224,7 +255,8 @@ pub one_recalled : (s : Server) (o : Option File) → One s.files (recalls_on s 
 one_recalled s None = one_of_none s.files
 one_recalled s (Some f) = one_of_none s.files
 
-pub one_ordered : (s : Server) (chosen : List ℕ) (kind : OrderKind) (n : ℕ) → declares_one kind ≡ false → One s.files (ordered s chosen kind n).step.state.files
+pub one_ordered : (s : Server) (chosen : List ℕ) (kind : OrderKind) (n : ℕ) → declares_one kind ≡ false →
+    One s.files (ordered s chosen kind n).step.state.files
 unfolding ordered
 one_ordered s chosen ToRecall n d = one_recalled s (file_at s.files n)
 one_ordered s chosen ToRevoke n d = (n, others_ordered s chosen Revoking n)
@@ -232,7 +264,8 @@ one_ordered s chosen ToDeclare n d = absurd (cc d)
 one_ordered s chosen ToRebuild n d = (n, others_ordered s chosen Rebuilding n)
 one_ordered s chosen ToAudit n d = (n, others_ordered s chosen Auditing n)
 
-pub one_handled : (s : Server) (now : ℕ) (chosen : List ℕ) (from : Node) (m : Message) → AreSafe s.files → tells_to_declare m ≡ false → One s.files (handled s now chosen from m).state.files
+pub one_handled : (s : Server) (now : ℕ) (chosen : List ℕ) (from : Node) (m : Message) → AreSafe s.files →
+    tells_to_declare m ≡ false → One s.files (handled s now chosen from m).state.files
 one_handled s now chosen (FromClient c) (Asks q) h d = elim (cases_Bool ((q.client == c) && nat_le c MAX_CLIENT)) [
   | inl t ↦ rw t (q.file, others_request s now chosen q h)
   | inr z ↦ rw z (one_of_none s.files)
@@ -241,25 +274,30 @@ one_handled s now chosen (FromDrive drive) (Replies r) h d = others_reply s chos
 one_handled s now chosen FromServer (Orders o) h d = one_ordered s chosen o.order o.target d
 one_handled s now chosen from m h d = one_of_none s.files
 
-pub one_message : (s : Server) (now : ℕ) (chosen : List ℕ) (from : Node) (m : Message) → AreSafe s.files → tells_to_declare m ≡ false → One s.files (on_message s now chosen from m).state.files
+pub one_message : (s : Server) (now : ℕ) (chosen : List ℕ) (from : Node) (m : Message) → AreSafe s.files →
+    tells_to_declare m ≡ false → One s.files (on_message s now chosen from m).state.files
 unfolding on_message
 one_message s now chosen from m h d = elim (cases_Bool (counters_have_room s)) [
   | inl t ↦ rw t (one_handled s now chosen from m h d)
   | inr z ↦ rw z (one_of_none s.files)
 ]
 
-pub one_made : (s : Server) (n : ℕ) (m : RawMap) (tag : ℕ) (zoned : Bool) (ds : List ℕ) (o : Option Refusal) → One s.files (unless_made s (unless_refused o (makes_file s (unmade s n m tag zoned ds)))).state.files
+pub one_made : (s : Server) (n : ℕ) (m : RawMap) (tag : ℕ) (zoned : Bool) (ds : List ℕ) (o : Option Refusal) →
+    One s.files (unless_made s (unless_refused o (makes_file s (unmade s n m tag zoned ds)))).state.files
 one_made s n m tag zoned ds (Some r) = one_of_none s.files
 one_made s n m tag zoned ds None =
     let f : File = unmade s n m tag zoned ds
     in let made : Leaves f.kept (making (at_file (with_file s f) [] f)) = leaves_new (at_file (with_file s f) [] f) refl
-    in (n, λ k z. put_other (with_file s f).files n (making (at_file (with_file s f) [] f)).file made.number k z ∙ add_other s.files f k z)
+    in (n, λ k z. put_other (with_file s f).files n (making (at_file (with_file s f) [] f)).file made.number k z
+        ∙ add_other s.files f k z)
 
-pub one_created : (s : Server) (n : ℕ) (m : RawMap) (tag : ℕ) (zoned : Bool) (chosen : List ℕ) → One s.files (unless_made s (create_file s n m tag zoned chosen)).state.files
+pub one_created : (s : Server) (n : ℕ) (m : RawMap) (tag : ℕ) (zoned : Bool) (chosen : List ℕ) →
+    One s.files (unless_made s (create_file s n m tag zoned chosen)).state.files
 unfolding create_file
 one_created s n m tag zoned chosen = one_made s n m tag zoned (drives_for zoned s.drives m chosen) (refusal s n m zoned)
 
-pub one_step : (s : Server) (chosen : List ℕ) (i : Input) → AreSafe s.files → goes_through_all i ≡ false → One s.files (step s chosen i).state.files
+pub one_step : (s : Server) (chosen : List ℕ) (i : Input) → AreSafe s.files → goes_through_all i ≡ false →
+    One s.files (step s chosen i).state.files
 one_step s chosen (Hears now from m) h d = one_message s now chosen from m h d
 one_step s chosen (Makes n m tag zoned) h d = one_created s n m tag zoned chosen
 one_step s chosen (Obeys kind n) h d = one_ordered s chosen kind n d

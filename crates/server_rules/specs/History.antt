@@ -1,5 +1,5 @@
 -- What comes to a server, and the one function of all its steps.
-use Rattle.std.specs.Prelude.{ℕ, Bool, List, [], ◌∷◌, Result, Ok, Err, ◌≡◌, map}
+use Rattle.std.specs.Prelude.{ℕ, Bool, List, [], ◌∷◌, Result, Ok, Err}
 use Rattle.osd_lists.specs.declared.node.Node.{Node}
 use Rattle.server_rules.specs.State.{Server, RawMap, Drive, OrderKind, Outgoing, Note, Refusal}
 use Rattle.server_rules.specs.Files.{Step, still}
@@ -68,14 +68,3 @@ pub record Event : Type 0 where
   pub act : Act
   pub sends : List Outgoing
   pub notes : List Note
-
--- each event does what the rules say
-abbrev pub Follows : Server → List Event → Type 0
-Follows s [] = Unit {0}
-Follows s (e ∷ es) =
-    (e.sends ≡ (step s e.act.chosen e.act.input).sends) × (e.notes ≡ (step s e.act.chosen e.act.input).notes)
-    × Follows (step s e.act.chosen e.act.input).state es
-
--- these events lead from the first state to this one
-abbrev pub StandsFor : Server → Server → List Event → Type 0
-StandsFor first now h = Follows first h × (state_after first (map (λ e. e.act) h) ≡ now)

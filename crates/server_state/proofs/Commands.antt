@@ -6,7 +6,8 @@ use Rattle.server_rules.specs.declared.jobs.Awaited.{Awaited}
 use Rattle.server_state.specs.Index.{is_of, are_to}
 
 -- the reply is to the first of these or to another one
-first_or : (a : Awaited) (cs : List Awaited) (x d : ℕ) → are_to (a ∷ cs) x d ≡ (((a.command.nonce == x) && (a.drive == d)) || are_to cs x d)
+first_or : (a : Awaited) (cs : List Awaited) (x d : ℕ) →
+    are_to (a ∷ cs) x d ≡ (((a.command.nonce == x) && (a.drive == d)) || are_to cs x d)
 unfolding are_to
 first_or a cs x d = elim (cases_Bool ((a.command.nonce == x) && (a.drive == d))) [ inl t ↦ rw t refl | inr f ↦ rw f refl ]
 
@@ -17,7 +18,8 @@ one_of true false rest old = refl
 one_of false true rest old = refl
 one_of false false rest old = refl
 
-none_of : (here file rest old : Bool) → (not (file && rest) && (not (here && file) && old)) ≡ (not (file && (here || rest)) && old)
+none_of : (here file rest old : Bool) →
+    (not (file && rest) && (not (here && file) && old)) ≡ (not (file && (here || rest)) && old)
 none_of true true true old = refl
 none_of true true false old = refl
 none_of true false rest old = refl
@@ -30,7 +32,8 @@ abbrev pub Adds : List Awaited → (file : ℕ) → (now old : Bool) → (x d m 
 Adds left file now old x d m all = (((file == m) && are_to left x d) || now) ≡ (((file == m) && are_to all x d) || old)
 
 pub adds_on : (left rest all : List Awaited) (a : Awaited) (file x d m : ℕ) (now next old : Bool) → left ≡ a ∷ rest →
-    next ≡ (is_of a.command.nonce a.drive file x d m || now) → Adds left file now old x d m all → Adds rest file next old x d m all
+    next ≡ (is_of a.command.nonce a.drive file x d m || now) → Adds left file now old x d m all →
+        Adds rest file next old x d m all
 adds_on left rest all a file x d m now next old e n h =
     ap (λ (z : Bool). ((file == m) && are_to rest x d) || z) n
     ∙ one_of ((a.command.nonce == x) && (a.drive == d)) (file == m) (are_to rest x d) now
@@ -53,7 +56,8 @@ abbrev pub Removes : List Awaited → (file : ℕ) → (now old : Bool) → (x d
 Removes left file now old x d m all = (not ((file == m) && are_to left x d) && now) ≡ (not ((file == m) && are_to all x d) && old)
 
 pub removes_on : (left rest all : List Awaited) (a : Awaited) (file x d m : ℕ) (now next old : Bool) → left ≡ a ∷ rest →
-    next ≡ (not (is_of a.command.nonce a.drive file x d m) && now) → Removes left file now old x d m all → Removes rest file next old x d m all
+    next ≡ (not (is_of a.command.nonce a.drive file x d m) && now) → Removes left file now old x d m all →
+        Removes rest file next old x d m all
 removes_on left rest all a file x d m now next old e n h =
     ap (λ (z : Bool). not ((file == m) && are_to rest x d) && z) n
     ∙ none_of ((a.command.nonce == x) && (a.drive == d)) (file == m) (are_to rest x d) now

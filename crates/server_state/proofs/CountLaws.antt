@@ -14,8 +14,11 @@ use Rattle.server_state.specs.Standing.{standing_of, standing_if, standing_in, A
 use Rattle.server_state.specs.Tables.{Table, entry_at, without}
 
 -- those of one file and of the others
-both : (t : Table) (n d : ℕ) (o : Option FileState) → entry_at t n ≡ o → standing_in d (without n t) + standing_if d o ≡ standing_in d t
-both t n d o e = subst (λ (p : Option FileState). standing_in d (without n t) + standing_if d p ≡ standing_in d t) e (sum_by-remove_entry (standing_of d) (is_at (nat_cmp n)) t)
+both : (t : Table) (n d : ℕ) (o : Option FileState) → entry_at t n ≡ o →
+    standing_in d (without n t) + standing_if d o ≡ standing_in d t
+both t n d o e =
+    subst (λ (p : Option FileState). standing_in d (without n t) + standing_if d p ≡ standing_in d t) e
+        (sum_by-remove_entry (standing_of d) (is_at (nat_cmp n)) t)
 
 -- what stands of a file was counted
 pub file_counted : (t : Table) (old : Counts) (n : ℕ) (f : FileState) → entry_at t n ≡ Some f → AreCounted old t →
@@ -40,7 +43,8 @@ pub none_on : (t : Table) (cs : Counts) (n : ℕ) → entry_at t n ≡ None → 
 none_on t cs n e a = λ d l. omega (arith, both t n d None e, a d l)
 
 -- meanwhile that file changes and no other
-pub still_counted : (n : ℕ) (cs : Counts) (old new : Table) → OthersStay n old new → AreCounted cs (without n old) → AreCounted cs (without n new)
+pub still_counted : (n : ℕ) (cs : Counts) (old new : Table) → OthersStay n old new → AreCounted cs (without n old) →
+    AreCounted cs (without n new)
 still_counted n cs old new others a = subst (λ (t : Table). AreCounted cs t) (sym others) a
 
 -- ---- all files, in order

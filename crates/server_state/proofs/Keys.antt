@@ -63,19 +63,23 @@ and_cond : (b c : Bool) → cond b false c ≡ (not b && c)
 and_cond true c = refl
 and_cond false c = refl
 
-pub added : (old new : BTreeSet Key) (was : Keys) (nonce drive file : ℕ) → old.keys ≡ was → Updates in_order old new (nonce, drive, file) true →
+pub added : (old new : BTreeSet Key) (was : Keys) (nonce drive file : ℕ) → old.keys ≡ was →
+    Updates in_order old new (nonce, drive, file) true →
     (x d m : ℕ) → has new.keys x d m ≡ (is_of nonce drive file x d m || has was x d m)
 added old new was nonce drive file v u x d m =
-    has_key new.keys x d m ∙ u.0 (x, d, m) ∙ or_cond (is_eq (in_order (nonce, drive, file) (x, d, m))) (list_any (is_at (in_order (x, d, m))) old.keys)
+    has_key new.keys x d m ∙ u.0 (x, d, m)
+        ∙ or_cond (is_eq (in_order (nonce, drive, file) (x, d, m))) (list_any (is_at (in_order (x, d, m))) old.keys)
     ∙ either _ _ _ _ (at_query (nonce, drive, file) (x, d, m)) (sym (has_key old.keys x d m) ∙ ap (λ (ks : Keys). has ks x d m) v)
 
 both : (a b x y : Bool) → a ≡ x → b ≡ y → (not a && b) ≡ (not x && y)
 both a b x y p q = rw (p, q) refl
 
-pub removed : (old new : BTreeSet Key) (was : Keys) (nonce drive file : ℕ) → old.keys ≡ was → Updates in_order old new (nonce, drive, file) false →
+pub removed : (old new : BTreeSet Key) (was : Keys) (nonce drive file : ℕ) → old.keys ≡ was →
+    Updates in_order old new (nonce, drive, file) false →
     (x d m : ℕ) → has new.keys x d m ≡ (not (is_of nonce drive file x d m) && has was x d m)
 removed old new was nonce drive file v u x d m =
-    has_key new.keys x d m ∙ u.0 (x, d, m) ∙ and_cond (is_eq (in_order (nonce, drive, file) (x, d, m))) (list_any (is_at (in_order (x, d, m))) old.keys)
+    has_key new.keys x d m ∙ u.0 (x, d, m)
+        ∙ and_cond (is_eq (in_order (nonce, drive, file) (x, d, m))) (list_any (is_at (in_order (x, d, m))) old.keys)
     ∙ both _ _ _ _ (at_query (nonce, drive, file) (x, d, m)) (sym (has_key old.keys x d m) ∙ ap (λ (ks : Keys). has ks x d m) v)
 
 -- ---- the first from a key on
@@ -142,17 +146,20 @@ lowest x d m = rw (same x, same d) (none_below m)
 abbrev pub Searched : (x d : ℕ) → BTreeSet Key → List Key → Type 0
 Searched x d s r = IsKeyRangeOf in_order (Included (x, d, 0)) Unbounded s r
 
-contained : (s : BTreeSet Key) (ks : Keys) (x d m : ℕ) → s.keys ≡ ks → has ks x d m ≡ true → list_any (is_at (in_order (x, d, m))) s.keys ≡ true
+contained : (s : BTreeSet Key) (ks : Keys) (x d m : ℕ) → s.keys ≡ ks → has ks x d m ≡ true →
+    list_any (is_at (in_order (x, d, m))) s.keys ≡ true
 contained s ks x d m v e = ap (λ (z : Keys). list_any (is_at (in_order (x, d, m))) z) v ∙ sym (has_key ks x d m) ∙ e
 
 -- what the first key found is at most
-least : (s : BTreeSet Key) (ks : Keys) (x d m : ℕ) (k : Key) (r t : List Key) → s.keys ≡ ks → Searched x d s r → r ≡ k ∷ t → has ks x d m ≡ true →
+least : (s : BTreeSet Key) (ks : Keys) (x d m : ℕ) (k : Key) (r t : List Key) → s.keys ≡ ks → Searched x d s r → r ≡ k ∷ t →
+    has ks x d m ≡ true →
     (k.0 ≡ x) × (k.1 ≡ d) × (k.2 ≤ m)
 least s ks x d m k r t v w e h =
     let g = rw e at w in
     between k x d m g.1.0.0 (g.2 (x, d, m) (lowest x d m, tt) (contained s ks x d m v h))
 
-pub first_found : (s : BTreeSet Key) (ks : Keys) (x d : ℕ) (k : Key) (r t : List Key) → s.keys ≡ ks → Searched x d s r → r ≡ k ∷ t → k.0 ≡ x → k.1 ≡ d →
+pub first_found : (s : BTreeSet Key) (ks : Keys) (x d : ℕ) (k : Key) (r t : List Key) → s.keys ≡ ks → Searched x d s r →
+    r ≡ k ∷ t → k.0 ≡ x → k.1 ≡ d →
     IsFirst ks x d k.2
 first_found s ks x d k r t v w e f h =
     let g = rw e at w in
@@ -166,7 +173,8 @@ first_found s ks x d k r t v w e f h =
     }
 
 -- another reply's key comes first
-pub first_other : (s : BTreeSet Key) (ks : Keys) (x d : ℕ) (k : Key) (r t : List Key) → s.keys ≡ ks → Searched x d s r → r ≡ k ∷ t →
+pub first_other : (s : BTreeSet Key) (ks : Keys) (x d : ℕ) (k : Key) (r t : List Key) → s.keys ≡ ks → Searched x d s r →
+    r ≡ k ∷ t →
     ((k.0 ≡ x) → (k.1 ≡ d) → ⊥) → (m : ℕ) → has ks x d m ≡ false
 first_other s ks x d k r t v w e o m = elim (cases_Bool (has ks x d m)) [
   | inl y ↦ let b = least s ks x d m k r t v w e y in absurd (o b.0 b.1)
@@ -174,6 +182,7 @@ first_other s ks x d k r t v w e o m = elim (cases_Bool (has ks x d m)) [
 ]
 
 -- none comes
-pub first_none : (s : BTreeSet Key) (ks : Keys) (x d : ℕ) (r : List Key) → s.keys ≡ ks → Searched x d s r → r ≡ [] → (m : ℕ) → has ks x d m ≡ false
+pub first_none : (s : BTreeSet Key) (ks : Keys) (x d : ℕ) (r : List Key) → s.keys ≡ ks → Searched x d s r → r ≡ [] → (m : ℕ) →
+    has ks x d m ≡ false
 first_none s ks x d r v w e m =
     has_key ks x d m ∙ ap (λ (z : Keys). list_any (is_at (in_order (x, d, m))) z) (sym v) ∙ w.5 e (x, d, m) (lowest x d m, tt)

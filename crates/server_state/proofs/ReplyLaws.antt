@@ -42,9 +42,11 @@ on true false = refl
 on false a = refl
 
 -- what is at number n, also asked at m
-asked_there : (t : Table) (n m x d : ℕ) (o : Option FileState) → entry_at t n ≡ o → ((n == m) && file_awaits o x d) ≡ ((n == m) && file_awaits (entry_at t m) x d)
+asked_there : (t : Table) (n m x d : ℕ) (o : Option FileState) → entry_at t n ≡ o →
+    ((n == m) && file_awaits o x d) ≡ ((n == m) && file_awaits (entry_at t m) x d)
 asked_there t n m x d o e = elim (cases_Bool (n == m)) [
-  | inl same ↦ rw same (ap (λ (p : Option FileState). file_awaits p x d) (sym e ∙ ap (λ (k : ℕ). entry_at t k) (same_number n m same)))
+  | inl same ↦ rw same
+      (ap (λ (p : Option FileState). file_awaits p x d) (sym e ∙ ap (λ (k : ℕ). entry_at t k) (same_number n m same)))
   | inr other ↦ rw other refl
 ]
 
@@ -76,16 +78,20 @@ found_without : (t : Table) (n m : ℕ) → (n == m) ≡ false → entry_at (wit
 found_without [] n m other = refl
 found_without (e ∷ es) n m other = elim (cases_Bool (is_at (nat_cmp n) e.0)) [
   | inl here ↦ rw (here, not_at n m e.0 here other) refl
-  | inr there ↦ rw there (elim (cases_Bool (is_at (nat_cmp m) e.0)) [ inl found ↦ rw found refl | inr not_found ↦ rw not_found (found_without es n m other) ])
+  | inr there ↦ rw there
+      (elim (cases_Bool (is_at (nat_cmp m) e.0))
+      [ inl found ↦ rw found refl | inr not_found ↦ rw not_found (found_without es n m other) ])
 ]
 
 stays_at : (n m : ℕ) (old new : Table) → OthersStay n old new → (n == m) ≡ false → entry_at new m ≡ entry_at old m
-stays_at n m old new others other = sym (found_without new n m other) ∙ ap (λ (t : Table). entry_at t m) others ∙ found_without old n m other
+stays_at n m old new others other =
+    sym (found_without new n m other) ∙ ap (λ (t : Table). entry_at t m) others ∙ found_without old n m other
 
 pub still_listed : (n : ℕ) (ks : Keys) (old new : Table) → OthersStay n old new → AreListedBut n ks old → AreListedBut n ks new
 still_listed n ks old new others a = λ x d m. elim (cases_Bool (n == m)) [
   | inl here ↦ a x d m ∙ rw here refl
-  | inr there ↦ a x d m ∙ ap (λ (o : Option FileState). not (n == m) && file_awaits o x d) (sym (stays_at n m old new others there))
+  | inr there ↦ a x d m
+      ∙ ap (λ (o : Option FileState). not (n == m) && file_awaits o x d) (sym (stays_at n m old new others there))
 ]
 
 pub others_set : (t : Table) (n : ℕ) (g : FileState) → OthersStay n t (set_value (is_at (nat_cmp n)) t g)
@@ -105,7 +111,8 @@ none_again k (e ∷ es) a = rw (not_equal k e.0 a.0) (none_again k es a.1)
     not_equal : (k n : ℕ) → nat_cmp k n ≡ Less → is_at (nat_cmp k) n ≡ false
     not_equal k n l = grind (arith, nat_tests, at_number k n, l)
 
-pub sorted_rest : (n : ℕ) (ks : List ℕ) → IsStrictlySortedBy nat_cmp (n ∷ ks) → AllByRecursion (λ k. nat_cmp n k ≡ Less) ks × IsStrictlySortedBy nat_cmp ks
+pub sorted_rest : (n : ℕ) (ks : List ℕ) → IsStrictlySortedBy nat_cmp (n ∷ ks) →
+    AllByRecursion (λ k. nat_cmp n k ≡ Less) ks × IsStrictlySortedBy nat_cmp ks
 unfolding IsStrictlySortedBy
 sorted_rest n ks s = s
 
@@ -114,17 +121,13 @@ pub record AreToList (ks : Keys) (left all : Table) : Type 0 where
   pub listed : (x d m : ℕ) → (file_awaits (entry_at left m) x d || has ks x d m) ≡ file_awaits (entry_at all m) x d
   pub sorted : IsStrictlySortedBy nat_cmp (keys_of left)
 
-either : (b c : Bool) → (b || (c || false)) ≡ (b || c)
-either true c = refl
-either false true = refl
-either false false = refl
-
 pub at_first : (t : Table) → IsStrictlySortedBy nat_cmp (keys_of t) → AreToList [] t t
 unfolding has
 at_first t s = record { listed = λ x d m. or-false (file_awaits (entry_at t m) x d); sorted = s }
 
 next_listed : (n m x d : ℕ) (f : FileState) (rest : Table) (old : Bool) → entry_at rest n ≡ None →
-    (file_awaits (entry_at rest m) x d || (((n == m) && job_awaits f.job x d) || old)) ≡ (file_awaits (entry_at ((n, f) ∷ rest) m) x d || old)
+    (file_awaits (entry_at rest m) x d || (((n == m) && job_awaits f.job x d) || old))
+        ≡ (file_awaits (entry_at ((n, f) ∷ rest) m) x d || old)
 next_listed n m x d f rest old none = elim (cases_Bool (n == m)) [
   | inl here ↦ rw (found n m here, here, sym (same_number n m here), none) refl
   | inr there ↦ rw (missed n m there, there) refl
@@ -137,7 +140,8 @@ next_listed n m x d f rest old none = elim (cases_Bool (n == m)) [
     missed n m e = grind (arith, nat_tests, at_number m n, e)
 
 pub one_more : (ks next : Keys) (n : ℕ) (f : FileState) (left rest all : Table) → left ≡ (n, f) ∷ rest →
-    ((x d m : ℕ) → has next x d m ≡ (((n == m) && job_awaits f.job x d) || has ks x d m)) → AreToList ks left all → AreToList next rest all
+    ((x d m : ℕ) → has next x d m ≡ (((n == m) && job_awaits f.job x d) || has ks x d m)) → AreToList ks left all →
+        AreToList next rest all
 one_more ks next n f left rest all e h a =
     let b : AreToList ks ((n, f) ∷ rest) all = subst (λ (t : Table). AreToList ks t all) e a in
     let order = sorted_rest n (keys_of rest) b.sorted in
@@ -155,16 +159,19 @@ at_last ks left all e a = λ x d m. ap (λ (t : Table). file_awaits (entry_at t 
 -- no file, and none awaits anything
 pub empty_listed : (ks : Keys) (t : Table) → ks ≡ [] → t ≡ [] → AreListed ks t
 unfolding has
-empty_listed ks t e h = subst (λ (z : Keys). AreListed z t) (sym e) (subst (λ (z : Table). AreListed [] z) (sym h) (λ x d m. refl))
+empty_listed ks t e h =
+    subst (λ (z : Keys). AreListed z t) (sym e) (subst (λ (z : Table). AreListed [] z) (sym h) (λ x d m. refl))
 
 -- ---- a step between
 
 -- what was done is the step of the same server
-pub did_between : (out : Step) (f : Server → RulesStep) (was old is new : Server) → old ≡ was → new ≡ is → Did out is (f old) → Did out new (f was)
+pub did_between : (out : Step) (f : Server → RulesStep) (was old is new : Server) → old ≡ was → new ≡ is → Did out is (f old) →
+    Did out new (f was)
 did_between out f was old is new e h did =
     subst (λ (s : Server). Did out s (f was)) (sym h) (subst (λ (s : Server). Did out is (f s)) e did)
 
-pub on_each : {A P Q R S T U : Type 0} (r : Result A Memory) → (P → Q → R → S → T → U) → OnOk r P → OnOk r Q → OnOk r R → OnOk r S → OnOk r T → OnOk r U
+pub on_each : {A P Q R S T U : Type 0} (r : Result A Memory) → (P → Q → R → S → T → U) → OnOk r P → OnOk r Q → OnOk r R →
+    OnOk r S → OnOk r T → OnOk r U
 on_each (Ok a) f p q u s v = f p q u s v
 on_each (Err e) f p q u s v = tt
 

@@ -8,7 +8,8 @@ use Rattle.server_rules.specs.Slots.{keep}
 use Rattle.server_state.specs.Kept.{place_in}
 
 -- in its place
-pub keep_there : (ss : List Slot) (s : Slot) → place_in ss s.client < length ss → slice_set ss (place_in ss s.client) s ≡ keep ss s
+pub keep_there : (ss : List Slot) (s : Slot) → place_in ss s.client < length ss →
+    slice_set ss (place_in ss s.client) s ≡ keep ss s
 unfolding place_in keep
 keep_there [] s l = absurd (omega (arith, l))
 keep_there (t ∷ ts) s l = elim (cases_Bool (t.client == s.client)) [
@@ -16,7 +17,8 @@ keep_there (t ∷ ts) s l = elim (cases_Bool (t.client == s.client)) [
   | inr not_here ↦ rw not_here (ap (λ us. t ∷ us) (keep_there ts s (behind t ts s (rw not_here at l))))
 ]
   where
-    behind : (t : Slot) (ts : List Slot) (s : Slot) → suc (place_in ts s.client) < length (t ∷ ts) → place_in ts s.client < length ts
+    behind : (t : Slot) (ts : List Slot) (s : Slot) → suc (place_in ts s.client) < length (t ∷ ts) →
+        place_in ts s.client < length ts
     behind t ts s l = omega (arith, l)
 
 -- behind all
@@ -31,11 +33,13 @@ keep_last (t ∷ ts) s l = elim (cases_Bool (t.client == s.client)) [
     none : (t : Slot) (ts : List Slot) → length (t ∷ ts) ≤ 0 → ⊥
     none t ts l = omega (arith, l)
 
-    behind : (t : Slot) (ts : List Slot) (s : Slot) → length (t ∷ ts) ≤ suc (place_in ts s.client) → length ts ≤ place_in ts s.client
+    behind : (t : Slot) (ts : List Slot) (s : Slot) → length (t ∷ ts) ≤ suc (place_in ts s.client) →
+        length ts ≤ place_in ts s.client
     behind t ts s l = omega (arith, l)
 
 -- where the code found its place
-pub set_there : (ss : List Slot) (s : Slot) (place len : ℕ) → place ≡ place_in ss s.client → len ≡ length ss → place < len → slice_set ss place s ≡ keep ss s
+pub set_there : (ss : List Slot) (s : Slot) (place len : ℕ) → place ≡ place_in ss s.client → len ≡ length ss → place < len →
+    slice_set ss place s ≡ keep ss s
 set_there ss s place len p n l = rw p (keep_there ss s (omega (arith, p, n, l)))
 
 -- where it found none

@@ -37,9 +37,11 @@ ends_without (g ∷ gs) client e = elim (cases_Bool (not (g.client == client))) 
 -- ---- jobs
 
 -- a job stays sound where all that it looks at stays
-job_same : (k l : Kept) (j : Option Job) → l.tag ≡ k.tag → l.map ≡ k.map → l.components ≡ k.components → HasSoundJob k j → HasSoundJob l j
+job_same : (k l : Kept) (j : Option Job) → l.tag ≡ k.tag → l.map ≡ k.map → l.components ≡ k.components → HasSoundJob k j →
+    HasSoundJob l j
 job_same k l None t m c f = tt
-job_same k l (Some j) t m c f = fits_same k l (length j.awaited + length j.heard) (length j.awaited + length j.heard) j.work t m c (omega arith) f
+job_same k l (Some j) t m c f =
+    fits_same k l (length j.awaited + length j.heard) (length j.awaited + length j.heard) j.work t m c (omega arith) f
 
 -- where a grant ends and a job runs there is none still
 alone_without : (k : Kept) (client : ℕ) (j : Option Job) → IsAlone k j → IsAlone (record k { grants = without k.grants client }) j
@@ -57,8 +59,10 @@ high_low : (high : ℕ) (g : Grant) → high ≤ MAX_FILE_SIZE → g.end ≤ MAX
 high_low high g l e = elim (cases_Bool g.rw) [ inl t ↦ rw t (omega (arith, l, e)) | inr z ↦ rw z l ]
 
 -- a grant is given
-pub sound_given : (f : FileState) (g : Grant) (k : Kept) → g.first ≤ g.end → g.end ≤ MAX_FILE_SIZE → f.job ≡ None → IsSoundFile f →
-    k ≡ record f.kept { grants = f.kept.grants ++ (g ∷ []); high = high_after f.kept.high g } → IsSoundFile (record f { kept = k })
+pub sound_given : (f : FileState) (g : Grant) (k : Kept) → g.first ≤ g.end → g.end ≤ MAX_FILE_SIZE → f.job ≡ None →
+    IsSoundFile f →
+    k ≡ record f.kept { grants = f.kept.grants ++ (g ∷ []); high = high_after f.kept.high g } →
+        IsSoundFile (record f { kept = k })
 sound_given f g k r l i s e = record {
   kept = rw e (record {
     few = s.kept.few;
@@ -72,17 +76,21 @@ sound_given f g k r l i s e = record {
 }
 
 -- a client's grant goes
-pub sound_without : (f : FileState) (client : ℕ) → IsSoundFile f → IsSoundFile (record f { kept = record f.kept { grants = without f.kept.grants client } })
+pub sound_without : (f : FileState) (client : ℕ) → IsSoundFile f →
+    IsSoundFile (record f { kept = record f.kept { grants = without f.kept.grants client } })
 sound_without f client s = record {
-  kept = record { few = s.kept.few; whole = s.kept.whole; high = s.kept.high; live = ends_without f.kept.grants client s.kept.live; ended = s.kept.ended };
+  kept = record { few = s.kept.few; whole = s.kept.whole; high = s.kept.high; live =
+      ends_without f.kept.grants client s.kept.live; ended = s.kept.ended };
   alone = alone_without f.kept client f.job s.alone;
   job = job_same f.kept (record f.kept { grants = without f.kept.grants client }) f.job refl refl refl s.job;
 }
 
 -- components become missing
-pub sound_lost : (f : FileState) (ks : List ℕ) → f.job ≡ None → IsSoundFile f → IsSoundFile (record f { kept = record f.kept { components = lose_from ks f.kept.components 0 } })
+pub sound_lost : (f : FileState) (ks : List ℕ) → f.job ≡ None → IsSoundFile f →
+    IsSoundFile (record f { kept = record f.kept { components = lose_from ks f.kept.components 0 } })
 sound_lost f ks i s = record {
-  kept = record { few = rw (length_lost ks f.kept.components 0) s.kept.few; whole = rw (length_lost ks f.kept.components 0) s.kept.whole; high = s.kept.high; live = s.kept.live; ended = s.kept.ended };
+  kept = record { few = rw (length_lost ks f.kept.components 0) s.kept.few; whole =
+      rw (length_lost ks f.kept.components 0) s.kept.whole; high = s.kept.high; live = s.kept.live; ended = s.kept.ended };
   alone = alone_idle (record f.kept { components = lose_from ks f.kept.components 0 }) f.job i;
   job = job_idle (record f.kept { components = lose_from ks f.kept.components 0 }) f.job i;
 }
@@ -110,13 +118,15 @@ unfolding return_row
 none_has f client report ks e t = absurd (cc (rw e at t))
 
 -- a loss is taken only where the client has a grant, and so where no job runs
-pub taken_idle : (f : Kept) (j : Option Job) (client : ℕ) (report : List IoErr) (ks : List ℕ) → IsAlone f j → return_row f client report ≡ Taken ks → j ≡ None
+pub taken_idle : (f : Kept) (j : Option Job) (client : ℕ) (report : List IoErr) (ks : List ℕ) → IsAlone f j →
+    return_row f client report ≡ Taken ks → j ≡ None
 taken_idle f None client report ks a t = refl
 taken_idle f (Some j) client report ks a t = absurd (none_has f client report ks a t)
 
 -- ---- a LAYOUTGET of which grants decide
 
-behind_all : (a b c : Bool) (row : Early) → On ≡ (if a then BadMode else if b then Invalid else if c then Unable else row) → On ≡ row
+behind_all : (a b c : Bool) (row : Early) → On ≡ (if a then BadMode else if b then Invalid else if c then Unable else row) →
+    On ≡ row
 behind_all true b c row e = absurd (cc e)
 behind_all false true c row e = absurd (cc e)
 behind_all false false true row e = absurd (cc e)
@@ -127,7 +137,9 @@ on_waits None e = refl
 on_waits (Some j) e = absurd (cc e)
 
 -- the rows of grants come only where no job runs
-pub on_idle : (spent : Bool) (j : Option Job) (iomode offset count : ℕ) → On ≡ early_of spent (waited j) iomode offset count → j ≡ None
+pub on_idle : (spent : Bool) (j : Option Job) (iomode offset count : ℕ) → On ≡ early_of spent (waited j) iomode offset count →
+    j ≡ None
 unfolding early_of
 on_idle spent j iomode offset count e =
-    on_waits j (behind_all (not ((iomode == LAYOUTIOMODE4_READ) || (iomode == LAYOUTIOMODE4_RW))) ((count == 0) || nat_lt MAX_FILE_SIZE (offset + count)) spent (by_waits (waited j)) e)
+    on_waits j (behind_all (not ((iomode == LAYOUTIOMODE4_READ) || (iomode == LAYOUTIOMODE4_RW)))
+        ((count == 0) || nat_lt MAX_FILE_SIZE (offset + count)) spent (by_waits (waited j)) e)

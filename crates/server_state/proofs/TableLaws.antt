@@ -29,7 +29,8 @@ file_at-files (e ∷ es) n a = elim (cases_Bool (e.1.kept.number == n)) [
 ]
 
 -- in the place of the file of a number
-pub put_file-files : (t : Table) (n : ℕ) (f : FileState) → AreEntries t → put_file (files_in t) n (file_of f) ≡ files_in (set_value (is_at (nat_cmp n)) t f)
+pub put_file-files : (t : Table) (n : ℕ) (f : FileState) → AreEntries t →
+    put_file (files_in t) n (file_of f) ≡ files_in (set_value (is_at (nat_cmp n)) t f)
 unfolding put_file
 put_file-files [] n f a = refl
 put_file-files (e ∷ es) n f a = elim (cases_Bool (e.1.kept.number == n)) [
@@ -38,7 +39,8 @@ put_file-files (e ∷ es) n f a = elim (cases_Bool (e.1.kept.number == n)) [
 ]
 
 -- the file that is put stands at its number
-pub entries_put : (t : Table) (n : ℕ) (f : FileState) → AreEntries t → IsEntry (n, f) → AreEntries (set_value (is_at (nat_cmp n)) t f)
+pub entries_put : (t : Table) (n : ℕ) (f : FileState) → AreEntries t → IsEntry (n, f) →
+    AreEntries (set_value (is_at (nat_cmp n)) t f)
 entries_put [] n f a i = tt
 entries_put (e ∷ es) n f a i = elim (cases_Bool (is_at (nat_cmp n) e.0)) [
   | inl here ↦ rw here (record { number = i.number ∙ same_key n e.0 here; sound = i.sound }, a.1)
@@ -59,23 +61,28 @@ entry_found (x ∷ xs) n f a e = elim (cases_Bool (is_at (nat_cmp n) x.0)) [
     same_key : (n k : ℕ) → is_at (nat_cmp n) k ≡ true → n ≡ k
     same_key n k t = grind (arith, nat_tests, at_number n k, t)
 
-    found_here : (n : ℕ) (x : ℕ × FileState) (f : FileState) → IsEntry x → is_at (nat_cmp n) x.0 ≡ true → Some x.1 ≡ Some f → IsEntry (n, f)
+    found_here : (n : ℕ) (x : ℕ × FileState) (f : FileState) → IsEntry x → is_at (nat_cmp n) x.0 ≡ true → Some x.1 ≡ Some f →
+        IsEntry (n, f)
     found_here n x f i t e =
         let same : x.1 ≡ f = cc e in
-        record { number = ap (λ (y : FileState). y.kept.number) (sym same) ∙ i.number ∙ sym (same_key n x.0 t); sound = subst (λ y. IsSoundFile y) same i.sound }
+        record { number = ap (λ (y : FileState). y.kept.number) (sym same) ∙ i.number ∙ sym (same_key n x.0 t); sound =
+            subst (λ y. IsSoundFile y) same i.sound }
 
 -- it stays at its number
-pub entries_left : (t : Table) (n : ℕ) (f g : FileState) → AreEntries t → entry_at t n ≡ Some f → LeavesFile f g → AreEntries (set_value (is_at (nat_cmp n)) t g)
+pub entries_left : (t : Table) (n : ℕ) (f g : FileState) → AreEntries t → entry_at t n ≡ Some f → LeavesFile f g →
+    AreEntries (set_value (is_at (nat_cmp n)) t g)
 entries_left t n f g a e l = entries_put t n g a (record { number = l.number ∙ (entry_found t n f a e).number; sound = l.sound })
 
 -- the file that there is, and the one that there isn't
-pub file_there : (t : Table) (n : ℕ) (f : FileState) → AreEntries t → entry_at t n ≡ Some f → file_at (files_in t) n ≡ Some (file_of f)
+pub file_there : (t : Table) (n : ℕ) (f : FileState) → AreEntries t → entry_at t n ≡ Some f →
+    file_at (files_in t) n ≡ Some (file_of f)
 file_there t n f a e = file_at-files t n a ∙ ap (option_map file_of) e
 
 pub no_file_there : (t : Table) (n : ℕ) → AreEntries t → entry_at t n ≡ None → file_at (files_in t) n ≡ None
 no_file_there t n a e = file_at-files t n a ∙ ap (option_map file_of) e
 
-pub size_there : (t : Table) (n : ℕ) (f : FileState) → AreEntries t → entry_at t n ≡ Some f → f.kept.size ≡ size_in (file_at (files_in t) n)
+pub size_there : (t : Table) (n : ℕ) (f : FileState) → AreEntries t → entry_at t n ≡ Some f →
+    f.kept.size ≡ size_in (file_at (files_in t) n)
 size_there t n f a e = ap size_in (sym (file_there t n f a e))
 
 pub no_size_there : (t : Table) (n : ℕ) → AreEntries t → entry_at t n ≡ None → 0 ≡ size_in (file_at (files_in t) n)

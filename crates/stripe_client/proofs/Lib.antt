@@ -1,5 +1,3 @@
 pub mod SameFile
 pub mod Taking
 pub mod Moves
-pub mod Resending
-pub mod Hearings

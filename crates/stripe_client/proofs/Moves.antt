@@ -19,7 +19,7 @@ use Rattle.client_rules.specs.Io.{awaited_in}
 use Rattle.client_rules.specs.Replies.{answers}
 use Rattle.client_rules.specs.Answers.{on_commit}
 use Rattle.client_rules.specs.Going.{moved, phased, begins}
-use Rattle.client_rules.proofs.ReadSteps.{held_file}
+use Rattle.client_rules.proofs.HeldGrants.{held_file}
 use Rattle.stripe_client.specs.Starting.{Deals}
 use Rattle.stripe_client.specs.Answering.{commits}
 use Rattle.stripe_client.specs.Driving.{replied_call, timed_call}

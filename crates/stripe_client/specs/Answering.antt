@@ -1,7 +1,6 @@
 -- The answer to a call's request.
 use Rattle.std.specs.Prelude.{List}
 use Rattle.client_rules.specs.declared.calls.CallOp.{CallOp}
-use Rattle.client_rules.specs.declared.calls.Call.{Call}
 use Rattle.client_rules.specs.declared.calls.TimedOut.{TimedOut}
 use Rattle.client_rules.specs.declared.calls.Need.{Need}
 use Rattle.client_rules.specs.declared.calls.Need.TheVariants.{Commit}
@@ -11,7 +10,7 @@ use Rattle.layout_ops.specs.declared.messages.Answer.{Answer}
 use Rattle.client_rules.specs.Calls.{file_of}
 use Rattle.client_rules.specs.Grants.{held_of}
 use Rattle.client_rules.specs.Going.{phased}
-use Rattle.client_rules.specs.Messages.{on_need, on_phase, commit_under}
+use Rattle.client_rules.specs.Messages.{on_need, commit_under}
 
 -- a call that was taken up waits for the answer to its commit
 abbrev pub commits : Done → CallOp → Answer → List TimedOut → Done
@@ -21,7 +20,3 @@ commits d op a timed =
 -- one that waits for an answer
 abbrev pub answers_need : Done → CallOp → Need → Answer → Done
 answers_need d op n a = on_need (phased d op (Waits n)) op n a
-
--- and one in any phase
-abbrev pub answers_call : Done → Call → Answer → Done
-answers_call d call a = on_phase (phased d call.op call.phase) call.op call.phase a

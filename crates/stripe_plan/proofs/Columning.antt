@@ -48,7 +48,10 @@ code_first PandQ ds c lt = get_or_append_left ds (p_of ds ∷ q_of ds ∷ []) 0 
 
 -- a data unit's word is the file's byte
 pub word_is : (m : RawMap) (d : ℕ → ℕ) (s b c : ℕ) → c < data_units m → word_of m d s b c ≡ d (unit_start m s c + b)
-word_is m d s b c lt = code_first (code_of m) (data_at m d s b) c (rw (data_long m d s b) lt) ∙ run_at (λ (c : ℕ). d (unit_start m s c + b)) 0 (data_units m) c 0 lt ∙ ap (λ (z : ℕ). d (unit_start m s z + b)) (omega arith)
+word_is m d s b c lt =
+    code_first (code_of m) (data_at m d s b) c (rw (data_long m d s b) lt)
+    ∙ run_at (λ (c : ℕ). d (unit_start m s c + b)) 0 (data_units m) c 0 lt
+    ∙ ap (λ (z : ℕ). d (unit_start m s z + b)) (omega arith)
 
 pub code_count : (m : RawMap) → count_of (code_of m) ≡ parities m
 code_count m = elim (cases_eq m.algorithm 1) [
@@ -66,31 +69,41 @@ unfolding known_from
 known_long m got out s b c zero = refl
 known_long m got out s b c (suc n) = ap suc (known_long m got out s b (c + 1) n)
 
-known_at : (m : RawMap) (got : List Column) (out : List ℕ) (s b c n k : ℕ) → k < n → get_or (known_from m got out s b c n) k 0 ≡ (if is_out m out (position_of m s (c + k)) then 0 else got_at m got s b (c + k))
+known_at : (m : RawMap) (got : List Column) (out : List ℕ) (s b c n k : ℕ) → k < n →
+    get_or (known_from m got out s b c n) k 0 ≡ (if is_out m out (position_of m s (c + k)) then 0 else got_at m got s b (c + k))
 unfolding known_from
 known_at m got out s b c zero k lt = absurd (omega (arith, lt))
 known_at m got out s b c (suc n) zero lt = let z : c + zero ≡ c = omega arith in rw z refl
-known_at m got out s b c (suc n) (suc k) lt = let z : c + suc k ≡ c + 1 + k = omega arith in rw z (known_at m got out s b (c + 1) n k (omega (arith, lt)))
+known_at m got out s b c (suc n) (suc k) lt = let z : c + suc k ≡ c + 1 + k = omega arith in
+    rw z (known_at m got out s b (c + 1) n k (omega (arith, lt)))
 
 -- what was got of a column of these data, where each unit that isn't out was got
 pub known_agrees : (m : RawMap) (got : List Column) (out : List ℕ) (d : ℕ → ℕ) (s b : ℕ) → IsChecked m →
     ((c : ℕ) → c < group_width m → is_out m out (position_of m s c) ≡ false → got_at m got s b c ≡ word_of m d s b c) →
-    AgreeOutside (lost_from m out s 0 (group_width m)) (codeword (code_of m) (data_at m d s b)) (known_from m got out s b 0 (group_width m))
+    AgreeOutside (lost_from m out s 0 (group_width m)) (codeword (code_of m) (data_at m d s b))
+        (known_from m got out s b 0 (group_width m))
 known_agrees m got out d s b ch had =
     let cw = codeword (code_of m) (data_at m d s b) in
-    let wide : length cw ≡ group_width m = length_codeword (code_of m) (data_at m d s b) ∙ omega (arith, data_long m d s b, code_count m, ch.some_data) in
+    let wide : length cw ≡ group_width m =
+        length_codeword (code_of m) (data_at m d s b) ∙ omega (arith, data_long m d s b, code_count m, ch.some_data) in
     let known = known_long m got out s b 0 (group_width m) in
     record {
       long = wide ∙ sym known;
       same = λ k none. elim (cases_lt k (group_width m)) [
         | inl low ↦
             let zk : 0 + k ≡ k = omega arith in
-            let left : get_or (known_from m got out s b 0 (group_width m)) k 0 ≡ (if is_out m out (position_of m s k) then 0 else got_at m got s b k) = rw zk at (known_at m got out s b 0 (group_width m) k low) in
+            let left : get_or
+                (known_from m got out s b 0 (group_width m)) k 0
+                    ≡ (if is_out m out (position_of m s k) then 0 else got_at m got s b k) =
+                    rw zk at (known_at m got out s b 0 (group_width m) k low) in
             elim (cases_Bool (is_out m out (position_of m s k))) [
-              | inl gone ↦ absurd (none (contained k (lost_from m out s 0 (group_width m)) (among_lost m out s 0 (group_width m) k (omega arith) (omega (arith, low)) ∙ gone)))
+              | inl gone ↦ absurd
+                  (none (contained k (lost_from m out s 0 (group_width m))
+                  (among_lost m out s 0 (group_width m) k (omega arith) (omega (arith, low)) ∙ gone)))
               | inr there ↦ sym (left ∙ rw there refl ∙ had k low there)
             ]
-        | inr beyond ↦ get_or_past cw k 0 (omega (arith, beyond, wide)) ∙ sym (get_or_past (known_from m got out s b 0 (group_width m)) k 0 (omega (arith, beyond, known)))
+        | inr beyond ↦ get_or_past cw k 0 (omega (arith, beyond, wide))
+            ∙ sym (get_or_past (known_from m got out s b 0 (group_width m)) k 0 (omega (arith, beyond, known)))
       ];
     }
 
@@ -102,7 +115,11 @@ unfolding decoded_at
 decoded_is m got out d s b ch bytes had few =
     let long = data_long m d s b in
     let lost = lost_from m out s 0 (group_width m) in
-    let end : 0 + group_width m ≡ length (data_at m d s b) + count_of (code_of m) = omega (arith, long, code_count m, ch.some_data) in
-    let are : AreLost (code_of m) (length (data_at m d s b)) lost = are_lost (code_of m) (length (data_at m d s b)) lost (rw end at (lost_rises m out s 0 (group_width m))) (omega (arith, few, code_count m)) (count_most (code_of m)) in
+    let end : 0 + group_width m ≡ length (data_at m d s b) + count_of (code_of m) =
+        omega (arith, long, code_count m, ch.some_data) in
+    let are : AreLost (code_of m) (length (data_at m d s b)) lost =
+        are_lost (code_of m) (length (data_at m d s b)) lost (rw end at (lost_rises m out s 0 (group_width m)))
+            (omega (arith, few, code_count m)) (count_most (code_of m)) in
     ap (λ (n : ℕ). decoded n lost (known_from m got out s b 0 (group_width m))) (sym long)
-    ∙ decoded_back (code_of m) (data_at m d s b) lost (known_from m got out s b 0 (group_width m)) (data_bytes m d s b bytes) (omega (arith, long, ch.narrow)) are (known_agrees m got out d s b ch had)
+    ∙ decoded_back (code_of m) (data_at m d s b) lost (known_from m got out s b 0 (group_width m)) (data_bytes m d s b bytes)
+        (omega (arith, long, ch.narrow)) are (known_agrees m got out d s b ch had)

@@ -12,7 +12,8 @@ pub empty : (ts : List Stretch) (p : ℕ) (i : Interval) → i.end ≤ i.first �
 unfolding without
 empty [] p i le = rw (le-ltb i.first i.end le) refl
 empty (t ∷ ts) p i le = elim (cases_eq t.position p) [
-  | inl same ↦ rw (eq-eqb t.position p same, empty ts p (before t i) (omega (arith, le)), empty ts p (behind t i) (omega (arith, le))) refl
+  | inl same ↦ rw (eq-eqb t.position p same, empty ts p (before t i) (omega (arith, le)),
+      empty ts p (behind t i) (omega (arith, le))) refl
   | inr other ↦ rw (ne_eqb t.position p other) (empty ts p i le)
 ]
 
@@ -32,23 +33,32 @@ pub cut_again : (t : Stretch) (is : List Interval) → flat_map some_of (flat_ma
 cut_again t [] = refl
 cut_again t (i ∷ is) =
     flat_map-append some_of (cut t i) (flat_map (cut t) is)
-    ∙ ap (λ xs. xs ++ flat_map some_of (flat_map (cut t) is)) (flat_map-append some_of (some_of (before t i)) (some_of (behind t i)) ∙ ap (λ xs. xs ++ flat_map some_of (some_of (behind t i))) (some_again (before t i)) ∙ ap (λ xs. some_of (before t i) ++ xs) (some_again (behind t i)))
+    ∙ ap (λ xs. xs ++ flat_map some_of (flat_map (cut t) is))
+        (flat_map-append some_of (some_of (before t i)) (some_of (behind t i))
+        ∙ ap (λ xs. xs ++ flat_map some_of (some_of (behind t i))) (some_again (before t i))
+        ∙ ap (λ xs. some_of (before t i) ++ xs) (some_again (behind t i)))
     ∙ ap (λ xs. cut t i ++ xs) (cut_again t is)
 
 -- one stretch more
-pub cut_out : (t : Stretch) (ts : List Stretch) (p : ℕ) (is : List Interval) → t.position ≡ p → flat_map (without ts p) (flat_map (cut t) is) ≡ flat_map (without (t ∷ ts) p) is
+pub cut_out : (t : Stretch) (ts : List Stretch) (p : ℕ) (is : List Interval) → t.position ≡ p →
+    flat_map (without ts p) (flat_map (cut t) is) ≡ flat_map (without (t ∷ ts) p) is
 unfolding without
 cut_out t ts p [] same = refl
 cut_out t ts p (i ∷ is) same =
     flat_map-append (without ts p) (cut t i) (flat_map (cut t) is)
-    ∙ ap (λ xs. xs ++ flat_map (without ts p) (flat_map (cut t) is)) (flat_map-append (without ts p) (some_of (before t i)) (some_of (behind t i)) ∙ ap (λ xs. xs ++ flat_map (without ts p) (some_of (behind t i))) (of_some ts p (before t i)) ∙ ap (λ xs. without ts p (before t i) ++ xs) (of_some ts p (behind t i)))
+    ∙ ap (λ xs. xs ++ flat_map (without ts p) (flat_map (cut t) is))
+        (flat_map-append (without ts p) (some_of (before t i)) (some_of (behind t i))
+        ∙ ap (λ xs. xs ++ flat_map (without ts p) (some_of (behind t i))) (of_some ts p (before t i))
+        ∙ ap (λ xs. without ts p (before t i) ++ xs) (of_some ts p (behind t i)))
     ∙ ap (λ xs. (without ts p (before t i) ++ without ts p (behind t i)) ++ xs) (cut_out t ts p is same)
     ∙ sym (rw (eq-eqb t.position p same) refl)
 
-pub left_in : (t : Stretch) (ts : List Stretch) (p : ℕ) (is : List Interval) → (t.position ≡ p → ⊥) → flat_map (without ts p) is ≡ flat_map (without (t ∷ ts) p) is
+pub left_in : (t : Stretch) (ts : List Stretch) (p : ℕ) (is : List Interval) → (t.position ≡ p → ⊥) →
+    flat_map (without ts p) is ≡ flat_map (without (t ∷ ts) p) is
 unfolding without
 left_in t ts p [] other = refl
-left_in t ts p (i ∷ is) other = ap (λ xs. without ts p i ++ xs) (left_in t ts p is other) ∙ sym (rw (ne_eqb t.position p other) refl)
+left_in t ts p (i ∷ is) other =
+    ap (λ xs. without ts p i ++ xs) (left_in t ts p is other) ∙ sym (rw (ne_eqb t.position p other) refl)
 
 -- all that is left has bytes
 pub all_left : (ts : List Stretch) (p : ℕ) (is : List Interval) → ts ≡ [] → flat_map (without ts p) is ≡ flat_map some_of is

@@ -22,11 +22,13 @@ use Rattle.stripe_plan.proofs.Parities.{left}
 pub none : (i e : ℕ) → e ≤ i → e - i ≡ 0
 none i e le = omega (arith, le)
 
-pub source_from_first : (m : RawMap) (out : List ℕ) (p k : ℕ) → k ≡ p * replicas m → source_from out k (k + replicas m - k) ≡ source m out p
+pub source_from_first : (m : RawMap) (out : List ℕ) (p k : ℕ) → k ≡ p * replicas m →
+    source_from out k (k + replicas m - k) ≡ source m out p
 unfolding source
 source_from_first m out p k first = let n : k + replicas m - k ≡ replicas m = omega arith in rw (n, first) refl
 
-pub source_step : (out : List ℕ) (k e : ℕ) → k < e → source_from out k (e - k) ≡ (if among k out then source_from out (k + 1) (e - (k + 1)) else Some k)
+pub source_step : (out : List ℕ) (k e : ℕ) → k < e →
+    source_from out k (e - k) ≡ (if among k out then source_from out (k + 1) (e - (k + 1)) else Some k)
 unfolding source_from
 source_step out k e lt = rw (left k e lt) refl
 
@@ -35,7 +37,8 @@ unfolding source_from
 source_end out k e le = rw (none k e le) refl
 
 pub out_step : (m : RawMap) (out : List ℕ) (p e : ℕ) → p < e →
-    out_from m out p (e - p) ≡ (if is_out m out p then p ∷ out_from m out (p + 1) (e - (p + 1)) else out_from m out (p + 1) (e - (p + 1)))
+    out_from m out p
+        (e - p) ≡ (if is_out m out p then p ∷ out_from m out (p + 1) (e - (p + 1)) else out_from m out (p + 1) (e - (p + 1)))
 unfolding out_from
 out_step m out p e lt = rw (left p e lt) refl
 
@@ -44,7 +47,8 @@ unfolding out_from
 out_end m out p e le = rw (none p e le) refl
 
 pub hit_step : (m : RawMap) (r : Span) (out : List ℕ) (s c e : ℕ) → c < e →
-    hit_from m r out s c (e - c) ≡ ((touches m r s c && is_out m out (position_of m s c)) || hit_from m r out s (c + 1) (e - (c + 1)))
+    hit_from m r out s c
+        (e - c) ≡ ((touches m r s c && is_out m out (position_of m s c)) || hit_from m r out s (c + 1) (e - (c + 1)))
 unfolding hit_from
 hit_step m r out s c e lt = rw (left c e lt) refl
 
@@ -53,7 +57,10 @@ unfolding hit_from
 hit_end m r out s c e le = rw (none c e le) refl
 
 pub writable_step : (m : RawMap) (out : List ℕ) (s e : ℕ) → s < e →
-    unwritable m out (range_with_len s (e - s)) ≡ (if is_short m out s then Some (positions_out m out (group_of m s)) else unwritable m out (range_with_len (s + 1) (e - (s + 1))))
+    unwritable m out
+        (range_with_len s (e - s))
+            ≡ (if is_short m out s then Some (positions_out m out (group_of m s)) else unwritable m out
+            (range_with_len (s + 1) (e - (s + 1))))
 unfolding unwritable
 writable_step m out s e lt = rw (left s e lt) refl
 
@@ -63,7 +70,8 @@ writable_end m out s e le = rw (none s e le) refl
 
 pub readable_step : (m : RawMap) (r : Span) (out : List ℕ) (s e : ℕ) → s < e →
     unreadable m r out (range_with_len s (e - s))
-    ≡ (if is_hit m r out s && is_short m out s then Some (positions_out m out (group_of m s)) else unreadable m r out (range_with_len (s + 1) (e - (s + 1))))
+    ≡ (if is_hit m r out s && is_short m out s then Some (positions_out m out (group_of m s)) else unreadable m r out
+        (range_with_len (s + 1) (e - (s + 1))))
 unfolding unreadable
 readable_step m r out s e lt = rw (left s e lt) refl
 
@@ -75,7 +83,9 @@ pub each_first : (out : List ℕ) (s p k n : ℕ) (is : List Interval) → asks_
 each_first out s p k n is = let e : k + n - k ≡ n = omega arith in rw e refl
 
 pub each_step : (out : List ℕ) (s p k e : ℕ) (is : List Interval) → k < e →
-    asks_each out s p k (e - k) is ≡ (if among k out then asks_each out s p (k + 1) (e - (k + 1)) is else asks_of s p k is ++ asks_each out s p (k + 1) (e - (k + 1)) is)
+    asks_each out s p k
+        (e - k) is ≡ (if among k out then asks_each out s p (k + 1) (e - (k + 1)) is else asks_of s p k is ++ asks_each out s p
+        (k + 1) (e - (k + 1)) is)
 unfolding asks_each
 each_step out s p k e is lt = rw (left k e lt) refl
 
@@ -84,25 +94,31 @@ unfolding asks_each
 each_end out s p k e is le = rw (none k e le) refl
 
 pub place_step : (aim : Aim) (m : RawMap) (r : Span) (out : List ℕ) (had : List Stretch) (s i e : ℕ) → i < e →
-    asks_stripe aim m r out had s i (e - i) ≡ asks_place aim m r out had s i ++ asks_stripe aim m r out had s (i + 1) (e - (i + 1))
+    asks_stripe aim m r out had s i (e - i) ≡ asks_place aim m r out had s i ++ asks_stripe aim m r out had s (i + 1)
+        (e - (i + 1))
 unfolding asks_stripe
 place_step aim m r out had s i e lt = rw (left i e lt) refl
 
-pub place_end : (aim : Aim) (m : RawMap) (r : Span) (out : List ℕ) (had : List Stretch) (s i e : ℕ) → e ≤ i → asks_stripe aim m r out had s i (e - i) ≡ []
+pub place_end : (aim : Aim) (m : RawMap) (r : Span) (out : List ℕ) (had : List Stretch) (s i e : ℕ) → e ≤ i →
+    asks_stripe aim m r out had s i (e - i) ≡ []
 unfolding asks_stripe
 place_end aim m r out had s i e le = rw (none i e le) refl
 
 pub stripe_step : (aim : Aim) (m : RawMap) (r : Span) (out : List ℕ) (had : List Stretch) (s e : ℕ) → s < e →
-    asks aim m r out had (range_with_len s (e - s)) ≡ asks_stripe aim m r out had s 0 (group_width m) ++ asks aim m r out had (range_with_len (s + 1) (e - (s + 1)))
+    asks aim m r out had (range_with_len s (e - s)) ≡ asks_stripe aim m r out had s 0 (group_width m) ++ asks aim m r out had
+        (range_with_len (s + 1) (e - (s + 1)))
 unfolding asks
 stripe_step aim m r out had s e lt = rw (left s e lt) refl
 
-pub stripe_end : (aim : Aim) (m : RawMap) (r : Span) (out : List ℕ) (had : List Stretch) (s e : ℕ) → e ≤ s → asks aim m r out had (range_with_len s (e - s)) ≡ []
+pub stripe_end : (aim : Aim) (m : RawMap) (r : Span) (out : List ℕ) (had : List Stretch) (s e : ℕ) → e ≤ s →
+    asks aim m r out had (range_with_len s (e - s)) ≡ []
 unfolding asks
 stripe_end aim m r out had s e le = rw (none s e le) refl
 
 pub lost_step : (m : RawMap) (out : List ℕ) (s c e : ℕ) → c < e →
-    lost_from m out s c (e - c) ≡ (if is_out m out (position_of m s c) then c ∷ lost_from m out s (c + 1) (e - (c + 1)) else lost_from m out s (c + 1) (e - (c + 1)))
+    lost_from m out s c
+        (e - c) ≡ (if is_out m out (position_of m s c) then c ∷ lost_from m out s (c + 1) (e - (c + 1)) else lost_from m out s
+        (c + 1) (e - (c + 1)))
 unfolding lost_from
 lost_step m out s c e lt = rw (left c e lt) refl
 
@@ -110,14 +126,16 @@ pub lost_end : (m : RawMap) (out : List ℕ) (s c e : ℕ) → e ≤ c → lost_
 unfolding lost_from
 lost_end m out s c e le = rw (none c e le) refl
 
-pub range_step : {A : Type 0} (f : ℕ → A) (i e : ℕ) → i < e → map f (range_with_len i (e - i)) ≡ f i ∷ map f (range_with_len (i + 1) (e - (i + 1)))
+pub range_step : {A : Type 0} (f : ℕ → A) (i e : ℕ) → i < e →
+    map f (range_with_len i (e - i)) ≡ f i ∷ map f (range_with_len (i + 1) (e - (i + 1)))
 range_step f i e lt = rw (left i e lt) refl
 
 pub range_end : {A : Type 0} (f : ℕ → A) (i e : ℕ) → e ≤ i → map f (range_with_len i (e - i)) ≡ []
 range_end f i e le = rw (none i e le) refl
 
 -- what is made and one more, and the rest
-pub one_more : {A : Type 0} (made next rest all new : List A) → new ≡ made ++ next → made ++ (next ++ rest) ≡ all → new ++ rest ≡ all
+pub one_more : {A : Type 0} (made next rest all new : List A) → new ≡ made ++ next → made ++ (next ++ rest) ≡ all →
+    new ++ rest ≡ all
 one_more made next rest all new e i = ap (λ xs. xs ++ rest) e ∙ append_assoc made next rest ∙ i
 
 -- all is made
@@ -139,13 +157,16 @@ parts_told cols [] = refl
 parts_told cols (a ∷ xs) = ap (λ (ws : List Part). part_of (filled cols a) ∷ ws) (parts_told cols xs)
 
 -- where no stripe lacks too many positions there is a plan
-given : {X Y : Type 0} (lost : Option (List ℕ)) (x : X) (y z : Y) → Gives (unless_lost lost y) (Ok z) → Gives (unless_lost lost x) (Ok x)
+given : {X Y : Type 0} (lost : Option (List ℕ)) (x : X) (y z : Y) → Gives (unless_lost lost y) (Ok z) →
+    Gives (unless_lost lost x) (Ok x)
 given None x y z g = inr refl
 given (Some ps) x y z (inl e) = absurd (cc e)
 given (Some ps) x y z (inr e) = absurd (cc e)
 
-pub scattered : {Y : Type 0} (m : RawMap) (r : Span) (cols : List Column) (out : List ℕ) (y z : Y) (xs : List Ask) (stores : List Store) (ws : List Part) →
-    Gives (unless_lost (unwritable m out (stripes m r)) y) (Ok z) → xs ≡ writes m r out → stores ≡ filled_each cols xs → ws ≡ parts_of stores → Gives (plan_scatter m r cols out) (Ok ws)
+pub scattered : {Y : Type 0} (m : RawMap) (r : Span) (cols : List Column) (out : List ℕ) (y z : Y) (xs : List Ask)
+    (stores : List Store) (ws : List Part) →
+    Gives (unless_lost (unwritable m out (stripes m r)) y) (Ok z) → xs ≡ writes m r out → stores ≡ filled_each cols xs →
+        ws ≡ parts_of stores → Gives (plan_scatter m r cols out) (Ok ws)
 unfolding plan_scatter
 scattered m r cols out y z xs stores ws g asked made is =
     let all : ws ≡ writes_of cols (writes m r out) = is ∙ ap parts_of made ∙ parts_told cols xs ∙ ap (writes_of cols) asked in

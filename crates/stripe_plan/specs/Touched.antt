@@ -1,10 +1,10 @@
 -- The stripes and columns that a range of a file touches.
-use Rattle.std.specs.Prelude.{ℕ, ◌+◌, ◌-◌, ◌*◌, ◌%◌, ◌==◌, ◌≤◌, ◌<◌, ◌&&◌, Bool, nat_le, nat_lt, min, max}
+use Rattle.std.specs.Prelude.{ℕ, ◌+◌, ◌-◌, ◌*◌, ◌%◌, ◌==◌, ◌≤◌, ◌&&◌, Bool, nat_le, nat_lt, min, max}
 use Rattle.std.specs.Prelude.{if◌then◌else◌, List, [], ◌∷◌}
 use Rattle.std.specs.List.{range_with_len}
 use Rattle.data_map.specs.declared.check.RawMap.{RawMap}
 use Rattle.data_map.specs.declared.ranges.TheConstants.{MAX_FILE_SIZE}
-use Rattle.data_map.specs.Striping.{stripe_of, stripe_length, data_units}
+use Rattle.data_map.specs.Striping.{stripe_of, stripe_length}
 use Rattle.stripe_plan.specs.declared.plan.Span.{Span}
 use Rattle.stripe_plan.specs.declared.plan.Interval.{Interval}
 
@@ -44,10 +44,6 @@ IsLow i = (i.first ≤ MAX_FILE_SIZE) × (i.end ≤ MAX_FILE_SIZE)
 -- whether the range has bytes in data unit c of stripe s
 unfoldable pub touches : RawMap → Span → (s c : ℕ) → Bool
 touches m r s c = nat_lt (own m r s c).first (own m r s c).end
-
--- the touched columns of a stripe are those of its data units, taken together
-abbrev pub IsTouched : RawMap → Span → (s b : ℕ) → Type 0
-IsTouched m r s b = (c : ℕ) × (c < data_units m) × ((own m r s c).first ≤ b) × (b < (own m r s c).end)
 
 -- the stripe's own bytes at which the range begins and ends in it
 abbrev pub low : RawMap → Span → (s : ℕ) → ℕ

@@ -27,7 +27,9 @@ less_again unit column = omega arith
 
 -- the first piece, and those behind it
 rest_first : (unit stripe column : ℕ) → column < unit →
-    rest_of unit stripe column ≡ (record { stripe = stripe; column = column; count = min MAX_PIECE (unit - column) } ∷ rest_of unit stripe (column + MAX_PIECE))
+    rest_of unit stripe column
+        ≡ (record { stripe = stripe; column = column; count = min MAX_PIECE (unit - column) } ∷ rest_of unit stripe
+        (column + MAX_PIECE))
 unfolding pieces_from
 rest_first unit stripe column l =
     let some : 0 < unit - column = omega (arith, l) in
@@ -41,7 +43,8 @@ none_behind unit stripe column l =
 
 -- ---- pieces of a range
 
-along_more : (unit first end : ℕ) → first < end → pieces_along unit first (end - first) ≡ rest_of unit first 0 ++ pieces_along unit (first + 1) (end - (first + 1))
+along_more : (unit first end : ℕ) → first < end →
+    pieces_along unit first (end - first) ≡ rest_of unit first 0 ++ pieces_along unit (first + 1) (end - (first + 1))
 unfolding pieces_along
 along_more unit first end l =
     let n : end - first ≡ suc (end - (first + 1)) = omega (arith, l) in
@@ -55,7 +58,8 @@ along_none unit first end l =
     rw n refl
 
 -- the pieces of a range are those left at its begin
-pub begin_is : (unit first end next : ℕ) → rest_in unit (record { stripe = first; column = 0; end = end; next = next }) ≡ pieces_along unit first (end - first)
+pub begin_is : (unit first end next : ℕ) →
+    rest_in unit (record { stripe = first; column = 0; end = end; next = next }) ≡ pieces_along unit first (end - first)
 begin_is unit first end next = elim (cases_lt first end) [
   | inl l ↦ rw (is_less first end l) (sym (along_more unit first end l))
   | inr l ↦ rw (not_less first end l) (sym (along_none unit first end l))
@@ -63,15 +67,18 @@ begin_is unit first end next = elim (cases_lt first end) [
 
 -- ---- from range to range
 
-more_pieces : (unit : ℕ) (r : Stripes) (rs : List Stripes) → pieces unit (r ∷ rs) ≡ pieces_along unit r.first (r.end - r.first) ++ pieces unit rs
+more_pieces : (unit : ℕ) (r : Stripes) (rs : List Stripes) →
+    pieces unit (r ∷ rs) ≡ pieces_along unit r.first (r.end - r.first) ++ pieces unit rs
 unfolding pieces
 more_pieces unit r rs = refl
 
 -- where none is left of a range, the next one begins
-pub to_next : (unit : ℕ) (ranges : List Stripes) (s : Spot) (r : Stripes) → s.end ≤ s.stripe → s.next < length ranges → r ≡ get_or ranges s.next r →
+pub to_next : (unit : ℕ) (ranges : List Stripes) (s : Spot) (r : Stripes) → s.end ≤ s.stripe → s.next < length ranges →
+    r ≡ get_or ranges s.next r →
     rest_at unit ranges (record { stripe = r.first; column = 0; end = r.end; next = s.next + 1 }) ≡ rest_at unit ranges s
 to_next unit ranges s r over l e =
-    let d : drop s.next ranges ≡ r ∷ drop (suc s.next) ranges = drop-cons ranges s.next r l ∙ ap (λ (x : Stripes). x ∷ drop (suc s.next) ranges) (sym e) in
+    let d : drop s.next ranges ≡ r ∷ drop (suc s.next) ranges =
+        drop-cons ranges s.next r l ∙ ap (λ (x : Stripes). x ∷ drop (suc s.next) ranges) (sym e) in
     let n : suc s.next ≡ s.next + 1 = omega arith in
     let t : rest_at unit ranges s ≡ pieces unit (drop s.next ranges) = rw (not_less s.stripe s.end over) refl in
     ap (λ (x : List Piece). x ++ pieces unit (drop (s.next + 1) ranges)) (begin_is unit r.first r.end (s.next + 1))
@@ -83,7 +90,8 @@ to_next unit ranges s r over l e =
 -- ---- from piece to piece
 
 -- the next columns of the stripe, of one range
-pub within_range : (unit : ℕ) (s : Spot) → s.column < unit → s.stripe < s.end → rest_in unit s ≡ piece_at unit s ∷ rest_in unit (record s { column = s.column + MAX_PIECE })
+pub within_range : (unit : ℕ) (s : Spot) → s.column < unit → s.stripe < s.end →
+    rest_in unit s ≡ piece_at unit s ∷ rest_in unit (record s { column = s.column + MAX_PIECE })
 within_range unit s l m = rw (is_less s.stripe s.end m, rest_first unit s.stripe s.column l) refl
 
 -- the next stripe of the range
@@ -91,18 +99,17 @@ pub past_range : (unit : ℕ) (s : Spot) → s.column < unit → s.stripe < s.en
     rest_in unit s ≡ piece_at unit s ∷ rest_in unit (record s { stripe = s.stripe + 1; column = 0 })
 past_range unit s l m over =
     within_range unit s l m
-    ∙ rw (is_less s.stripe s.end m, none_behind unit s.stripe (s.column + MAX_PIECE) over) (ap (λ (x : List Piece). piece_at unit s ∷ x) (sym (begin_is unit (s.stripe + 1) s.end s.next)))
-
--- none is left of the range
-pub over_range : (unit : ℕ) (s : Spot) → s.end ≤ s.stripe → rest_in unit s ≡ []
-over_range unit s a = rw (not_less s.stripe s.end a) refl
+    ∙ rw (is_less s.stripe s.end m, none_behind unit s.stripe (s.column + MAX_PIECE) over)
+        (ap (λ (x : List Piece). piece_at unit s ∷ x) (sym (begin_is unit (s.stripe + 1) s.end s.next)))
 
 -- all stripes of one range
-pub whole_range : (unit high : ℕ) → rest_at unit [] (record { stripe = 0; column = 0; end = high; next = 0 }) ≡ pieces_along unit 0 high
+pub whole_range : (unit high : ℕ) →
+    rest_at unit [] (record { stripe = 0; column = 0; end = high; next = 0 }) ≡ pieces_along unit 0 high
 unfolding pieces
 whole_range unit high =
     let all : high - 0 ≡ high = omega arith in
-    append-nil (rest_in unit (record { stripe = 0; column = 0; end = high; next = 0 })) ∙ begin_is unit 0 high 0 ∙ ap (λ (n : ℕ). pieces_along unit 0 n) all
+    append-nil (rest_in unit (record { stripe = 0; column = 0; end = high; next = 0 })) ∙ begin_is unit 0 high 0
+        ∙ ap (λ (n : ℕ). pieces_along unit 0 n) all
 
 -- the next columns of the stripe
 pub within : (unit : ℕ) (ranges : List Stripes) (s : Spot) → s.column < unit → s.stripe < s.end →
@@ -114,7 +121,9 @@ pub past : (unit : ℕ) (ranges : List Stripes) (s : Spot) → s.column < unit �
     rest_at unit ranges s ≡ piece_at unit s ∷ rest_at unit ranges (record s { stripe = s.stripe + 1; column = 0 })
 past unit ranges s l m over =
     within unit ranges s l m
-    ∙ rw (is_less s.stripe s.end m, none_behind unit s.stripe (s.column + MAX_PIECE) over) (ap (λ (x : List Piece). piece_at unit s ∷ (x ++ pieces unit (drop s.next ranges))) (sym (begin_is unit (s.stripe + 1) s.end s.next)))
+    ∙ rw (is_less s.stripe s.end m, none_behind unit s.stripe (s.column + MAX_PIECE) over)
+        (ap (λ (x : List Piece). piece_at unit s ∷ (x ++ pieces unit (drop s.next ranges)))
+        (sym (begin_is unit (s.stripe + 1) s.end s.next)))
 
 -- none is left
 pub over : (unit : ℕ) (ranges : List Stripes) (s : Spot) → s.end ≤ s.stripe → length ranges ≤ s.next → rest_at unit ranges s ≡ []
@@ -129,7 +138,8 @@ ended (inl l) e = omega (arith, l, e)
 ended (inr l) e = l
 
 -- an item that there is doesn't depend on what is given in its place
-pub item_or : (ranges : List Stripes) (i : ℕ) (d : Stripes) → i < length ranges → get_or ranges i d ≡ get_or ranges i (get_or ranges i d)
+pub item_or : (ranges : List Stripes) (i : ℕ) (d : Stripes) → i < length ranges →
+    get_or ranges i d ≡ get_or ranges i (get_or ranges i d)
 item_or ranges i d l =
     let a = drop-cons ranges i d l in
     let b = drop-cons ranges i (get_or ranges i d) l in

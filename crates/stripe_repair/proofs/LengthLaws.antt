@@ -24,10 +24,12 @@ length_low bytes = elim (cases_Bool ((length bytes == 8) && nat_le (from_be_byte
 all_low : (heard : List Heard) → All (λ (m : Measured). m.length ≤ MAX_OBJECT_LENGTH) (lengths_of heard)
 all_low [] = All-nil (λ (m : Measured). m.length ≤ MAX_OBJECT_LENGTH)
 all_low (h ∷ hs) =
-    All-cons (λ (m : Measured). m.length ≤ MAX_OBJECT_LENGTH) (record { component = h.component; length = length_in h.payload }) (lengths_of hs) (length_low h.payload) (all_low hs)
+    All-cons (λ (m : Measured). m.length ≤ MAX_OBJECT_LENGTH) (record { component = h.component; length = length_in h.payload })
+        (lengths_of hs) (length_low h.payload) (all_low hs)
 
 pub are_lengths : (heard : List Heard) → length heard ≤ MAX_COMPONENTS → AreLengths (lengths_of heard)
 are_lengths heard few = record {
-  few = rw (length-map {B = Measured} heard (λ (h : Heard). record { component = h.component; length = length_in h.payload })) few;
+  few = rw (length-map {B = Measured} heard (λ (h : Heard). record { component = h.component; length = length_in h.payload }))
+      few;
   low = all_low heard;
 }

@@ -17,7 +17,8 @@ use Rattle.server_rules.specs.Decoding.{lost_units}
 -- ---- counts over ranges
 
 -- tests that agree along two ranges find as many there
-moved : (f g : ℕ → Bool) (a b n : ℕ) → ((i : ℕ) → i < n → f (a + i) ≡ g (b + i)) → length (filter f (range_with_len a n)) ≡ length (filter g (range_with_len b n))
+moved : (f g : ℕ → Bool) (a b n : ℕ) → ((i : ℕ) → i < n → f (a + i) ≡ g (b + i)) →
+    length (filter f (range_with_len a n)) ≡ length (filter g (range_with_len b n))
 moved f g a b zero e = refl
 moved f g a b (suc n) e =
     let za : a + 0 ≡ a = omega arith in
@@ -46,7 +47,9 @@ split a (suc x) y =
     let z : a + suc x ≡ a + 1 + x = omega arith in
     rw (e, z) (ap (λ xs. a ∷ xs) (split (a + 1) x y))
 
-count_split : (f : ℕ → Bool) (a x y : ℕ) → length (filter f (range_with_len a (x + y))) ≡ length (filter f (range_with_len a x)) + length (filter f (range_with_len (a + x) y))
+count_split : (f : ℕ → Bool) (a x y : ℕ) →
+    length (filter f (range_with_len a (x + y))) ≡ length (filter f (range_with_len a x)) + length
+        (filter f (range_with_len (a + x) y))
 count_split f a x y =
     ap (λ xs. length (filter f xs)) (split a x y) ∙ ap length (filter-append f (range_with_len a x) (range_with_len (a + x) y))
     ∙ length-append (filter f (range_with_len a x)) (filter f (range_with_len (a + x) y))
@@ -54,7 +57,8 @@ count_split f a x y =
 -- ---- a turn
 
 -- a range that is turned by t
-turned_count : (q : ℕ → Bool) (w t : ℕ) → t < w → length (filter (λ c. q ((c + w - t) % w)) (range_with_len 0 w)) ≡ length (filter q (range_with_len 0 w))
+turned_count : (q : ℕ → Bool) (w t : ℕ) → t < w →
+    length (filter (λ c. q ((c + w - t) % w)) (range_with_len 0 w)) ≡ length (filter q (range_with_len 0 w))
 turned_count q w t lt =
     let f : ℕ → Bool = λ c. q ((c + w - t) % w) in
     let parts : t + (w - t) ≡ w = omega (arith, lt) in
@@ -81,20 +85,24 @@ turned_count q w t lt =
 
 -- ---- units and positions
 
-pub lost_count : (m : RawMap) (cs : List Component) (s : ℕ) → IsChecked m → length (lost_units m cs s) ≡ length (lacking m cs (group_of m s))
+pub lost_count : (m : RawMap) (cs : List Component) (s : ℕ) → IsChecked m →
+    length (lost_units m cs s) ≡ length (lacking m cs (group_of m s))
 unfolding lost_units lacking
 lost_count m cs s ch =
     let w = group_width m in
     let g = group_of m s * group_width m in
-    let base : length (filter (λ c. is_none (replica m cs (c + g))) (range_with_len 0 w)) ≡ length (filter (λ p. is_none (replica m cs p)) (range_with_len g w)) =
+    let base : length (filter (λ c. is_none (replica m cs (c + g))) (range_with_len 0 w)) ≡ length
+        (filter (λ p. is_none (replica m cs p)) (range_with_len g w)) =
     moved (λ c. is_none (replica m cs (c + g))) (λ p. is_none (replica m cs p)) 0 g w (λ i lt. same_place i) in
     elim (cases_eq m.algorithm 3) [
       | inl turns ↦
-          rw (eq-eqb m.algorithm 3 turns) (turned_count (λ c. is_none (replica m cs (c + g))) w (s % w) (mod_below s w (omega (arith, ch.some_data)))) ∙ base
+          rw (eq-eqb m.algorithm 3 turns)
+              (turned_count (λ c. is_none (replica m cs (c + g))) w (s % w) (mod_below s w (omega (arith, ch.some_data)))) ∙ base
       | inr none ↦ rw (ne_eqb m.algorithm 3 none) base
     ]
   where
-    same_place : (i : ℕ) → is_none (replica m cs (0 + i + group_of m s * group_width m)) ≡ is_none (replica m cs (group_of m s * group_width m + i))
+    same_place : (i : ℕ) →
+        is_none (replica m cs (0 + i + group_of m s * group_width m)) ≡ is_none (replica m cs (group_of m s * group_width m + i))
     same_place i =
         let e : 0 + i + group_of m s * group_width m ≡ group_of m s * group_width m + i = omega arith in
         ap (λ p. is_none (replica m cs p)) e

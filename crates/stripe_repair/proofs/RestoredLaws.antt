@@ -38,21 +38,26 @@ range_below n = λ k d lt.
     let low : k < n = rw (length-range_with_len 0 n) at lt in
     rw (get_or-range_with_len 0 n k d low) (omega (arith, low))
 
-pub lost_are : (m : RawMap) (cs : List Component) (s : ℕ) (heard : List Heard) (count : ℕ) → ArePositions (length (unit_rows m cs s heard count)) (lost_units m cs s)
+pub lost_are : (m : RawMap) (cs : List Component) (s : ℕ) (heard : List Heard) (count : ℕ) →
+    ArePositions (length (unit_rows m cs s heard count)) (lost_units m cs s)
 unfolding lost_units
 lost_are m cs s heard count = rw (rows_count m cs s heard count) (record {
-  rising = IsStrictlyIncreasing-filter (λ c. is_none (replica m cs (position_of m s c))) (range_with_len 0 (group_width m)) (range_rises 0 (group_width m));
-  below = All-filter (λ c. is_none (replica m cs (position_of m s c))) (λ x. x < group_width m) (range_with_len 0 (group_width m)) (range_below (group_width m));
+  rising = IsStrictlyIncreasing-filter (λ c. is_none (replica m cs (position_of m s c))) (range_with_len 0 (group_width m))
+      (range_rises 0 (group_width m));
+  below = All-filter (λ c. is_none (replica m cs (position_of m s c))) (λ x. x < group_width m) (range_with_len 0 (group_width m))
+      (range_below (group_width m));
 })
 
 pub can_decode : (m : RawMap) (lost : List ℕ) → length lost ≤ parities m → decoding (code_of m) lost ≡ Ok tt
 can_decode m lost few = rw (le-ltb (count_of (code_of m)) (length lost) (omega (arith, few, code_count m))) refl
 
 -- the rows that a decoder made
-pub decoded_are : (m : RawMap) (cs : List Component) (s : ℕ) (heard : List Heard) (count : ℕ) (rows : List (List ℕ)) → IsChecked m →
+pub decoded_are : (m : RawMap) (cs : List Component) (s : ℕ) (heard : List Heard) (count : ℕ) (rows : List (List ℕ)) →
+    IsChecked m →
     map length rows ≡ map length (unit_rows m cs s heard count) →
     ((k : ℕ) → k < width_of (unit_rows m cs s heard count)
-    → column rows k ≡ decoded (length (unit_rows m cs s heard count) - count_of (code_of m)) (lost_units m cs s) (column (unit_rows m cs s heard count) k)) →
+    → column rows k ≡ decoded (length (unit_rows m cs s heard count) - count_of (code_of m)) (lost_units m cs s)
+        (column (unit_rows m cs s heard count) k)) →
     rows ≡ restored_rows m cs s heard count
 unfolding restored
 decoded_are m cs s heard count rows ch shape exact =
@@ -60,22 +65,29 @@ decoded_are m cs s heard count rows ch shape exact =
     let alike = same_shape m cs s heard count rows shape in
     let units : length old - count_of (code_of m) ≡ data_units m = omega (arith, rows_count m cs s heard count, code_count m) in
     rows_by_columns (group_width m) count (λ k. decoded (data_units m) (lost_units m cs s) (column old k)) rows alike.0 alike.1
-    (λ k lt. exact k (rw (width_is m cs s heard count ch) lt) ∙ ap (λ (u : ℕ). decoded u (lost_units m cs s) (column old k)) units)
+    (λ k lt. exact k (rw (width_is m cs s heard count ch) lt)
+        ∙ ap (λ (u : ℕ). decoded u (lost_units m cs s) (column old k)) units)
 
 -- ---- one row
 
-pub restored_count : (m : RawMap) (cs : List Component) (s : ℕ) (heard : List Heard) (count : ℕ) → length (restored_rows m cs s heard count) ≡ group_width m
-restored_count m cs s heard count = length-map-range_with_len (λ c. restored m (lost_units m cs s) (unit_rows m cs s heard count) c count) 0 (group_width m)
+pub restored_count : (m : RawMap) (cs : List Component) (s : ℕ) (heard : List Heard) (count : ℕ) →
+    length (restored_rows m cs s heard count) ≡ group_width m
+restored_count m cs s heard count =
+    length-map-range_with_len (λ c. restored m (lost_units m cs s) (unit_rows m cs s heard count) c count) 0 (group_width m)
 
-pub restored_is : (m : RawMap) (cs : List Component) (s : ℕ) (heard : List Heard) (count c : ℕ) (row : List ℕ) → c < group_width m → slice_get (restored_rows m cs s heard count) c ≡ Some row →
+pub restored_is : (m : RawMap) (cs : List Component) (s : ℕ) (heard : List Heard) (count c : ℕ) (row : List ℕ) →
+    c < group_width m → slice_get (restored_rows m cs s heard count) c ≡ Some row →
     row ≡ restored m (lost_units m cs s) (unit_rows m cs s heard count) c count
 restored_is m cs s heard count c row lt e =
     sym (get_or_from_slice_get (restored_rows m cs s heard count) c row [] e)
-    ∙ get_or-map-range_with_len (λ k. restored m (lost_units m cs s) (unit_rows m cs s heard count) k count) 0 (group_width m) c c [] lt (omega arith)
+    ∙ get_or-map-range_with_len (λ k. restored m (lost_units m cs s) (unit_rows m cs s heard count) k count) 0
+        (group_width m) c c [] lt (omega arith)
 
-pub restored_long : (m : RawMap) (lost : List ℕ) (rows : List (List ℕ)) (c count : ℕ) → length (restored m lost rows c count) ≡ count
+pub restored_long : (m : RawMap) (lost : List ℕ) (rows : List (List ℕ)) (c count : ℕ) →
+    length (restored m lost rows c count) ≡ count
 unfolding restored
-restored_long m lost rows c count = length-map-range_with_len (λ j. get_or (decoded (data_units m) lost (column rows j)) c 0) 0 count
+restored_long m lost rows c count =
+    length-map-range_with_len (λ j. get_or (decoded (data_units m) lost (column rows j)) c 0) 0 count
 
 -- the length of a row that may have been made
 pub long_of : (r : Result (List ℕ) Memory) (x : List ℕ) (n : ℕ) → IfOk r (λ b. b ≡ x) → length x ≡ n → IfOk r (λ b. length b ≡ n)
@@ -84,6 +96,7 @@ long_of (Err e) x n u l = tt
 
 -- the bytes of a piece whose position has no present replica
 pub made_none : (f : Kept) (t : Target) (p : Piece) (heard : List Heard) → replica f.map f.components (position_for f t) ≡ None →
-    made f t p heard ≡ restored f.map (lost_units f.map f.components p.stripe) (unit_rows f.map f.components p.stripe heard p.count) (unit_with f.map p.stripe t.component) p.count
+    made f t p heard ≡ restored f.map (lost_units f.map f.components p.stripe)
+        (unit_rows f.map f.components p.stripe heard p.count) (unit_with f.map p.stripe t.component) p.count
 unfolding made
 made_none f t p heard e = rw e refl

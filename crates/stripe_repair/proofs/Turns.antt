@@ -15,7 +15,8 @@ mod_within b i n lt =
 mod_over : (b i n : ℕ) → n ≤ b % n + i → b % n + i < n + n → (b + i) % n ≡ b % n + i - n
 mod_over b i n le lt =
     let e : b + i ≡ b / n * n + (b % n + i - n) + n = omega (arith, div-add-mod' b n, le) in
-    ap (λ z. z % n) e ∙ add-mod_right (b / n * n + (b % n + i - n)) n ∙ mod-mul-add (b / n) n (b % n + i - n) (omega (arith, lt, le))
+    ap (λ z. z % n) e ∙ add-mod_right (b / n * n + (b % n + i - n)) n
+        ∙ mod-mul-add (b / n) n (b % n + i - n) (omega (arith, lt, le))
 
 -- ---- how many blocks further
 
@@ -35,8 +36,10 @@ block_stands : (b g n : ℕ) → g < n → (b + further g (b % n) n) % n ≡ g
 block_stands b g n lt =
     let below = mod_below b n (omega (arith, lt)) in
     elim (cases_lt g (b % n)) [
-      | inl down ↦ ap (λ z. (b + z) % n) (further_down g (b % n) n down below) ∙ mod_over b (g + n - b % n) n (omega (arith, below)) (omega (arith, below, lt)) ∙ omega (arith, below)
-      | inr up ↦ ap (λ z. (b + z) % n) (further_up g (b % n) n up lt) ∙ mod_within b (g - b % n) n (omega (arith, up, lt)) ∙ omega (arith, up)
+      | inl down ↦ ap (λ z. (b + z) % n) (further_down g (b % n) n down below)
+          ∙ mod_over b (g + n - b % n) n (omega (arith, below)) (omega (arith, below, lt)) ∙ omega (arith, below)
+      | inr up ↦ ap (λ z. (b + z) % n) (further_up g (b % n) n up lt) ∙ mod_within b (g - b % n) n (omega (arith, up, lt))
+          ∙ omega (arith, up)
     ]
 
 block_none : (b g n i : ℕ) → g < n → i < further g (b % n) n → (b + i) % n ≢ g
@@ -61,7 +64,8 @@ abbrev pub next_turn : (s d g n : ℕ) → ℕ
 next_turn s d g n = (s / d + further g ((s / d) % n) n) * d
 
 pub turn_stands : (s d g n : ℕ) → 0 < d → g < n → (next_turn s d g n / d) % n ≡ g
-turn_stands s d g n deep lt = ap (λ z. z % n) (mul-div_cancel (s / d + further g ((s / d) % n) n) deep) ∙ block_stands (s / d) g n lt
+turn_stands s d g n deep lt =
+    ap (λ z. z % n) (mul-div_cancel (s / d + further g ((s / d) % n) n) deep) ∙ block_stands (s / d) g n lt
 
 pub turn_none : (s d g n u : ℕ) → 0 < d → g < n → s ≤ u → u < next_turn s d g n → (u / d) % n ≢ g
 turn_none s d g n u deep lt le before =

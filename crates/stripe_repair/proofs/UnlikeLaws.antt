@@ -40,7 +40,8 @@ pub end_inside : (xs ys : List ℕ) → end_of xs ys ≤ length xs
 end_inside xs ys = omega (arith, end_from xs ys 0 0 (omega arith))
 
 -- what was found when no column is left is the end
-pub end_where_over : (xs ys : List ℕ) (i end : ℕ) → length xs ≤ i → end_unlike (drop i xs) (drop i ys) i end ≡ end_of xs ys → end ≡ end_of xs ys
+pub end_where_over : (xs ys : List ℕ) (i end : ℕ) → length xs ≤ i → end_unlike (drop i xs) (drop i ys) i end ≡ end_of xs ys →
+    end ≡ end_of xs ys
 unfolding end_unlike
 end_where_over xs ys i end over e =
     let none : drop i xs ≡ [] = drop_of_length-le xs over in

@@ -1,4 +1,3 @@
-pub mod Places
 pub mod Short
 pub mod Mapped
 pub mod Last

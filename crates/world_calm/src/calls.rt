@@ -49,7 +49,9 @@ impl Model for WriteLog {
 
     ghost Value = { LogState };
 
-    ghost view = { λ w. record { pending = w.pending.entries; entries = w.entries; sent_for = w.sent_for.entries; by_grant = w.by_grant.entries } };
+    ghost view =
+        { λ w. record { pending = w.pending.entries; entries = w.entries; sent_for = w.sent_for.entries; by_grant =
+        w.by_grant.entries } };
 }
 
 // An entry more under a grant.
@@ -59,7 +61,8 @@ fn add_under(
     grant: u32,
     number: usize,
 ) -> Result<(), Memory>
-    ensures { OnOk result (by_grant.new.entries ≡ under_with by_grant.old.entries grant number (at_number by_grant.old.entries grant)) }
+    ensures { OnOk result
+        (by_grant.new.entries ≡ under_with by_grant.old.entries grant number (at_number by_grant.old.entries grant)) }
 {
     match by_grant.get_mut(&grant) {
         Some(numbers) => numbers.push(number)?,

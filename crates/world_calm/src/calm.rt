@@ -446,7 +446,8 @@ impl Calm {
         performed: Option<Performed>,
         server: &S,
     ) -> Result<(), Memory>
-        ensures { OnOk result (self.new ≡ begins (S.kept_of server.now) self.old network.now.messages head.now rest.now performed) }
+        ensures { OnOk result
+            (self.new ≡ begins (S.kept_of server.now) self.old network.now.messages head.now rest.now performed) }
     {
         self.take(network, head, rest)?;
         self.open(head)?;
@@ -481,7 +482,8 @@ impl Calm {
         server: &S,
         mended: &[Mended],
     ) -> Result<(), Memory>
-        ensures { OnOk result (self.new ≡ sees (S.kept_of server.now) mended.now self.old network.now.messages head.now rest.now performed) }
+        ensures { OnOk result
+            (self.new ≡ sees (S.kept_of server.now) mended.now self.old network.now.messages head.now rest.now performed) }
     {
         self.begin_step(network, head, rest, performed, server)?;
         self.note_all(rest, mended)?;

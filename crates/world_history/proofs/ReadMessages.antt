@@ -128,7 +128,8 @@ server_heard w chosen m =
 client_hand : (w : World) (c : ℕ) (a : ClientAt) (from : Node) (m : Option ClientMessage)
     → IsQuietHand w (client_takes w c a from m)
 client_hand w c a from None = record { network = refl; told = λ ss. refl }
-client_hand w c a from (Some m) = record { network = refl; told = quiet_ended c (pending_op a.state) (client_step a.state (client_input.Hears from m)).outcome }
+client_hand w c a from (Some m) =
+    record { network = refl; told = quiet_ended c (pending_op a.state) (client_step a.state (client_input.Hears from m)).outcome }
 
 client_heard : (w : World) (c : ℕ) (m : Message) (a : Option ClientAt) → IsQuietHand w (client_hears w c m a)
 client_heard w c m None = record { network = refl; told = λ ss. refl }

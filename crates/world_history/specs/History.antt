@@ -1,12 +1,9 @@
 -- Histories: the lines of events that were carried out one after another.
-use Rattle.std.specs.Prelude.{◌≡◌, ◌≤◌, ◌++◌, List, [], ◌∷◌, Some, Result, Ok, Err}
+use Rattle.std.specs.Prelude.{◌≡◌, ◌≤◌, ◌++◌, List, [], ◌∷◌}
 use Rattle.scenario_text.specs.declared.event.Event.{Event}
 use Rattle.scenario_text.specs.declared.line.Line.{Line}
 use Rattle.world_history.specs.declared.limits.TheConstants.{MAX_KEPT}
-use Rattle.world_history.specs.declared.err.WorldErr.{WorldErr}
-use Rattle.world_history.specs.declared.err.WorldErr.TheVariants.{KeptFull, Memory}
 use Rattle.world_history.specs.State.{World, empty_world}
-use Rattle.world_history.specs.Refusals.{refusal}
 use Rattle.world_history.specs.Runs.{Carries, CarriesPart, FillsUp}
 
 -- ---- events one after another
@@ -81,13 +78,6 @@ pub record BreaksOff (w : World) (e : Event) (before after : List Line) : Type 0
   pub appended : Appended before after lines
   pub begins : Begins w lines
   pub lawful : (h : List Line) → StandsFor w h → Lawful (h ++ lines)
-
--- what a step of the world's code gives, by its result
-abbrev pub Steps : World → Event → List Line → List Line → World → Result (Unit {0}) WorldErr → Type 0
-Steps w e before after w' (Ok u) = Goes w e before after w'
-Steps w e before after w' (Err KeptFull) = Stops w e before after
-Steps w e before after w' (Err Memory) = BreaksOff w e before after
-Steps w e before after w' (Err cause) = (refusal w e ≡ Some cause) × (w' ≡ w) × (after ≡ before)
 
 -- ---- one event more
 

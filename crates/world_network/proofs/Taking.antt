@@ -1,12 +1,7 @@
 -- A list whose members are taken out one after another.
-use Rattle.std.proofs.Common.{◌≡◌, ℕ, zero, suc, ◌+◌, ◌++◌, ◌∷◌, [], List, Some, length, take, drop, slice_get, slice_set, refl, sym, ap, ◌∙◌, add-one, append_assoc}
+use Rattle.std.proofs.Common.{◌≡◌, ℕ, zero, suc, ◌+◌, ◌++◌, ◌∷◌, [], List, Some, take, drop, slice_get, slice_set, refl, sym, ap, ◌∙◌, add-one, append_assoc}
 
 -- one member further
-pub taken_next : {X : Type 0} (xs : List X) (i : ℕ) (x : X) → slice_get xs i ≡ Some x
-    → take (suc i) xs ≡ take i xs ++ x ∷ []
-taken_next [] i x e = absurd (cc e)
-taken_next (y ∷ xs) zero x e = let same : y ≡ x = cc in ap (λ z. z ∷ []) same
-taken_next (y ∷ xs) (suc i) x e = ap (λ l. y ∷ l) (taken_next xs i x e)
 
 -- what stands behind a place says what stands there
 member_of : {X : Type 0} (xs : List X) (i : ℕ) → slice_get (drop i xs) 0 ≡ slice_get xs i

@@ -1,20 +1,17 @@
 -- The clients by number are those of the world.
-use Rattle.std.proofs.Common.{◌≡◌, ℕ, Bool, true, false, ◌||◌, ◌&&◌, not, List, [], ◌∷◌, ◌++◌, map, filter, Option, Some, None, refl, sym, ap, ◌∙◌}
+use Rattle.std.proofs.Common.{◌≡◌, ℕ, Bool, true, false, ◌||◌, List, [], ◌∷◌, ◌++◌, map, filter, Option, Some, None, refl, sym, ap}
 use Rattle.std.specs.Prelude.{Result, Ok, Err, is_some, if◌then◌else◌}
-use Rattle.std.specs.List.{list_any}
 use Rattle.std.specs.Option.{option_map}
 use Rattle.std.specs.Ordering.{nat_cmp}
 use Rattle.std.specs.BTreeMap.{is_at}
 use Rattle.std.proofs.lemmas.Map.Steps.{set_value_same}
 use Rattle.std.proofs.Math.Bool.{or-false}
-use Rattle.osd_lists.specs.declared.node.Node.{Node}
-use Rattle.scenario_text.specs.declared.line.CallKind.{CallKind}
 use Rattle.scenario_text.specs.declared.line.Line.{Line}
 use Rattle.scenario_text.specs.declared.line.Line.TheVariants as line
 use Rattle.scenario_text.specs.declared.line.Refusal.TheVariants as refusal
 use Rattle.scenario_text.specs.declared.line.Delivery.TheVariants as delivery
 use Rattle.client_rules.specs.Messages.{Message as ClientMessage, Step, still, hears}
-use Rattle.client_rules.specs.Envelopes.{message_in, on_bytes, on_message_in, receiver, bytes_of}
+use Rattle.client_rules.specs.Envelopes.{on_message_in, receiver, bytes_of}
 use Rattle.client_rules.specs.Steps.{calls, times_out, leaves, resent}
 use Rattle.client_rules.specs.History.{Input, Calls, Hears, TimesOut, Leaves, Resends}
 use Rattle.stripe_client.specs.Sending.{sent_of, spelled as sents}
@@ -24,15 +21,13 @@ use Rattle.world_history.specs.ClientNames.{Call, CallOp, CallErr, Outcome, Outg
 use Rattle.world_history.specs.declared.messages.Message.{Message}
 use Rattle.world_history.specs.State.{ClientAt, World, at_number, with_number}
 use Rattle.world_history.specs.Spelled.{spelled, party_of}
-use Rattle.world_history.specs.Told.{kind_of, told_outcome}
-use Rattle.world_history.specs.Handed.{Post, Handed, is_addressed, quiet, client_hears, client_takes, for_client, client_goes, client_did, client_body, client_post, client_posts, is_write_out, ended_by, op_in, wrote_in, data_in, pending_op}
-use Rattle.world_history.specs.Moves.{Act as Move, acted as acts_as, behind as behind_there, tells, by_client, called as called_there, calls_at, times_out as times_out_at, resends as resends_at, leaves as leaves_at, pends as pends_at, pends_as, stops}
-use Rattle.world_network.specs.declared.acts.Act.{Act}
-use Rattle.world_network.specs.Acts.{IsAct, IsDone, IsHanded, nothing}
+use Rattle.world_history.specs.Handed.{Post, is_addressed, quiet, client_hears, client_takes, for_client, client_goes, client_did, client_body, client_post, client_posts, is_write_out, ended_by, op_in, wrote_in, data_in, pending_op}
+use Rattle.world_history.specs.Moves.{acted as acts_as, behind as behind_there, tells, by_client, called as called_there, calls_at, times_out as times_out_at, resends as resends_at, leaves as leaves_at, pends as pends_at, pends_as, stops}
+use Rattle.world_network.specs.Acts.{IsAct, IsDone, IsHanded}
 use Rattle.world_history.specs.Names.{where_known, is_named}
 use Rattle.world_parties.specs.Posting.{logged_with, posting, posting_to, postings}
-use Rattle.world_parties.specs.Client.{data_of_call, ended, Acted, acted, goes_on, behind, only_tells, called_by, called, heard, timed_out, resends, returned, left, pending_told}
-use Rattle.world_parties.specs.Clients.{Table, Did, did_at, did_by, is_deaf, takes, heard_one, heard_at, heard_by, pends_in, stopped_if}
+use Rattle.world_parties.specs.Client.{data_of_call, ended, acted, goes_on, only_tells, called_by, called, timed_out, resends, returned, left, pending_told}
+use Rattle.world_parties.specs.Clients.{Table, did_at, did_by, is_deaf, takes, heard_at, heard_by, pends_in, stopped_if}
 use Rattle.world_parties.specs.ClientLaws.{with_clients, IsDid, ClientsHear, ClientsCall, ClientsTimeOut, ClientsResend, ClientsLeave, ClientsPend, ClientsStop}
 use Rattle.world_parties.proofs.Writes.{written, any_written}
 
@@ -52,10 +47,6 @@ one_if false c logged o e = refl
 one_posted : (c logged : ℕ) (o : Outgoing)
     → posting c logged (sent_of o) ≡ map posting_of (filter is_addressed (client_post c logged o ∷ []))
 one_posted c logged o = one_if (is_named (receiver o)) c logged o (body_spelled o)
-
-same_logged : (x y wrote : Bool) (logged : ℕ) → x ≡ y
-    → logged_with x wrote logged ≡ (if y && not wrote then logged else 0)
-same_logged x y wrote logged e = rw e refl
 
 posted_if : (sent : Bool) (p : Post) (ps : List Post)
     → map posting_of (if sent then p ∷ [] else []) ++ map posting_of ps ≡ map posting_of (if sent then p ∷ ps else ps)
@@ -97,7 +88,8 @@ did_act w c a i s = record {
 }
 
 did_world : (w : World) (c : ℕ) (a : ClientAt) (i : Input) (s : Step)
-    → (client_did w c a i s).world ≡ with_clients w (with_number w.clients c (acted c a (op_in a.state i) (wrote_in a i) s).client)
+    → (client_did w c a i s).world ≡ with_clients w
+        (with_number w.clients c (acted c a (op_in a.state i) (wrote_in a i) s).client)
 did_world w c a i s = rw (any_written s.sends) refl
 
 -- a client that stays as it was
@@ -133,7 +125,9 @@ takes_by w c m a (Some x) f = record {
 hears_if : (b : Bool) (w : World) (c : ℕ) (m : Message) (a : ClientAt) (o : Option ClientMessage)
     → at_number w.clients c ≡ Some a
     → IsHanded (if b then quiet w delivery.Deaf else client_takes w c a m.from o)
-    (with_clients w (heard_at w.clients c (if b then record { client = a; handed = is_deaf } else takes (goes_on c a (on_message_in a.state m.from o)))).clients)
+    (with_clients w
+        (heard_at w.clients c
+        (if b then record { client = a; handed = is_deaf } else takes (goes_on c a (on_message_in a.state m.from o)))).clients)
     (if b then record { client = a; handed = is_deaf } else takes (goes_on c a (on_message_in a.state m.from o))).handed
 hears_if true w c m a o f = record {
   world = stays w c a a refl f;
@@ -154,7 +148,8 @@ clients_hear w c m = hears_by w c m (at_number w.clients c) refl
 -- ---- calls, timeouts, and what else comes
 
 goes_done : (w : World) (c : ℕ) (a : ClientAt) (i : Input) (s : Step)
-    → IsDone (record { world = (client_did w c a i s).world; told = (client_did w c a i s).told; posts = (client_did w c a i s).posts })
+    → IsDone (record { world = (client_did w c a i s).world; told = (client_did w c a i s).told; posts =
+        (client_did w c a i s).posts })
     (with_clients w (with_number w.clients c (acted c a (op_in a.state i) (wrote_in a i) s).client))
     (acted c a (op_in a.state i) (wrote_in a i) s).act
 goes_done w c a i s = record { world = did_world w c a i s; act = did_act w c a i s }

@@ -1,7 +1,6 @@
 mod Written
 mod DriveWorlds
 mod Writes
-pub mod Refused
 mod ClientWorlds
 mod StoreOn
 mod Wants

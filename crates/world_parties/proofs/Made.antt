@@ -21,7 +21,8 @@ by_verdict made d Perform c is = record {
 }
 by_verdict made d v c is = is
 
-pub made_after : (made : DriveMake) (d : DriveState) (now : ℕ) (r : Result Command CommandErr) → IsMadeOf made d → IsMadeOf made (after_reading d now r)
+pub made_after : (made : DriveMake) (d : DriveState) (now : ℕ) (r : Result Command CommandErr) → IsMadeOf made d →
+    IsMadeOf made (after_reading d now r)
 made_after made d now (Ok c) is = by_verdict made d (first_fault d now c) c is
 made_after made d now (Err e) is = is
 

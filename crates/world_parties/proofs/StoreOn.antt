@@ -43,12 +43,14 @@ one_body g most b x lifted few =
         ∙ drop_at (number ++ b) x (4 + length b) (omega (arith, four, length-append number b))
 
 -- the bytes of a record and of those behind it
-apart : (r : Gated) (rs : List Gated) (x : List ℕ) → records_of (r ∷ rs) ++ x ≡ r.0 ∷ (to_be_bytes w32 (length r.1) ++ (r.1 ++ (records_of rs ++ x)))
+apart : (r : Gated) (rs : List Gated) (x : List ℕ) →
+    records_of (r ∷ rs) ++ x ≡ r.0 ∷ (to_be_bytes w32 (length r.1) ++ (r.1 ++ (records_of rs ++ x)))
 apart r rs x = ap (λ (l : List ℕ). r.0 ∷ l) (
     append_assoc (to_be_bytes w32 (length r.1)) (r.1 ++ records_of rs) x
     ∙ ap (λ (l : List ℕ). to_be_bytes w32 (length r.1) ++ l) (append_assoc r.1 (records_of rs) x))
 
-all_bodies : (rs : List Gated) (most : ℕ) (rest : List ℕ) → AreRecords rs → length rs < most → bodies_in most (records_of rs ++ 0 ∷ rest) ≡ bodies_of rs
+all_bodies : (rs : List Gated) (most : ℕ) (rest : List ℕ) → AreRecords rs → length rs < most →
+    bodies_in most (records_of rs ++ 0 ∷ rest) ≡ bodies_of rs
 all_bodies [] zero rest are few = absurd (omega (arith, few))
 all_bodies [] (suc most) rest are few = refl
 all_bodies (r ∷ rs) zero rest are few = absurd (omega (arith, few))
@@ -60,7 +62,8 @@ all_bodies (r ∷ rs) (suc most) rest are few =
 fewer : (rs : List Gated) → length rs ≤ length (records_of rs)
 fewer [] = omega arith
 fewer (r ∷ rs) =
-    omega (arith, fewer rs, length-append (to_be_bytes w32 (length r.1)) (r.1 ++ records_of rs), length-append r.1 (records_of rs))
+    omega (arith, fewer rs, length-append (to_be_bytes w32 (length r.1)) (r.1 ++ records_of rs),
+        length-append r.1 (records_of rs))
 
 -- it was made so
 made_alike : (made : DriveMake) (d : DriveState) → IsMadeOf made d → made_core made ≡ emptied d
@@ -80,13 +83,17 @@ drive_is made d c is store =
     front = store.log.is_front
 
     whole : c ≡ header_for d ++ (records_of front.records ++ 0 ∷ store.log.rest)
-    whole = store.log.contents ∙ ap (λ (l : List ℕ). l ++ 0 ∷ store.log.rest) front.front_is ∙ append_assoc (header_for d) (records_of front.records) (0 ∷ store.log.rest)
+    whole = store.log.contents ∙ ap (λ (l : List ℕ). l ++ 0 ∷ store.log.rest) front.front_is
+        ∙ append_assoc (header_for d) (records_of front.records) (0 ∷ store.log.rest)
 
     behind : drop HEADER_SIZE c ≡ records_of front.records ++ 0 ∷ store.log.rest
     behind = ap (λ (l : List ℕ). drop HEADER_SIZE l) whole ∙ drop_at (header_for d) _ HEADER_SIZE front.whole
 
     few : length front.records < length c
-    few = omega (arith, fewer front.records, ap length whole, length-append (header_for d) (records_of front.records ++ 0 ∷ store.log.rest), length-append (records_of front.records) (0 ∷ store.log.rest))
+    few = omega (arith, fewer front.records, ap length whole,
+        length-append (header_for d) (records_of front.records ++ 0 ∷ store.log.rest),
+        length-append (records_of front.records) (0 ∷ store.log.rest))
 
     bodies : bodies_in (length c) (drop HEADER_SIZE c) ≡ store.records
-    bodies = ap (λ (l : List ℕ). bodies_in (length c) l) behind ∙ all_bodies front.records (length c) store.log.rest front.are_records few ∙ front.bodies_are
+    bodies = ap (λ (l : List ℕ). bodies_in (length c) l) behind
+        ∙ all_bodies front.records (length c) store.log.rest front.are_records few ∙ front.bodies_are

@@ -2,16 +2,10 @@
 use Rattle.std.proofs.Common.{◌≡◌, ℕ, Result, Err, refl, arith}
 use Rattle.drive_store.specs.declared.errors.StoreErr.{StoreErr}
 use Rattle.drive_store.specs.declared.errors.StoreErr.TheVariants.{NotEmpty, DiskFault, NotAStore, Memory}
-use Rattle.drive_store.specs.Errors.{HasErrCause, HasStoreCause, IsOfDisk, NotEmptySays, NotAStoreSays}
+use Rattle.drive_store.specs.Errors.{HasErrCause, HasStoreCause, IsOfDisk, NotAStoreSays}
 
 never : HasErrCause 0 0 DiskFault → ⊥
 never cause = let rose = cause.failed refl in omega (arith, rose)
-
-pub none_was_refused : (P : ℕ → Type 0) (e : StoreErr) → NotEmptySays P e → ((size : ℕ) → P size → ⊥) → HasErrCause 0 0 e → e ≡ Memory
-none_was_refused P (NotEmpty size) says none cause = absurd (none size says)
-none_was_refused P DiskFault says none cause = absurd (never cause)
-none_was_refused P (NotAStore at) says none cause = absurd says
-none_was_refused P Memory says none cause = refl
 
 pub all_was_taken : (P : ℕ → Type 0) (e : StoreErr) → NotAStoreSays P e → ((at : ℕ) → P at → ⊥) → HasErrCause 0 0 e → e ≡ Memory
 all_was_taken P (NotEmpty size) says none cause = absurd says

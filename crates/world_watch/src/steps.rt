@@ -95,7 +95,8 @@ fn see_headed<S: KeptFiles>(
     server: &S,
     mended: &[Mended],
 ) -> Result<(), Memory>
-    ensures { OnOk result (calm.new ≡ sees_headed (S.kept_of server.now) mended.now network.now.messages calm.old injected head.now rest.now) }
+    ensures { OnOk result
+        (calm.new ≡ sees_headed (S.kept_of server.now) mended.now network.now.messages calm.old injected head.now rest.now) }
 {
     if is_head(head) {
         let performed = performed_at(network, injected, head);
@@ -114,7 +115,8 @@ fn see_step<S: KeptFiles>(
     server: &S,
     mended: &[Mended],
 ) -> Result<(), Memory>
-    ensures { OnOk result (calm.new ≡ sees_step (S.kept_of server.now) mended.now network.now.messages calm.old injected step.now) }
+    ensures { OnOk result
+        (calm.new ≡ sees_step (S.kept_of server.now) mended.now network.now.messages calm.old injected step.now) }
 {
     match step.split_first() {
         Some((head, rest)) => see_headed(calm, network, injected, head, rest, server, mended),
@@ -134,7 +136,8 @@ fn see_from<S: KeptFiles>(
     server: &S,
     mended: &[Mended],
 ) -> Result<(), Memory>
-    ensures { OnOk result (calm.new ≡ sees_from (S.kept_of server.now) mended.now sightings.now network.now.messages calm.old event.now step.now) }
+    ensures { OnOk result
+        (calm.new ≡ sees_from (S.kept_of server.now) mended.now sightings.now network.now.messages calm.old event.now step.now) }
 {
     if is_headed(step) {
         let injected = injected_at(sightings, network, event);
@@ -153,7 +156,8 @@ pub fn see_steps<S: KeptFiles>(
     server: &S,
     mended: &[Mended],
 ) -> Result<(), Memory>
-    ensures { OnOk result (calm.new ≡ sees_move (S.kept_of server.now) mended.now sightings.now network.now.messages calm.old lines.now) }
+    ensures { OnOk result
+        (calm.new ≡ sees_move (S.kept_of server.now) mended.now sightings.now network.now.messages calm.old lines.now) }
 {
     match lines.split_first() {
         Some((event, step)) => see_from(calm, sightings, network, event, step, server, mended),

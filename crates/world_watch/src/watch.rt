@@ -75,7 +75,9 @@ impl Watch {
     ) -> Result<(), Memory>
         ensures guesses { self.new.guesses ≡ self.old.guesses }
         ensures summary { self.new.summary ≡ self.old.summary }
-        ensures moments { OnOk result (self.new.moments ≡ sees_move (S.kept_of server.now) mended.now self.old.guesses.sightings network.now.messages self.old.moments lines.now) }
+        ensures moments { OnOk result
+            (self.new.moments ≡ sees_move
+            (S.kept_of server.now) mended.now self.old.guesses.sightings network.now.messages self.old.moments lines.now) }
     {
         see_steps(
             &mut self.calm,

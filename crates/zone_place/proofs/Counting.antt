@@ -55,7 +55,8 @@ times_line ask ds n =
       arith,
       times_take n (all_asked ask) (flat_map front (zones_of ds)),
       times_flat n front (zones_of ds),
-      sum_less (λ z. times n (front z)) (λ z. times n (drives_of (within z ds))) (zones_of ds) (λ z. times_take n (zone_most ask) (drives_of (within z ds))),
+      sum_less (λ z. times n (front z)) (λ z. times n (drives_of (within z ds))) (zones_of ds)
+          (λ z. times_take n (zone_most ask) (drives_of (within z ds))),
       times_zones n ds,
     )
 
@@ -89,7 +90,8 @@ never n (k ∷ ks) h = elim (cases_Bool (k == n)) [
   | inr e ↦ rw e (never n ks (omega (arith, rw e at h)))
 ]
 
-pub among_from : (ds : List InZone) (ns : List ℕ) → ((n : ℕ) → times n ns ≤ times n (drives_of ds)) → ((n : ℕ) → times n ns ≤ 1) → are_among ds ns ≡ true
+pub among_from : (ds : List InZone) (ns : List ℕ) → ((n : ℕ) → times n ns ≤ times n (drives_of ds)) → ((n : ℕ) → times n ns ≤ 1) →
+    are_among ds ns ≡ true
 unfolding are_among
 among_from ds [] less one = refl
 among_from ds (n ∷ ns) less one =

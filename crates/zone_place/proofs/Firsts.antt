@@ -18,7 +18,8 @@ before_all a b c p q = grind (arith, nat_tests)
 not_before : (a b c : ZoneLoad) → comes_before a b ≡ false → comes_before b c ≡ false → comes_before a c ≡ false
 not_before a b c p q = grind (arith, nat_tests)
 
-pub first_more : (found : Option ZoneLoad) (l : ZoneLoad) (o : Option ZoneLoad) → first_from (chosen_of found l) o ≡ first_from found (earlier l o)
+pub first_more : (found : Option ZoneLoad) (l : ZoneLoad) (o : Option ZoneLoad) →
+    first_from (chosen_of found l) o ≡ first_from found (earlier l o)
 first_more None l o = refl
 first_more (Some f) l None = elim (cases_Bool (comes_before f l)) [
   | inl p ↦ rw p refl

@@ -24,13 +24,12 @@ front_more zone (suc left) l ls some on here =
     let less : suc left - 1 ≡ left = omega arith in
     rw (on, eq-eqb l.zone zone here, less) refl
 
-pub front_full : (zone : ℕ) (l : ZoneLoad) (ls : List ZoneLoad) → front zone 0 (l ∷ ls) ≡ front zone 0 ls
-front_full zone l ls = refl
-
-pub front_offline : (zone left : ℕ) (l : ZoneLoad) (ls : List ZoneLoad) → l.online ≡ false → front zone left (l ∷ ls) ≡ front zone left ls
+pub front_offline : (zone left : ℕ) (l : ZoneLoad) (ls : List ZoneLoad) → l.online ≡ false →
+    front zone left (l ∷ ls) ≡ front zone left ls
 front_offline zone left l ls off = rw off refl
 
-pub front_other : (zone left : ℕ) (l : ZoneLoad) (ls : List ZoneLoad) → (l.zone ≡ zone → ⊥) → front zone left (l ∷ ls) ≡ front zone left ls
+pub front_other : (zone left : ℕ) (l : ZoneLoad) (ls : List ZoneLoad) → (l.zone ≡ zone → ⊥) →
+    front zone left (l ∷ ls) ≡ front zone left ls
 front_other zone left l ls other = elim (cases_Bool l.online) [
   | inl on ↦ rw (on, ne_eqb l.zone zone other) refl
   | inr off ↦ rw off refl
@@ -99,17 +98,22 @@ first_with p z (y ∷ ys) r = elim (cases_eq z y) [
   ]
 ]
   where
-    same : (b : Bool) → p y ≡ b → first (filter p (y ∷ ys)) ≡ (if p y then lower y (first (filter p (y ∷ ys))) else first (filter p (y ∷ ys)))
+    same : (b : Bool) → p y ≡ b →
+        first (filter p (y ∷ ys)) ≡ (if p y then lower y (first (filter p (y ∷ ys))) else first (filter p (y ∷ ys)))
     same true on = rw (on, le-leb y y (omega arith)) refl
     same false off = rw off refl
 
-    below : (b : Bool) → z < y → first (if b then z ∷ filter p (y ∷ ys) else filter p (y ∷ ys)) ≡ (if b then lower z (first (filter p (y ∷ ys))) else first (filter p (y ∷ ys)))
+    below : (b : Bool) → z < y →
+        first (if b then z ∷ filter p (y ∷ ys) else filter p (y ∷ ys))
+            ≡ (if b then lower z (first (filter p (y ∷ ys))) else first (filter p (y ∷ ys)))
     below true lt = sym (lower_first p z (y ∷ ys) (lt, above_weaker z y ys lt r.0))
     below false lt = refl
 
-    above : (b : Bool) → y < z → first (filter p (with_zone z ys)) ≡ (if p z then lower z (first (filter p ys)) else first (filter p ys))
+    above : (b : Bool) → y < z →
+        first (filter p (with_zone z ys)) ≡ (if p z then lower z (first (filter p ys)) else first (filter p ys))
         → first (if b then y ∷ filter p (with_zone z ys) else filter p (with_zone z ys))
-        ≡ (if p z then lower z (first (if b then y ∷ filter p ys else filter p ys)) else first (if b then y ∷ filter p ys else filter p ys))
+        ≡ (if p z then lower z (first (if b then y ∷ filter p ys else filter p ys)) else first
+            (if b then y ∷ filter p ys else filter p ys))
     above true lt more = elim (cases_Bool (p z)) [
       | inl on ↦ rw (on, lt-leb z y lt) refl
       | inr off ↦ rw off refl
@@ -119,13 +123,17 @@ first_with p z (y ∷ ys) r = elim (cases_eq z y) [
 pub first_zone : (lowest : ℕ) (ds : List InZone) → zone_from lowest ds ≡ first (zones_from lowest (zones_of ds))
 unfolding zone_from zones_of
 first_zone lowest [] = refl
-first_zone lowest (d ∷ ds) = rw (first_zone lowest ds) (sym (first_with (λ z. nat_le lowest z) d.zone (zones_of ds) (rising_zones ds)))
+first_zone lowest (d ∷ ds) =
+    rw (first_zone lowest ds) (sym (first_with (λ z. nat_le lowest z) d.zone (zones_of ds) (rising_zones ds)))
 
 rest_above : (lowest y : ℕ) (ys : List ℕ) → lowest ≤ y → AllAbove y ys → zones_from lowest ys ≡ zones_from (y + 1) ys
 rest_above lowest y [] l a = refl
-rest_above lowest y (z ∷ zs) l a = rw (le-leb lowest z (omega (arith, l, a.0)), le-leb (y + 1) z (omega (arith, a.0))) (ap (λ (l : List ℕ). z ∷ l) (rest_above lowest y zs l a.1))
+rest_above lowest y (z ∷ zs) l a =
+    rw (le-leb lowest z (omega (arith, l, a.0)), le-leb (y + 1) z (omega (arith, a.0)))
+        (ap (λ (l : List ℕ). z ∷ l) (rest_above lowest y zs l a.1))
 
-from_first : (lowest z : ℕ) (zs : List ℕ) → Rising zs → first (zones_from lowest zs) ≡ Some z → (lowest ≤ z) × (zones_from lowest zs ≡ z ∷ zones_from (z + 1) zs)
+from_first : (lowest z : ℕ) (zs : List ℕ) → Rising zs → first (zones_from lowest zs) ≡ Some z →
+    (lowest ≤ z) × (zones_from lowest zs ≡ z ∷ zones_from (z + 1) zs)
 from_first lowest z [] r e = absurd (cc e)
 from_first lowest z (y ∷ ys) r e = elim (cases_lt y lowest) [
   | inl lt ↦
@@ -134,7 +142,8 @@ from_first lowest z (y ∷ ys) r e = elim (cases_lt y lowest) [
   | inr ge ↦
       let here : y ≡ z = same (rw (le-leb lowest y ge) at e) in (
         omega (arith, ge, here),
-        rw (le-leb lowest y ge, lt-leb (z + 1) y (omega (arith, here)), here) (ap (λ (l : List ℕ). z ∷ l) (rest_above lowest z ys (omega (arith, ge, here)) (rw here at r.0))),
+        rw (le-leb lowest y ge, lt-leb (z + 1) y (omega (arith, here)), here)
+            (ap (λ (l : List ℕ). z ∷ l) (rest_above lowest z ys (omega (arith, ge, here)) (rw here at r.0))),
       )
 ]
   where

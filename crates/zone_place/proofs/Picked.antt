@@ -14,7 +14,8 @@ abbrev pub In : ZoneLoad → List ZoneLoad → Type 0
 In l [] = ⊥
 In l (m ∷ ms) = (l ≡ m) ⊎ In l ms
 
-first_passes : (p : ZoneLoad → Bool) (ls : List ZoneLoad) (l : ZoneLoad) → first_of (filter p ls) ≡ Some l → (p l ≡ true) × In l ls
+first_passes : (p : ZoneLoad → Bool) (ls : List ZoneLoad) (l : ZoneLoad) → first_of (filter p ls) ≡ Some l →
+    (p l ≡ true) × In l ls
 unfolding first_of
 first_passes p [] l e = absurd (cc e)
 first_passes p (m ∷ ms) l e = elim (cases_Bool (p m)) [
@@ -25,7 +26,8 @@ first_passes p (m ∷ ms) l e = elim (cases_Bool (p m)) [
     here : (x : ZoneLoad) → p m ≡ true → Some m ≡ Some x → (p x ≡ true) × In x (m ∷ ms)
     here x on f = let same : x ≡ m = cc f in (ap p same ∙ on, inl same)
 
-    among : (o : Option ZoneLoad) → p m ≡ true → (o ≡ Some l → (p l ≡ true) × In l ms) → earlier m o ≡ Some l → (p l ≡ true) × In l (m ∷ ms)
+    among : (o : Option ZoneLoad) → p m ≡ true → (o ≡ Some l → (p l ≡ true) × In l ms) → earlier m o ≡ Some l →
+        (p l ≡ true) × In l (m ∷ ms)
     among None on later f = here l on f
     among (Some n) on later f = elim (cases_Bool (comes_before m n)) [
       | inl before ↦ here l on (rw before at f)
@@ -62,7 +64,8 @@ not_before_first a b c p q = elim (cases_Bool (comes_before a b)) [
   | inr r ↦ r
 ]
 
-first_is_first : (p : ZoneLoad → Bool) (ls : List ZoneLoad) (l m : ZoneLoad) → first_of (filter p ls) ≡ Some l → In m ls → p m ≡ true → comes_before m l ≡ false
+first_is_first : (p : ZoneLoad → Bool) (ls : List ZoneLoad) (l m : ZoneLoad) → first_of (filter p ls) ≡ Some l → In m ls →
+    p m ≡ true → comes_before m l ≡ false
 unfolding first_of
 first_is_first p [] l m e i on = absurd i
 first_is_first p (x ∷ xs) l m e i on = elim (cases_Bool (p x)) [
@@ -73,7 +76,8 @@ first_is_first p (x ∷ xs) l m e i on = elim (cases_Bool (p x)) [
   ]
 ]
   where
-    among : (o : Option ZoneLoad) → (o ≡ None → In m xs → p m ≡ false) → ((n : ZoneLoad) → o ≡ Some n → In m xs → p m ≡ true → comes_before m n ≡ false)
+    among : (o : Option ZoneLoad) → (o ≡ None → In m xs → p m ≡ false) →
+        ((n : ZoneLoad) → o ≡ Some n → In m xs → p m ≡ true → comes_before m n ≡ false)
         → earlier x o ≡ Some l → (m ≡ x) ⊎ In m xs → comes_before m l ≡ false
     among None none rest f j = let first : l ≡ x = cc f in elim j [
       | inl same ↦ ap (λ y. comes_before y l) (same ∙ sym first) ∙ not_itself l
@@ -90,12 +94,15 @@ first_is_first p (x ∷ xs) l m e i on = elim (cases_Bool (p x)) [
       ]
     ]
 
-pub picked_takes : (ask : ZoneAsk) (k : ℕ) (hs : List Holder) (loads : List ZoneLoad) (l : ZoneLoad) → pick_of ask k hs loads ≡ Some l → (takes ask loads k hs l ≡ true) × In l loads
+pub picked_takes : (ask : ZoneAsk) (k : ℕ) (hs : List Holder) (loads : List ZoneLoad) (l : ZoneLoad) →
+    pick_of ask k hs loads ≡ Some l → (takes ask loads k hs l ≡ true) × In l loads
 picked_takes ask k hs loads l e = first_passes (takes ask loads k hs) loads l e
 
-pub picked_is_first : (ask : ZoneAsk) (k : ℕ) (hs : List Holder) (loads : List ZoneLoad) (l m : ZoneLoad) → pick_of ask k hs loads ≡ Some l → In m loads
+pub picked_is_first : (ask : ZoneAsk) (k : ℕ) (hs : List Holder) (loads : List ZoneLoad) (l m : ZoneLoad) →
+    pick_of ask k hs loads ≡ Some l → In m loads
     → takes ask loads k hs m ≡ true → comes_before m l ≡ false
 picked_is_first ask k hs loads l m e i on = first_is_first (takes ask loads k hs) loads l m e i on
 
-pub none_takes : (ask : ZoneAsk) (k : ℕ) (hs : List Holder) (loads : List ZoneLoad) (m : ZoneLoad) → pick_of ask k hs loads ≡ None → In m loads → takes ask loads k hs m ≡ false
+pub none_takes : (ask : ZoneAsk) (k : ℕ) (hs : List Holder) (loads : List ZoneLoad) (m : ZoneLoad) →
+    pick_of ask k hs loads ≡ None → In m loads → takes ask loads k hs m ≡ false
 none_takes ask k hs loads m e i = none_passes (takes ask loads k hs) loads m e i

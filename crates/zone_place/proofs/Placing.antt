@@ -7,11 +7,13 @@ use Rattle.zone_place.specs.declared.loads.ZoneLoad.{ZoneLoad}
 use Rattle.zone_place.specs.Zones.{within, stands_in, AreDifferent}
 use Rattle.zone_place.specs.Choosing.{all_placed, online_placed, AreApart}
 
-pub stands_among : (drive zone : ℕ) (ls : List ZoneLoad) → list_any (λ l. (l.drive == drive) && (l.zone == zone)) ls ≡ stands_in (all_placed ls) drive zone
+pub stands_among : (drive zone : ℕ) (ls : List ZoneLoad) →
+    list_any (λ l. (l.drive == drive) && (l.zone == zone)) ls ≡ stands_in (all_placed ls) drive zone
 stands_among drive zone [] = refl
 stands_among drive zone (l ∷ ls) = ap (λ b. ((l.drive == drive) && (l.zone == zone)) || b) (stands_among drive zone ls)
 
-pub online_within : (zone : ℕ) (ls : List ZoneLoad) → length (filter (λ (l : ZoneLoad). l.online && (l.zone == zone)) ls) ≡ length (within zone (online_placed ls))
+pub online_within : (zone : ℕ) (ls : List ZoneLoad) →
+    length (filter (λ (l : ZoneLoad). l.online && (l.zone == zone)) ls) ≡ length (within zone (online_placed ls))
 online_within zone [] = refl
 online_within zone (l ∷ ls) = elim (cases_Bool l.online) [
   | inl on ↦ elim (cases_Bool (l.zone == zone)) [
@@ -21,7 +23,8 @@ online_within zone (l ∷ ls) = elim (cases_Bool l.online) [
   | inr off ↦ rw off (online_within zone ls)
 ]
 
-not_among : (drive : ℕ) (ls : List ZoneLoad) → list_any (λ k. k.drive == drive) ls ≡ false → list_any (λ k. k.drive == drive) (online_placed ls) ≡ false
+not_among : (drive : ℕ) (ls : List ZoneLoad) → list_any (λ k. k.drive == drive) ls ≡ false →
+    list_any (λ k. k.drive == drive) (online_placed ls) ≡ false
 not_among drive [] h = refl
 not_among drive (l ∷ ls) h =
     let parts = or_parts (l.drive == drive) (list_any (λ k. k.drive == drive) ls) h in

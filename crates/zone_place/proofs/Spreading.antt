@@ -34,7 +34,8 @@ apart (d ∷ ds) n y z a ne s = elim (cases_eq d.drive n) [
   | inr nd ↦ rw (ne_eqb d.drive n nd) (apart ds n y z a.1 ne (rw (ne_eqb d.drive n nd) at s))
 ]
 
-none_of_front : (p : ℕ → Bool) (y m : ℕ) (es : List InZone) → ((n : ℕ) → stands_in es n y ≡ true → p n ≡ false) → filter p (take m (drives_of (within y es))) ≡ []
+none_of_front : (p : ℕ → Bool) (y m : ℕ) (es : List InZone) → ((n : ℕ) → stands_in es n y ≡ true → p n ≡ false) →
+    filter p (take m (drives_of (within y es))) ≡ []
 none_of_front p y zero es h = refl
 none_of_front p y (suc m) [] h = refl
 none_of_front p y (suc m) (e ∷ es) h =
@@ -65,7 +66,8 @@ all_of : (p : ℕ → Bool) (zs : List ℕ) → ((z : ℕ) → p z ≡ true) →
 all_of p [] h = refl
 all_of p (z ∷ zs) h = rw (h z) (all_of p zs h)
 
-group_fits : (ask : ZoneAsk) (ds : List InZone) (j : ℕ) → AreDifferent ds → 0 < ask.groups → fits_zones ask ds (every ask.groups j (in_line ask ds)) ≡ true
+group_fits : (ask : ZoneAsk) (ds : List InZone) (j : ℕ) → AreDifferent ds → 0 < ask.groups →
+    fits_zones ask ds (every ask.groups j (in_line ask ds)) ≡ true
 group_fits ask ds j a lo = all_of (λ z. nat_le (many_in ds z (every ask.groups j (in_line ask ds))) ask.most) (zones_of ds)
     (λ z. le-leb (many_in ds z (every ask.groups j (in_line ask ds))) ask.most (few_in_zone ask ds z j a lo))
 
@@ -87,12 +89,14 @@ length_line ask ds r =
           (λ z. omega (arith, length-take (zone_most ask) (drives_of (within z ds)), length-map (within z ds) (λ d. d.drive))),
     )
 
-group_length : (ask : ZoneAsk) (ds : List InZone) (j : ℕ) → has_room ask ds ≡ true → j < ask.groups → length (every ask.groups (0 + j) (in_line ask ds)) ≡ ask.size
+group_length : (ask : ZoneAsk) (ds : List InZone) (j : ℕ) → has_room ask ds ≡ true → j < ask.groups →
+    length (every ask.groups (0 + j) (in_line ask ds)) ≡ ask.size
 group_length ask ds j r l = as_many ask.groups ask.size (0 + j) (in_line ask ds) (omega (arith, l)) (length_line ask ds r)
 
 pub dealt_length : (ask : ZoneAsk) (ds : List InZone) → has_room ask ds ≡ true → length (dealt ask ds) ≡ all_asked ask
 unfolding dealt
-dealt_length ask ds r = length_turns (λ j. every ask.groups j (in_line ask ds)) ask.size 0 ask.groups (λ j l. group_length ask ds j r l)
+dealt_length ask ds r =
+    length_turns (λ j. every ask.groups j (in_line ask ds)) ask.size 0 ask.groups (λ j l. group_length ask ds j r l)
 
 -- ---- different drives
 
@@ -115,7 +119,9 @@ dealt_groups ask ds a r = all_counted (λ j. fits_zones ask ds (group_at ask j (
     let width : (0 + j) * ask.size + ask.size - (0 + j) * ask.size ≡ ask.size = omega arith in
     let from : (0 + j) * ask.size ≡ j * ask.size = omega arith in
     let cut : group_at ask (0 + j) (dealt ask ds) ≡ every ask.groups (0 + j) (in_line ask ds) =
-    rw (width, from) (group_of_turns (λ j. every ask.groups j (in_line ask ds)) ask.size 0 ask.groups j (λ i k. group_length ask ds i r k) l) in
+    rw (width, from)
+        (group_of_turns (λ j. every ask.groups j (in_line ask ds)) ask.size 0 ask.groups j
+        (λ i k. group_length ask ds i r k) l) in
     ap (fits_zones ask ds) cut ∙ group_fits ask ds (0 + j) a (omega (arith, l)))
 
 pub dealt_spreads : DealtSpreads
@@ -125,13 +131,15 @@ dealt_spreads ask ds a r =
 
 -- ---- a rule's choice, where it is spread, else what is dealt
 
-pub spread_spreads : (ask : ZoneAsk) (ds : List InZone) (chosen : List ℕ) → AreDifferent ds → has_room ask ds ≡ true → spreads ask ds (spread ask ds chosen) ≡ true
+pub spread_spreads : (ask : ZoneAsk) (ds : List InZone) (chosen : List ℕ) → AreDifferent ds → has_room ask ds ≡ true →
+    spreads ask ds (spread ask ds chosen) ≡ true
 spread_spreads ask ds chosen a r = elim (cases_Bool (spreads ask ds chosen)) [
   | inl e ↦ rw e e
   | inr e ↦ rw e (dealt_spreads ask ds a r)
 ]
 
-pub spread_again : (ask : ZoneAsk) (ds : List InZone) (chosen : List ℕ) → spread ask ds (spread ask ds chosen) ≡ spread ask ds chosen
+pub spread_again : (ask : ZoneAsk) (ds : List InZone) (chosen : List ℕ) →
+    spread ask ds (spread ask ds chosen) ≡ spread ask ds chosen
 spread_again ask ds chosen = elim (cases_Bool (spreads ask ds chosen)) [
   | inl e ↦ rw e (rw e refl)
   | inr e ↦ rw e (either (spreads ask ds (dealt ask ds)) (dealt ask ds))
@@ -143,15 +151,12 @@ spread_again ask ds chosen = elim (cases_Bool (spreads ask ds chosen)) [
 
 -- what it is to be spread, part by part
 pub spread_parts : (ask : ZoneAsk) (ds : List InZone) (ns : List ℕ) → spreads ask ds ns ≡ true
-    → (length ns ≡ all_asked ask) × (are_among ds ns ≡ true) × (list_all (λ j. fits_zones ask ds (group_at ask j ns)) (counted 0 ask.groups) ≡ true)
+    → (length ns ≡ all_asked ask) × (are_among ds ns ≡ true) ×
+        (list_all (λ j. fits_zones ask ds (group_at ask j ns)) (counted 0 ask.groups) ≡ true)
 unfolding spreads
 spread_parts ask ds ns s =
-    let first = and_parts (length ns == all_asked ask) (are_among ds ns && list_all (λ j. fits_zones ask ds (group_at ask j ns)) (counted 0 ask.groups)) s in
-    let second = and_parts (are_among ds ns) (list_all (λ j. fits_zones ask ds (group_at ask j ns)) (counted 0 ask.groups)) first.1 in
+    let first = and_parts (length ns == all_asked ask)
+        (are_among ds ns && list_all (λ j. fits_zones ask ds (group_at ask j ns)) (counted 0 ask.groups)) s in
+    let second =
+        and_parts (are_among ds ns) (list_all (λ j. fits_zones ask ds (group_at ask j ns)) (counted 0 ask.groups)) first.1 in
     (eqb-true (length ns) (all_asked ask) first.0, second.0, second.1)
-
-pub spread_length : (ask : ZoneAsk) (ds : List InZone) (chosen : List ℕ) → AreDifferent ds → has_room ask ds ≡ true → length (spread ask ds chosen) ≡ all_asked ask
-spread_length ask ds chosen a r = (spread_parts ask ds (spread ask ds chosen) (spread_spreads ask ds chosen a r)).0
-
-pub spread_among : (ask : ZoneAsk) (ds : List InZone) (chosen : List ℕ) → AreDifferent ds → has_room ask ds ≡ true → are_among ds (spread ask ds chosen) ≡ true
-spread_among ask ds chosen a r = (spread_parts ask ds (spread ask ds chosen) (spread_spreads ask ds chosen a r)).1

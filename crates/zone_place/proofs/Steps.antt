@@ -14,15 +14,22 @@ use Rattle.zone_place.proofs.Lines.{front, front_more, front_offline, front_othe
 
 -- ---- room
 
-pub room_taken : (ask : ZoneAsk) (l : ZoneLoad) (ls : List ZoneLoad) → l.online ≡ true → length (within l.zone (online_placed ls)) < zone_most ask
+pub room_taken : (ask : ZoneAsk) (l : ZoneLoad) (ls : List ZoneLoad) → l.online ≡ true →
+    length (within l.zone (online_placed ls)) < zone_most ask
     → room ask (online_placed (l ∷ ls)) ≡ room ask (online_placed ls) + 1
-room_taken ask l ls on some = rw (on, room_more ask (record { drive = l.drive; zone = l.zone }) (online_placed ls), lt-ltb (length (within l.zone (online_placed ls))) (zone_most ask) some) refl
+room_taken ask l ls on some =
+    rw (on, room_more ask (record { drive = l.drive; zone = l.zone }) (online_placed ls),
+    lt-ltb (length (within l.zone (online_placed ls))) (zone_most ask) some) refl
 
-pub room_full : (ask : ZoneAsk) (l : ZoneLoad) (ls : List ZoneLoad) → l.online ≡ true → zone_most ask ≤ length (within l.zone (online_placed ls))
+pub room_full : (ask : ZoneAsk) (l : ZoneLoad) (ls : List ZoneLoad) → l.online ≡ true →
+    zone_most ask ≤ length (within l.zone (online_placed ls))
     → room ask (online_placed (l ∷ ls)) ≡ room ask (online_placed ls)
-room_full ask l ls on full = rw (on, room_more ask (record { drive = l.drive; zone = l.zone }) (online_placed ls), le-ltb (length (within l.zone (online_placed ls))) (zone_most ask) full) (omega arith)
+room_full ask l ls on full =
+    rw (on, room_more ask (record { drive = l.drive; zone = l.zone }) (online_placed ls),
+    le-ltb (length (within l.zone (online_placed ls))) (zone_most ask) full) (omega arith)
 
-pub room_offline : (ask : ZoneAsk) (l : ZoneLoad) (ls : List ZoneLoad) → l.online ≡ false → room ask (online_placed (l ∷ ls)) ≡ room ask (online_placed ls)
+pub room_offline : (ask : ZoneAsk) (l : ZoneLoad) (ls : List ZoneLoad) → l.online ≡ false →
+    room ask (online_placed (l ∷ ls)) ≡ room ask (online_placed ls)
 room_offline ask l ls off = rw off refl
 
 pub no_load : (ls : List ZoneLoad) → length ls ≡ 0 → ls ≡ []
@@ -41,12 +48,15 @@ load_at ls i = get_or ls i (record { drive = 0; online = false; objects = 0; zon
 pub first_load : (ls : List ZoneLoad) (i : ℕ) → i < length ls → drop i ls ≡ load_at ls i ∷ drop (i + 1) ls
 first_load ls i l = drop_more ls i (record { drive = 0; online = false; objects = 0; zone = 0 }) l
 
-pub zone_counts : (lowest : ℕ) (ls : List ZoneLoad) (i : ℕ) → i < length ls → (load_at ls i).online ≡ true → lowest ≤ (load_at ls i).zone
-    → zone_from lowest (online_placed (drop i ls)) ≡ lower (load_at ls i).zone (zone_from lowest (online_placed (drop (i + 1) ls)))
+pub zone_counts : (lowest : ℕ) (ls : List ZoneLoad) (i : ℕ) → i < length ls → (load_at ls i).online ≡ true →
+    lowest ≤ (load_at ls i).zone
+    → zone_from lowest (online_placed (drop i ls)) ≡ lower (load_at ls i).zone
+        (zone_from lowest (online_placed (drop (i + 1) ls)))
 unfolding zone_from
 zone_counts lowest ls i l on high = rw (first_load ls i l, on, le-leb lowest (load_at ls i).zone high) refl
 
-pub zone_low : (lowest : ℕ) (ls : List ZoneLoad) (i : ℕ) → i < length ls → (load_at ls i).online ≡ true → (load_at ls i).zone < lowest
+pub zone_low : (lowest : ℕ) (ls : List ZoneLoad) (i : ℕ) → i < length ls → (load_at ls i).online ≡ true →
+    (load_at ls i).zone < lowest
     → zone_from lowest (online_placed (drop i ls)) ≡ zone_from lowest (online_placed (drop (i + 1) ls))
 unfolding zone_from
 zone_low lowest ls i l on low = rw (first_load ls i l, on, lt-leb lowest (load_at ls i).zone low) refl
@@ -69,11 +79,14 @@ past_end ls i l = drop_of_length-le ls l
 
 -- ---- the drives of a zone
 
-pub front_counts : (zone left : ℕ) (ls : List ZoneLoad) (i : ℕ) → i < length ls → 0 < left → (load_at ls i).online ≡ true → (load_at ls i).zone ≡ zone
+pub front_counts : (zone left : ℕ) (ls : List ZoneLoad) (i : ℕ) → i < length ls → 0 < left → (load_at ls i).online ≡ true →
+    (load_at ls i).zone ≡ zone
     → front zone left (drop i ls) ≡ (load_at ls i).drive ∷ front zone (left - 1) (drop (i + 1) ls)
-front_counts zone left ls i l some on here = rw (first_load ls i l) (front_more zone left (load_at ls i) (drop (i + 1) ls) some on here)
+front_counts zone left ls i l some on here =
+    rw (first_load ls i l) (front_more zone left (load_at ls i) (drop (i + 1) ls) some on here)
 
-pub front_done : (zone left : ℕ) (ls : List ZoneLoad) (i : ℕ) → i < length ls → left ≤ 0 → front zone left (drop i ls) ≡ front zone left (drop (i + 1) ls)
+pub front_done : (zone left : ℕ) (ls : List ZoneLoad) (i : ℕ) → i < length ls → left ≤ 0 →
+    front zone left (drop i ls) ≡ front zone left (drop (i + 1) ls)
 front_done zone zero ls i l none = refl
 front_done zone (suc left) ls i l none = absurd (omega (arith, none))
 
@@ -93,7 +106,8 @@ every_from q zero xs = refl
 every_from q (suc w) [] = refl
 every_from q (suc w) (x ∷ xs) = every_from q w xs
 
-pub every_at : (q i : ℕ) (xs : List ℕ) → 0 < q → i < length xs → every q 0 (drop i xs) ≡ get_or xs i 0 ∷ every q 0 (drop (i + q) xs)
+pub every_at : (q i : ℕ) (xs : List ℕ) → 0 < q → i < length xs →
+    every q 0 (drop i xs) ≡ get_or xs i 0 ∷ every q 0 (drop (i + q) xs)
 unfolding every
 every_at q i xs some l =
     let far : i + 1 + (q - 1) ≡ i + q = omega (arith, some) in

@@ -29,7 +29,8 @@ many q c (suc w) (x ∷ xs) lo l = many q c w xs lo (omega (arith, l))
 pub as_many : (q c w : ℕ) (xs : List ℕ) → w < q → length xs ≡ q * c → length (every q w xs) ≡ c
 as_many q zero w xs lo e = omega (arith, few q 0 w xs (omega (arith, lo)) (omega (arith, e)))
 as_many q (suc c) w xs lo e =
-    omega (arith, few q (suc c) w xs (omega (arith, lo)) (omega (arith, e)), many q c w xs (omega (arith, lo)) (omega (arith, e, lo)))
+    omega (arith, few q (suc c) w xs (omega (arith, lo)) (omega (arith, e)),
+        many q c w xs (omega (arith, lo)) (omega (arith, e, lo)))
 
 -- ---- no group gets many of a zone
 
@@ -51,7 +52,8 @@ unfolding every
 none p q w [] e = refl
 none p q zero (x ∷ xs) e = first (p x) (none p q (q - 1) xs) e
   where
-    first : (b : Bool) → (filter p xs ≡ [] → filter p (every q (q - 1) xs) ≡ []) → (if b then x ∷ filter p xs else filter p xs) ≡ []
+    first : (b : Bool) → (filter p xs ≡ [] → filter p (every q (q - 1) xs) ≡ []) →
+        (if b then x ∷ filter p xs else filter p xs) ≡ []
         → (if b then x ∷ filter p (every q (q - 1) xs) else filter p (every q (q - 1) xs)) ≡ []
     first true on f = absurd (cc f)
     first false on f = on f
@@ -69,9 +71,11 @@ fewer p (x ∷ xs) = one (p x) (fewer p xs)
     one true k = omega (arith, k)
     one false k = omega (arith, k)
 
-none_of_zones : (p : ℕ → Bool) (f : ℕ → List ℕ) (z : ℕ) (zs : List ℕ) → AllAbove z zs → ((y : ℕ) → (z ≡ y → ⊥) → filter p (f y) ≡ []) → filter p (flat_map f zs) ≡ []
+none_of_zones : (p : ℕ → Bool) (f : ℕ → List ℕ) (z : ℕ) (zs : List ℕ) → AllAbove z zs →
+    ((y : ℕ) → (z ≡ y → ⊥) → filter p (f y) ≡ []) → filter p (flat_map f zs) ≡ []
 none_of_zones p f z [] a other = refl
-none_of_zones p f z (y ∷ ys) a other = rw (filter-append p (f y) (flat_map f ys), other y (λ e. absurd (omega (arith, e, a.0)))) (none_of_zones p f z ys a.1 other)
+none_of_zones p f z (y ∷ ys) a other =
+    rw (filter-append p (f y) (flat_map f ys), other y (λ e. absurd (omega (arith, e, a.0)))) (none_of_zones p f z ys a.1 other)
 
 -- where a zone's drives stand together and are at most q * c, no group gets more than c of them
 pub few_of_zone : (p : ℕ → Bool) (f : ℕ → List ℕ) (z q c w : ℕ) (zs : List ℕ) → 0 < q → Rising zs → length (f z) ≤ q * c
@@ -83,9 +87,11 @@ few_of_zone p f z q c w (y ∷ ys) lo r l other =
     ap (filter p) (every_more q w (f y) (flat_map f ys)) ∙ filter-append p (every q w (f y)) (every q v (flat_map f ys)) in
     elim (cases_eq z y) [
       | inl e ↦
-          let rest : filter p (every q v (flat_map f ys)) ≡ [] = none p q v (flat_map f ys) (none_of_zones p f z ys (rw (← e) at r.0) other) in
+          let rest : filter p (every q v (flat_map f ys)) ≡ [] =
+              none p q v (flat_map f ys) (none_of_zones p f z ys (rw (← e) at r.0) other) in
           let few_here : length (every q w (f y)) ≤ c = few q c w (f y) lo (omega (arith, rw e at l)) in
-          omega (arith, ap length (kept ∙ ap (λ (l : List ℕ). filter p (every q w (f y)) ++ l) rest), length_same (filter p (every q w (f y))), fewer p (every q w (f y)), few_here)
+          omega (arith, ap length (kept ∙ ap (λ (l : List ℕ). filter p (every q w (f y)) ++ l) rest),
+              length_same (filter p (every q w (f y))), fewer p (every q w (f y)), few_here)
       | inr ne ↦ rw (kept, none p q w (f y) (other y ne)) (few_of_zone p f z q c v ys lo r.1 l other)
     ]
   where
@@ -94,7 +100,8 @@ few_of_zone p f z q c w (y ∷ ys) lo r l other =
     length_same (x ∷ xs) = omega (arith, length_same xs)
 
 -- of a part of the line in front no more than of the whole
-pub few_of_front : (p : ℕ → Bool) (q w k : ℕ) (xs : List ℕ) → length (filter p (every q w (take k xs))) ≤ length (filter p (every q w xs))
+pub few_of_front : (p : ℕ → Bool) (q w k : ℕ) (xs : List ℕ) →
+    length (filter p (every q w (take k xs))) ≤ length (filter p (every q w xs))
 few_of_front p q w k xs =
     let whole : every q w xs ≡ every q w (take k xs) ++ every q (left q w (take k xs)) (drop k xs) =
     ap (every q w) (sym (take-append-drop k xs)) ∙ every_more q w (take k xs) (drop k xs) in
@@ -127,7 +134,8 @@ unfolding turns every
 turns_every n q [] = turns_none (suc q)
 turns_every n q (x ∷ xs) =
     let wait : suc q - 1 ≡ q = omega arith in
-    omega (arith, turns_every n q xs, turns_last (λ j. times n (every (suc q) j xs)) q, ap (λ k. times n (every (suc q) k xs)) wait)
+    omega (arith, turns_every n q xs, turns_last (λ j. times n (every (suc q) j xs)) q,
+        ap (λ k. times n (every (suc q) k xs)) wait)
 
 turns_same : (f g : ℕ → ℕ) (m : ℕ) → ((j : ℕ) → f j ≡ g j) → turns f m ≡ turns g m
 unfolding turns
@@ -141,7 +149,8 @@ times_counted n f a (suc m) =
     let first : a + 0 ≡ a = omega arith in
     let rest : turns (λ j. times n (f (a + 1 + j))) m ≡ turns (λ j. times n (f (a + suc j))) m =
     turns_same (λ j. times n (f (a + 1 + j))) (λ j. times n (f (a + suc j))) m (λ j. ap (λ k. times n (f k)) (next j)) in
-    rw (times-append n (f a) (flat_map f (counted (a + 1) m)), first) (ap (λ k. times n (f a) + k) (times_counted n f (a + 1) m ∙ rest))
+    rw (times-append n (f a) (flat_map f (counted (a + 1) m)), first)
+        (ap (λ k. times n (f a) + k) (times_counted n f (a + 1) m ∙ rest))
   where
     next : (j : ℕ) → a + 1 + j ≡ a + suc j
     next j = omega arith
@@ -150,7 +159,8 @@ pub times_dealt : (n q : ℕ) (xs : List ℕ) → 0 < q → times n (flat_map (�
 times_dealt n zero xs lo = absurd (omega (arith, lo))
 times_dealt n (suc q) xs lo =
     times_counted n (λ j. every (suc q) j xs) 0 (suc q)
-    ∙ turns_same (λ j. times n (every (suc q) (0 + j) xs)) (λ j. times n (every (suc q) j xs)) (suc q) (λ j. ap (λ k. times n (every (suc q) k xs)) (from_zero j))
+    ∙ turns_same (λ j. times n (every (suc q) (0 + j) xs)) (λ j. times n (every (suc q) j xs)) (suc q)
+        (λ j. ap (λ k. times n (every (suc q) k xs)) (from_zero j))
     ∙ turns_every n q xs
   where
     from_zero : (j : ℕ) → 0 + j ≡ j
@@ -183,7 +193,8 @@ group_of_turns f size a (suc m) (suc i) len l =
     let here : length (f a) ≡ size = rw first at (len 0 (omega arith)) in
     let far : suc i * size ≡ length (f a) + i * size = omega (arith, here, more) in
     rw (far, drop-append-add (f a) (flat_map f (counted (a + 1) m)) (i * size))
-    (group_of_turns f size (a + 1) m i (λ j k. ap (λ n. length (f n)) (next j) ∙ len (suc j) (omega (arith, k))) (omega (arith, l)) ∙ ap f (next i))
+    (group_of_turns f size (a + 1) m i (λ j k. ap (λ n. length (f n)) (next j) ∙ len (suc j) (omega (arith, k)))
+        (omega (arith, l)) ∙ ap f (next i))
   where
     next : (j : ℕ) → a + 1 + j ≡ a + suc j
     next j = omega arith
@@ -191,7 +202,8 @@ group_of_turns f size a (suc m) (suc i) len l =
     more : suc i * size ≡ size + i * size
     more = omega arith
 
-pub length_turns : (f : ℕ → List ℕ) (size a m : ℕ) → ((j : ℕ) → j < m → length (f (a + j)) ≡ size) → length (flat_map f (counted a m)) ≡ m * size
+pub length_turns : (f : ℕ → List ℕ) (size a m : ℕ) → ((j : ℕ) → j < m → length (f (a + j)) ≡ size) →
+    length (flat_map f (counted a m)) ≡ m * size
 unfolding counted
 length_turns f size a zero len = omega arith
 length_turns f size a (suc m) len =

@@ -50,7 +50,8 @@ abbrev pub Spreads : ZoneAsk → List ZoneLoad → List ℕ → Type 0
 Spreads ask loads chosen = IsTrue (spreads ask (online_placed loads) chosen)
 
 -- a closure may be called wherever a spread may be asked, and its list is one
-pub record IsZonePlacer {Z : Type 0} (g : Shared Z (Bor ZoneAsk × (Bor (List ZoneLoad) × Unit {0})) (Result (List ℕ) Memory)) (z : Z)
+pub record IsZonePlacer {Z : Type 0} (g : Shared Z (Bor ZoneAsk × (Bor (List ZoneLoad) × Unit {0})) (Result (List ℕ) Memory))
+    (z : Z)
     : Type 0 where
   pub callable : (ask : Bor ZoneAsk) (loads : Bor (List ZoneLoad)) → CanSpread ask.now loads.now → g.pre z (ask, (loads, tt))
   pub spreads : (ask : Bor ZoneAsk) (loads : Bor (List ZoneLoad)) (r : Result (List ℕ) Memory) → CanSpread ask.now loads.now

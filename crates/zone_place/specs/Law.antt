@@ -5,4 +5,5 @@ use Rattle.zone_place.specs.Zones.{InZone, AreDifferent, has_room, spreads, deal
 
 -- where different drives have room, those that are dealt are spread
 abbrev pub DealtSpreads : Type 0
-DealtSpreads = (ask : ZoneAsk) (ds : List InZone) → AreDifferent ds → has_room ask ds ≡ true → spreads ask ds (dealt ask ds) ≡ true
+DealtSpreads =
+    (ask : ZoneAsk) (ds : List InZone) → AreDifferent ds → has_room ask ds ≡ true → spreads ask ds (dealt ask ds) ≡ true

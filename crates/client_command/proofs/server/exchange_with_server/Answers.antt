@@ -9,8 +9,10 @@ returns-then-branch-clause-loses g c = λ is.
     let answers : is_answer_to c.args.message.now c.in-Some.record ≡ true = search rules in
     let still : c.in_ok-awaits_still-in-Some.field-0 ≡ true = search rules in
     loses_answer c.args.message.now c.in-Some.record
-    (dealing c.args.core.now c.args.waiting.now c.args.notices.now (g.L.Links.told c.args.links.now) (g.L.Links.faults c.args.links.now))
-    (dealing c.hear_reply.new.core c.hear_reply.new.waiting c.hear_reply.new.notices (g.L.Links.told c.asked.new.links) (g.L.Links.faults c.asked.new.links))
+    (dealing c.args.core.now c.args.waiting.now c.args.notices.now (g.L.Links.told c.args.links.now)
+        (g.L.Links.faults c.args.links.now))
+    (dealing c.hear_reply.new.core c.hear_reply.new.waiting c.hear_reply.new.notices (g.L.Links.told c.asked.new.links)
+        (g.L.Links.faults c.asked.new.links))
     answers (rw c.in-Some.is at c.in_ok-record.ensures)
     (ap (on_links (g.L.Links.told c.asked.new.links) (g.L.Links.faults c.asked.new.links))
     (c.in_ok-hear_reply-in-Some.ensures (g.L.Links.told c.args.links.now) (g.L.Links.faults c.args.links.now)))

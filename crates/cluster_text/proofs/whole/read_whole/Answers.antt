@@ -7,5 +7,6 @@ pub returns-in-Ok-clause-stops : goal.returns-in-Ok-clause-stops
 returns-in-Ok-clause-stops g c = record {
   bytes = c.pieces.bytes ++ take c.in-Ok.count c.take.new.buf;
   came = Consumes-then _ _ _ _ _ c.pieces.invariant.1 c.in-Ok.ensures.bytes.0;
-  passes = passes c.pieces.bytes c.take.new.buf c.in-Ok.count c.pieces.invariant.0 c.in-Ok.ensures.bound.0 (omega (arith, c.if-count-room.true, c.len.ensures));
+  passes = passes c.pieces.bytes c.take.new.buf c.in-Ok.count c.pieces.invariant.0 c.in-Ok.ensures.bound.0
+      (omega (arith, c.if-count-room.true, c.len.ensures));
 }

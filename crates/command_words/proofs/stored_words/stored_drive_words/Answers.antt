@@ -21,5 +21,6 @@ returns-in-Ok-clause-refuses c =
 
 pub returns-clause-refuses : goal.returns-clause-refuses
 returns-clause-refuses c =
-    blames _ stored_drive_options stored_drive_gives _ c.in-Err.e c.stop_of.result c.in_ok-command.ensures stored_drive_free c.in-Err.ensures.kinds
+    blames _ stored_drive_options stored_drive_gives _ c.in-Err.e c.stop_of.result c.in_ok-command.ensures stored_drive_free
+    c.in-Err.ensures.kinds
     (λ bad memory. c.stop_of.ensures bad (c.kind.ensures ∙ memory))

@@ -8,12 +8,14 @@ use Rattle.command_words.proofs.words.drive_words.Goals as goal
 pub returns-in-Some-clause-asks : goal.returns-in-Some-clause-asks
 returns-in-Some-clause-asks c = (
   taken _ drive_options _ c.in_ok-command.ensures drive_free c.in-Ok.ensures.kinds,
-  drive_asked _ _ c.in-Ok.matches _ _ _ c.in_ok-command.ensures c.in-Ok.ensures.matches c.get_str.ensures c.get_str-in-Ok.ensures c.drive_from.ensures ∙ c.in-Some.is,
+  drive_asked _ _ c.in-Ok.matches _ _ _ c.in_ok-command.ensures c.in-Ok.ensures.matches c.get_str.ensures c.get_str-in-Ok.ensures
+      c.drive_from.ensures ∙ c.in-Some.is,
 )
 
 pub returns-in-Ok-clause-refuses : goal.returns-in-Ok-clause-refuses
 returns-in-Ok-clause-refuses c =
-    inr (drive_asked _ _ c.in-Ok.matches _ _ _ c.in_ok-command.ensures c.in-Ok.ensures.matches c.get_str.ensures c.get_str-in-Ok.ensures c.drive_from.ensures ∙ c.in-None.is)
+    inr (drive_asked _ _ c.in-Ok.matches _ _ _ c.in_ok-command.ensures c.in-Ok.ensures.matches c.get_str.ensures
+    c.get_str-in-Ok.ensures c.drive_from.ensures ∙ c.in-None.is)
 
 pub returns-clause-refuses : goal.returns-clause-refuses
 returns-clause-refuses c =

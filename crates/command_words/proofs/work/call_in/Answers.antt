@@ -11,7 +11,8 @@ returns-in-Some c =
     let same = c.as_bytes.ensures.value ∙ c.in_ok-line.ensures.ok in
     let found = subst (λ (o : Option Event). Reads c.as_bytes.result.now o) c.in-Some.is c.in_ok-event.ensures in
     let reads = subst (λ (l : List ℕ). Reads l (Some c.in-Some.event)) same found in
-    subst (λ (o : Option Call). Gives (IsCall c.args.text.now) o) (sym c.call_of.ensures) (call_told c.args.text.now c.in-Some.event reads.0 reads.1)
+    subst (λ (o : Option Call). Gives (IsCall c.args.text.now) o) (sym c.call_of.ensures)
+    (call_told c.args.text.now c.in-Some.event reads.0 reads.1)
 
 pub returns : goal.returns
 returns c = λ what s.

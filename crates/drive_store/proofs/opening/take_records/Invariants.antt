@@ -11,7 +11,8 @@ invariant-loop-body g l = record {
       → HasTaken g.D.Disk.tells g.D.Disk.seen g.D.Disk.may_leave l.core l.reader;
   same : emptied l.core ≡ emptied l.initial.core;
   place : l.at ≡ place_of l.reader;
-  disk : OnlyRead g.D.Disk.tells g.D.Disk.seen g.D.Disk.may_leave g.D.Disk.moment g.D.Disk.left_since (read_disk l.initial.reader) (read_disk l.reader);
+  disk : OnlyRead g.D.Disk.tells g.D.Disk.seen g.D.Disk.may_leave g.D.Disk.moment g.D.Disk.left_since (read_disk l.initial.reader)
+      (read_disk l.reader);
   count : g.D.Disk.faults (read_disk l.reader) ≡ g.D.Disk.faults (read_disk l.initial.reader);
 }
 

@@ -5,4 +5,5 @@ use Rattle.file_jobs.proofs.effects.copy_of.Goals as goal
 pub returns : goal.returns
 returns c =
     let a = c.args.awaited.now in
-    ap (λ (bytes : List ℕ). record a { command = record a.command { payload = bytes } }) (c.in_ok-payload.ensures ∙ c.as_slice.ensures)
+    ap (λ (bytes : List ℕ). record a { command = record a.command { payload = bytes } })
+        (c.in_ok-payload.ensures ∙ c.as_slice.ensures)

@@ -11,6 +11,7 @@ returns-clause-keeps c = record {
     whole = s.whole;
     high = s.high;
     live = rw c.new.ensures tt;
-    ended = rw (c.in_ok-extend_from_slice.ensures.ok, c.as_slice.ensures) (all_inside c.args.kept.now.ended c.args.kept.now.grants s.ended s.live);
+    ended = rw (c.in_ok-extend_from_slice.ensures.ok, c.as_slice.ensures)
+        (all_inside c.args.kept.now.ended c.args.kept.now.grants s.ended s.live);
   };
 }

@@ -9,7 +9,8 @@ use Rattle.file_jobs.specs.Steps.{Around, going}
 use Rattle.file_jobs.proofs.places.place_missing.Given as goal
 
 pub record Passed (kept : Kept) (was is : Effects) (loads : List DriveLoad) (from k : ℕ) : Type 0 where
-  pub rest : (a : Around) → AreLoadsOf loads a.drives → rebuilds (going kept is a) (drop k kept.components) k ≡ rebuilds (going kept was a) (drop from kept.components) from
+  pub rest : (a : Around) → AreLoadsOf loads a.drives →
+      rebuilds (going kept is a) (drop k kept.components) k ≡ rebuilds (going kept was a) (drop from kept.components) from
   pub nonce : is.nonce ≡ was.nonce
   pub object : is.object ≡ was.object
 

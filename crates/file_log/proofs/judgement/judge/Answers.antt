@@ -10,8 +10,11 @@ returns-then-not-fits c = (
   λ h. absurd (cc h),
   λ all.
       let here = accepted_fits c.args.log.now c.loop-entry.entry-index c.entry-item.result c.loop-entry-test.true all in
-      let fits = subst (λ (x : Entry). Fits (candidates (take c.loop-entry.entry-index c.args.log.now)) x) (sym c.entry-item.is) here in
-      absurd (true≢false (sym (c.fits.ensures.1 (same_fits _ _ c.entry-item.result (same_back _ _ c.loop-entry.invariant.0) fits)) ∙ c.if-not-fits.true)),
+      let fits = subst (λ (x : Entry). Fits (candidates (take c.loop-entry.entry-index c.args.log.now)) x)
+          (sym c.entry-item.is) here in
+      absurd (true≢false
+          (sym (c.fits.ensures.1 (same_fits _ _ c.entry-item.result (same_back _ _ c.loop-entry.invariant.0) fits))
+          ∙ c.if-not-fits.true)),
 )
 
 pub loop-entry-preserved : goal.loop-entry-preserved
@@ -22,5 +25,6 @@ loop-entry-preserved c =
     let fits = same_fits _ _ entry c.loop-entry.invariant.0 (c.fits.ensures.0 c.if-not-fits.false) in
     let next = same_then _ _ _ c.in_ok-take.ensures (same_after _ _ entry c.loop-entry.invariant.0) in (
       rw (candidates_next log at entry c.loop-entry-test.true, sym c.entry-item.is) next,
-      accepts_next log at entry c.loop-entry-test.true c.loop-entry.invariant.1 (subst (λ (x : Entry). Fits (candidates (take at log)) x) c.entry-item.is fits),
+      accepts_next log at entry c.loop-entry-test.true c.loop-entry.invariant.1
+          (subst (λ (x : Entry). Fits (candidates (take at log)) x) c.entry-item.is fits),
     )

@@ -8,7 +8,8 @@ invariant-records g l = record {
   read : (header : List ℕ) → HasRead g.D.Disk.tells g.D.Disk.seen g.D.Disk.may_leave header [] l.initial.reader
       → HasRead g.D.Disk.tells g.D.Disk.seen g.D.Disk.may_leave header l.bodies l.reader;
   header : header_of l.reader ≡ header_of l.initial.reader;
-  disk : OnlyRead g.D.Disk.tells g.D.Disk.seen g.D.Disk.may_leave g.D.Disk.moment g.D.Disk.left_since (read_disk l.initial.reader) (read_disk l.reader);
+  disk : OnlyRead g.D.Disk.tells g.D.Disk.seen g.D.Disk.may_leave g.D.Disk.moment g.D.Disk.left_since (read_disk l.initial.reader)
+      (read_disk l.reader);
   count : g.D.Disk.faults (read_disk l.reader) ≡ g.D.Disk.faults (read_disk l.initial.reader);
 }
 

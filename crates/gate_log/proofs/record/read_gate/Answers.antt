@@ -5,4 +5,5 @@ use Rattle.gate_log.proofs.record.read_gate.Goals as goal
 
 pub returns-clause-byte : goal.returns-clause-byte
 returns-clause-byte g c told =
-    one_byte c.read_whole.new.buf (drop HEADER_SIZE (g.D.Disk.seen c.args.disk.now)) c.in_ok-count.count _ (search rules) (search rules) (search rules) (c.in_ok-count.ensures.bytes told) (search rules)
+    one_byte c.read_whole.new.buf (drop HEADER_SIZE (g.D.Disk.seen c.args.disk.now)) c.in_ok-count.count _ (search rules)
+    (search rules) (search rules) (c.in_ok-count.ensures.bytes told) (search rules)

@@ -5,4 +5,5 @@ use Rattle.gate_log.proofs.record.read_header.Goals as goal
 
 pub returns-clause-bytes : goal.returns-clause-bytes
 returns-clause-bytes g c told =
-    whole_read c.read_whole.new.buf (g.D.Disk.seen c.args.disk.now) c.in_ok-count.count HEADER_SIZE (search rules) (search rules) (search rules) (c.in_ok-count.ensures.bytes told)
+    whole_read c.read_whole.new.buf (g.D.Disk.seen c.args.disk.now) c.in_ok-count.count HEADER_SIZE (search rules) (search rules)
+    (search rules) (c.in_ok-count.ensures.bytes told)

@@ -5,4 +5,5 @@ use Rattle.held_grants.proofs.FileMaps.{due_end}
 use Rattle.held_grants.proofs.grants.make_each_due.Goals as goal
 
 pub returns : goal.returns
-returns c = sym (due_end c.loop-held.dues _ (rest_all deref_pair _ _ c.next.result c.in-None.is c.next.ensures.steps)) ∙ c.loop-held.invariant
+returns c = sym (due_end c.loop-held.dues _ (rest_all deref_pair _ _ c.next.result c.in-None.is c.next.ensures.steps))
+    ∙ c.loop-held.invariant

@@ -13,6 +13,9 @@ pub loop-number-preserved : goal.loop-number-preserved
 loop-number-preserved c =
     let old : Table = c.args.old.now.entries in
     let all : List Entry = c.args.entries.now ++ files_entries (files_in old) (files_in c.args.files.now.entries) in
-    let left = rest_more deref_pair c.loop-number.number-iterator c.next.new.self c.next.result (c.in-Some.number, c.in-Some.file) c.in-Some.is c.next.ensures.steps in
-    file_more old c.next.new.self c.in-Some.number.now c.in-Some.file.now (option_copied c.get.result) c.loop-number.entries c.add_file.new.entries all c.requires.old
-    (subst (λ (t : Table). SoFar old t c.loop-number.entries all) left c.loop-number.invariant) c.get.ensures.value c.in_ok-add_file.ensures
+    let left = rest_more deref_pair c.loop-number.number-iterator c.next.new.self c.next.result
+        (c.in-Some.number, c.in-Some.file) c.in-Some.is c.next.ensures.steps in
+    file_more old c.next.new.self c.in-Some.number.now c.in-Some.file.now
+        (option_copied c.get.result) c.loop-number.entries c.add_file.new.entries all c.requires.old
+    (subst (λ (t : Table). SoFar old t c.loop-number.entries all) left c.loop-number.invariant) c.get.ensures.value
+        c.in_ok-add_file.ensures

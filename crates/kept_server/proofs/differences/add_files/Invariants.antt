@@ -6,4 +6,5 @@ use Rattle.kept_server.proofs.differences.add_files.Given as goal
 
 abbrev pub invariant-loop-number : goal.invariant-loop-number
 invariant-loop-number l =
-    SoFar l.fn.old.entries l.number-iterator l.entries (l.fn.entries ++ files_entries (files_in l.fn.old.entries) (files_in l.fn.files.entries))
+    SoFar l.fn.old.entries l.number-iterator l.entries
+        (l.fn.entries ++ files_entries (files_in l.fn.old.entries) (files_in l.fn.files.entries))

@@ -17,5 +17,6 @@ returns c =
     let k = c.loop-k.k in
     let ws = drop k c.args.old.now in
     let left : components_entries n k ws (drop k c.args.components.now) ≡ [] =
-    ap (λ (cs : List Component). components_entries n k ws cs) (drop_all k c.args.components.now c.loop-k-test.false) ∙ none_left n k ws in
+    ap (λ (cs : List Component). components_entries n k ws cs) (drop_all k c.args.components.now c.loop-k-test.false)
+        ∙ none_left n k ws in
     sym (append-nil c.loop-k.entries) ∙ ap (λ (es : List Entry). c.loop-k.entries ++ es) (sym left) ∙ c.loop-k.invariant

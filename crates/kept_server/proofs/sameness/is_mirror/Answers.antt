@@ -10,7 +10,9 @@ returns-then-has_same_numbers c =
     let a = server_of c.args.mirror.now in
     let b = crash (server_of c.args.state.now) in
     let same = c.has_same_numbers.ensures.0 c.if-has_same_numbers.true in (
-      λ t. same_server a b (record { grants = same.grants; objects = same.objects; nonces = same.nonces; recalls = same.recalls; format = same.format })
+      λ t. same_server a b
+          (record { grants = same.grants; objects = same.objects; nonces = same.nonces; recalls = same.recalls; format =
+          same.format })
           (c.has_same_tables.ensures.0 t),
       λ e. c.has_same_tables.ensures.1 (tables_same a b e),
     )
@@ -22,5 +24,6 @@ returns-else-has_same_numbers c =
       λ t. absurd (false≢true (sym c.if-has_same_numbers.false ∙ t)),
       λ e. (let same = numbers_same a b e in
           absurd (false≢true (sym c.if-has_same_numbers.false ∙ c.has_same_numbers.ensures.1
-          (record { grants = same.grants; objects = same.objects; nonces = same.nonces; recalls = same.recalls; format = same.format })))),
+          (record { grants = same.grants; objects = same.objects; nonces = same.nonces; recalls = same.recalls; format =
+              same.format })))),
     )

@@ -5,4 +5,5 @@ use Rattle.layout_server.proofs.ResendLaws.{all_resent}
 use Rattle.layout_server.proofs.resends.resend.Goals as goal
 
 pub returns : goal.returns
-returns c = (rw (c.new-sends.ensures, c.as_slice-drives.ensures) at c.in_ok-resend_all.ensures) ∙ ap all_sent (all_resent (server_of c.args.state.now))
+returns c = (rw (c.new-sends.ensures, c.as_slice-drives.ensures) at c.in_ok-resend_all.ensures)
+    ∙ ap all_sent (all_resent (server_of c.args.state.now))

@@ -9,4 +9,6 @@ pub returns-clause-written : goal.returns-clause-written
 returns-clause-written c =
     let f = length-fields c.args.c.now in
     let l = length-spelling c.args.c.now.capability in
-    c.put_at-2.ensures ∙ rw (c.put_at.ensures, c.fields_of.ensures.written, c.to_bytes.ensures.spelled, f, l) (put_both (fields c.args.c.now) (spelling c.args.c.now.capability) f l)
+    c.put_at-2.ensures
+    ∙ rw (c.put_at.ensures, c.fields_of.ensures.written, c.to_bytes.ensures.spelled, f, l)
+    (put_both (fields c.args.c.now) (spelling c.args.c.now.capability) f l)

@@ -6,4 +6,5 @@ pub next_tag_of-tag-requires : goal.next_tag_of-tag-requires
 next_tag_of-tag-requires c = let clear = clear_late _ _ c.requires.late in other_tag _ (rw c.requires.action at clear.tag)
 
 pub set_tag-requires-clause-lane : goal.set_tag-requires-clause-lane
-set_tag-requires-clause-lane c = let clear = clear_late _ _ c.requires.late in rw c.lane_for.ensures (has_room _ _ (rw c.requires.action at clear.lane))
+set_tag-requires-clause-lane c = let clear = clear_late _ _ c.requires.late in
+    rw c.lane_for.ensures (has_room _ _ (rw c.requires.action at clear.lane))

@@ -16,4 +16,5 @@ write-requires-clause-space c =
     rw c.as_slice-bytes.ensures (has_space _ _ _ _ space)
 
 pub write-requires-clause-lane : goal.write-requires-clause-lane
-write-requires-clause-lane c = let clear = clear_late _ _ c.requires.late in rw c.lane_for.ensures (has_room _ _ (rw c.requires.action at clear.lane))
+write-requires-clause-lane c = let clear = clear_late _ _ c.requires.late in
+    rw c.lane_for.ensures (has_room _ _ (rw c.requires.action at clear.lane))

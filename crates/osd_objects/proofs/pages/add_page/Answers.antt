@@ -10,13 +10,16 @@ use Rattle.osd_objects.proofs.pages.add_page.Goals as goal
 
 pub returns-in-Ok-clause-ok : goal.returns-in-Ok-clause-ok
 returns-in-Ok-clause-ok c =
-    let none : is_some (page_at c.args.pages.now.entries c.args.number) ≡ false = sym c.contains_key.ensures ∙ c.if-contains_key.false in
-    rw none (c.in_ok-insert.ensures.entries ∙ ap (insert_entry nat_cmp c.args.pages.now.entries c.args.number) c.in_ok-zeros.ensures)
+    let none : is_some (page_at c.args.pages.now.entries c.args.number) ≡ false =
+        sym c.contains_key.ensures ∙ c.if-contains_key.false in
+    rw none (c.in_ok-insert.ensures.entries
+        ∙ ap (insert_entry nat_cmp c.args.pages.now.entries c.args.number) c.in_ok-zeros.ensures)
 
 pub returns-in-Ok-clause-back : goal.returns-in-Ok-clause-back
 returns-in-Ok-clause-back c =
     ap (without_pages c.insert.new.self.entries) c.in-Ok.ensures.items
-    ∙ without_added c.args.pages.now.entries c.insert.new.self.entries c.args.added.now.items c.args.number (sym c.contains_key.ensures ∙ c.if-contains_key.false)
+    ∙ without_added c.args.pages.now.entries c.insert.new.self.entries c.args.added.now.items c.args.number
+        (sym c.contains_key.ensures ∙ c.if-contains_key.false)
     (c.in_ok-insert.ensures.entries ∙ ap (insert_entry nat_cmp c.args.pages.now.entries c.args.number) c.in_ok-zeros.ensures)
 
 pub returns-in-Err-clause-err : goal.returns-in-Err-clause-err
@@ -29,4 +32,5 @@ returns-in-Err-clause-back c =
     ap (without_pages c.remove.new.self.entries) c.in-Err.ensures.items
     ∙ ap (λ (x : Pages). without_pages x c.args.added.now.items)
     (c.remove.ensures.entries ∙ ap (remove_entry (is_at (nat_cmp c.args.number))) c.in_ok-insert.ensures.entries
-    ∙ removed_again c.args.pages.now.entries c.args.number _ (none_there _ (sym c.contains_key.ensures ∙ c.if-contains_key.false)))
+    ∙ removed_again c.args.pages.now.entries c.args.number _
+        (none_there _ (sym c.contains_key.ensures ∙ c.if-contains_key.false)))

@@ -7,9 +7,12 @@ loop-number-init c = record { forth = refl; back = without_none _ _ c.new-added.
 
 pub loop-number-preserved : goal.loop-number-preserved
 loop-number-preserved c = record {
-  forth = page_is_added c.loop-number.pages.entries c.add_page.new.pages.entries c.loop-number.number c.args.end c.loop-number-test.true c.in-Ok.ensures.ok ∙ c.loop-number.invariant.forth;
+  forth = page_is_added c.loop-number.pages.entries c.add_page.new.pages.entries c.loop-number.number c.args.end
+      c.loop-number-test.true c.in-Ok.ensures.ok ∙ c.loop-number.invariant.forth;
   back = c.add_page.ensures.back ∙ c.loop-number.invariant.back;
 }
 
 pub returns-clause-ok : goal.returns-clause-ok
-returns-clause-ok c = sym (with_no_page c.loop-number.pages.entries c.loop-number.number c.args.end c.loop-number-test.false) ∙ c.loop-number.invariant.forth
+returns-clause-ok c =
+    sym (with_no_page c.loop-number.pages.entries c.loop-number.number c.args.end c.loop-number-test.false)
+    ∙ c.loop-number.invariant.forth

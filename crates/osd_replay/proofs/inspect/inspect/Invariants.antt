@@ -14,8 +14,11 @@ invariant-lines g l = record {
   ended : l.reader.ahead.ended ≡ true → IsAtEnd (g.S.Source.left l.source);
   reads : g.S.Source.faults l.source ≡ g.S.Source.faults l.fn.source;
   writes : g.K.Sink.faults l.sink ≡ g.K.Sink.faults l.fn.sink;
-  newlines : Counted l.reader.ahead.ended l.number (g.S.Source.left l.fn.source) (known_of l.reader.ahead (g.S.Source.left l.source));
-  so_far : Inspecting l.inspection l.kind (g.S.Source.left l.fn.source) (known_of l.reader.ahead (g.S.Source.left l.source)) l.reader.taken (g.K.Sink.taken l.fn.sink) (g.K.Sink.taken l.sink) l.number;
+  newlines : Counted l.reader.ahead.ended l.number (g.S.Source.left l.fn.source)
+      (known_of l.reader.ahead (g.S.Source.left l.source));
+  so_far : Inspecting l.inspection l.kind (g.S.Source.left l.fn.source)
+      (known_of l.reader.ahead (g.S.Source.left l.source)) l.reader.taken (g.K.Sink.taken l.fn.sink)
+          (g.K.Sink.taken l.sink) l.number;
 }
 
 abbrev pub decreases-lines : goal.decreases-lines

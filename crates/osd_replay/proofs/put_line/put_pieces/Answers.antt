@@ -17,6 +17,7 @@ returns-in-Err-clause-puts g c =
     let fits = length-flat_map-take bytes pieces i none c.loop-piece-test.true in (
       length (flat_map bytes (take i pieces)) + n,
       omega (arith, fits, short),
-      rw (cut_in_piece bytes pieces i n none c.loop-piece-test.true (omega (arith, short))) (Appends-then _ _ _ _ _ c.loop-piece.invariant.out c.in-Err.ensures.err),
+      rw (cut_in_piece bytes pieces i n none c.loop-piece-test.true (omega (arith, short)))
+          (Appends-then _ _ _ _ _ c.loop-piece.invariant.out c.in-Err.ensures.err),
       rw c.loop-piece.invariant.faults at c.in-Err.ensures.cause.failed,
     )

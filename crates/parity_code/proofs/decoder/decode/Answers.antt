@@ -5,10 +5,14 @@ use Rattle.parity_code.proofs.DecodeLaws.{decoded_by, decoded_none, back, coded,
 use Rattle.parity_code.proofs.decoder.decode.Goals as goal
 
 pub overflow_cast-result : goal.overflow_cast-result
-overflow_cast-result c = record { fits = omega (arith, rising_few (length c.args.rows.now) c.args.lost.now c.requires.lost.rising c.requires.lost.below, count_most c.args.code) }
+overflow_cast-result c =
+    record { fits =
+    omega (arith, rising_few (length c.args.rows.now) c.args.lost.now c.requires.lost.rising c.requires.lost.below,
+    count_most c.args.code) }
 
 pub returns-in-empty-clause-exact : goal.returns-in-empty-clause-exact
-returns-in-empty-clause-exact c = λ k lt. sym (rw (no_position c.args.lost.now (omega arith)) (decoded_none _ (column c.args.rows.now k)))
+returns-in-empty-clause-exact c =
+    λ k lt. sym (rw (no_position c.args.lost.now (omega arith)) (decoded_none _ (column c.args.rows.now k)))
 
 pub returns-in-len1-clause-exact : goal.returns-in-len1-clause-exact
 returns-in-len1-clause-exact c =

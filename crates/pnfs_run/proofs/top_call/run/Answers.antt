@@ -16,4 +16,5 @@ returns-in-Some-Client-clause-promise g c =
     (g.L.Links.told c.run_client.new.links) (g.L.Links.faults c.run_client.new.links)
     (g.C.Clock.times c.args.clock.now))
     c.run_client.result)
-    (sym (sym c.party_named.ensures ∙ c.in-Some-Client.is ∙ ap Some c.in-Some-Client.field-0-is)) (c.run_client.ensures.promise (g.C.Clock.times c.args.clock.now))
+    (sym (sym c.party_named.ensures ∙ c.in-Some-Client.is ∙ ap Some c.in-Some-Client.field-0-is))
+        (c.run_client.ensures.promise (g.C.Clock.times c.args.clock.now))

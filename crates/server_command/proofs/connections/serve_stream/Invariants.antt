@@ -10,7 +10,8 @@ invariant-loop-inbox g l =
     HasServed
     (serving (g.H.MetadataServer.server l.initial.server) [] l.initial.stands
     (ends_of (g.L.Links.told l.initial.links) (g.L.Links.faults l.initial.links) (g.C.Clock.times l.initial.clock)))
-    (serving (g.H.MetadataServer.server l.server) [] l.stands (ends_of (g.L.Links.told l.links) (g.L.Links.faults l.links) (g.C.Clock.times l.clock)))
+    (serving (g.H.MetadataServer.server l.server) [] l.stands
+        (ends_of (g.L.Links.told l.links) (g.L.Links.faults l.links) (g.C.Clock.times l.clock)))
     l.inbox
     × Went g.H.MetadataServer l.initial.server l.server
 

@@ -22,12 +22,16 @@ loop-i-preserved g c =
     let file = get_or c.args.files.now c.loop-i.i no_file in (
       rw (take_more c.args.files.now c.loop-i.i file (slice_get-get_or c.args.files.now c.loop-i.i no_file c.loop-i-test.true))
           (turn_more MakesFile _ file _ _ _ c.loop-i.invariant.0 c.in-Ok.ensures.makes),
-      went_then g.H.MetadataServer c.args.server.now c.loop-i.server c.make_file.new.server c.loop-i.invariant.1 c.in-Ok.ensures.goes,
+      went_then g.H.MetadataServer c.args.server.now c.loop-i.server c.make_file.new.server c.loop-i.invariant.1
+          c.in-Ok.ensures.goes,
     )
 
 pub loop-i-init : goal.loop-i-init
-loop-i-init g c = (refl, went_none g.H.MetadataServer c.args.server.now (g.met.H.MetadataServer.kept_stays c.args.server.now) c.requires.goes_on)
+loop-i-init g c =
+    (refl, went_none g.H.MetadataServer c.args.server.now
+    (g.met.H.MetadataServer.kept_stays c.args.server.now) c.requires.goes_on)
 
 pub returns-in-Err-clause-goes : goal.returns-in-Err-clause-goes
 returns-in-Err-clause-goes g c =
-    broke_then g.H.MetadataServer _ c.args.server.now c.loop-i.server c.make_file.new.server c.loop-i.invariant.1 c.in-Err.ensures.goes
+    broke_then g.H.MetadataServer _ c.args.server.now c.loop-i.server c.make_file.new.server c.loop-i.invariant.1
+        c.in-Err.ensures.goes

@@ -9,7 +9,8 @@ returns-in_ok-hear_drive-in-Some-clause-asks g c = λ stands.
     let same : c.as_slice.result.now ≡ c.in-Some.reply = search rules in
     record {
       came = Some c.in-Some.reply;
-      between = ends_of (g.L.Links.told c.asked.new.links) (g.L.Links.faults c.asked.new.links) (g.C.Clock.times c.args.clock.now);
+      between = ends_of (g.L.Links.told c.asked.new.links) (g.L.Links.faults c.asked.new.links)
+          (g.C.Clock.times c.args.clock.now);
       answered = rw c.in-Some.is at c.in_ok-reply.ensures;
       times = refl;
       hears = rw same at (c.in_ok-hear_drive-in-Some.ensures.hears stands);

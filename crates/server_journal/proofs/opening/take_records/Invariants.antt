@@ -8,7 +8,8 @@ abbrev pub invariant-loop-body : goal.invariant-loop-body
 invariant-loop-body g l = record {
   taken : HasTaken g.D.Disk l.initial.restoration l.initial.reader → HasTaken g.D.Disk l.restoration l.reader;
   place : l.at ≡ place_of l.reader;
-  disk : OnlyRead g.D.Disk.tells g.D.Disk.seen g.D.Disk.may_leave g.D.Disk.moment g.D.Disk.left_since (read_disk l.initial.reader) (read_disk l.reader);
+  disk : OnlyRead g.D.Disk.tells g.D.Disk.seen g.D.Disk.may_leave g.D.Disk.moment g.D.Disk.left_since (read_disk l.initial.reader)
+      (read_disk l.reader);
   count : g.D.Disk.faults (read_disk l.reader) ≡ g.D.Disk.faults (read_disk l.initial.reader);
 }
 

@@ -6,7 +6,8 @@ use Rattle.server_requests.proofs.lacks.lacked.Given as goal
 
 -- none of the first ones is lacked
 pub record Looked (f : Kept) (g : Grant) (component index : ℕ) : Type 0 where
-  pub rest : lacked_from f.map f.components g.first g.end (drop index f.components) component ≡ lacked_from f.map f.components g.first g.end f.components 0
+  pub rest : lacked_from f.map f.components g.first g.end
+      (drop index f.components) component ≡ lacked_from f.map f.components g.first g.end f.components 0
   pub place : component ≡ index
 
 abbrev pub invariant-loop-at : goal.invariant-loop-at

@@ -5,4 +5,5 @@ use Rattle.server_requests.proofs.seals.send_to_drives.Given as goal
 
 abbrev pub invariant-loop-command : goal.invariant-loop-command
 invariant-loop-command l =
-    l.sends ++ all_sent (to_drives l.fn.drives (drop l.command-index l.fn.commands)) ≡ l.fn.sends ++ all_sent (to_drives l.fn.drives l.fn.commands)
+    l.sends ++ all_sent (to_drives l.fn.drives (drop l.command-index l.fn.commands)) ≡ l.fn.sends ++ all_sent
+    (to_drives l.fn.drives l.fn.commands)

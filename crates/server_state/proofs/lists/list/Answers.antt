@@ -10,9 +10,11 @@ returns-in_ok-add_of-in-Some-clause-good c = on_that c.add.result (λ added. rec
   files = c.requires.files;
   grants = c.requires.grants;
   drives = c.requires.drives;
-  replies = put_on c.args.state.now.files.entries c.args.state.now.replies c.add_of.new.replies c.args.number (Some c.in-Some.file.now) (sym c.in-Some.ensures.value)
+  replies = put_on c.args.state.now.files.entries c.args.state.now.replies c.add_of.new.replies c.args.number
+      (Some c.in-Some.file.now) (sym c.in-Some.ensures.value)
       c.requires.replies c.in_ok-add_of-in-Some.ensures;
-  counts = counted_on c.args.state.now.files.entries c.args.state.now.counts c.add.new.self c.args.number c.in-Some.file.now (sym c.in-Some.ensures.value)
+  counts = counted_on c.args.state.now.files.entries c.args.state.now.counts c.add.new.self c.args.number c.in-Some.file.now
+      (sym c.in-Some.ensures.value)
       c.requires.counts added;
 }) (rw c.as_slice.ensures at c.add.ensures)
 
@@ -21,7 +23,9 @@ returns-in-None-clause-good c = record {
   files = c.requires.files;
   grants = c.requires.grants;
   drives = c.requires.drives;
-  replies = put_on c.args.state.now.files.entries c.args.state.now.replies c.args.state.now.replies c.args.number None (sym c.in-None.ensures.value)
+  replies = put_on c.args.state.now.files.entries c.args.state.now.replies c.args.state.now.replies c.args.number None
+      (sym c.in-None.ensures.value)
       c.requires.replies (λ x d m. nothing_on (c.args.number == m) (has c.args.state.now.replies x d m));
-  counts = none_on c.args.state.now.files.entries c.args.state.now.counts c.args.number (sym c.in-None.ensures.value) c.requires.counts;
+  counts = none_on c.args.state.now.files.entries c.args.state.now.counts c.args.number
+      (sym c.in-None.ensures.value) c.requires.counts;
 }

@@ -7,7 +7,8 @@ use Rattle.stripe_repair.specs.Pieces.{IsPiece}
 use Rattle.stripe_repair.specs.Auditing.{inspects}
 use Rattle.stripe_repair.proofs.audit.inspect_on.Given as goal
 
-pub record Inspected (f : Kept) (nonce : ℕ) (todo : List Piece) (short : List ℕ) (first : List Piece) (marked : List ℕ) : Type 0 where
+pub record Inspected (f : Kept) (nonce : ℕ) (todo : List Piece) (short : List ℕ) (first : List Piece)
+    (marked : List ℕ) : Type 0 where
   pub same : inspects f nonce todo short ≡ inspects f nonce first marked
   pub pieces : All IsPiece todo
 

@@ -6,10 +6,15 @@ pub returns-then-unit-spot-gt-MAX_PIECE-clause-left : goal.returns-then-unit-spo
 returns-then-unit-spot-gt-MAX_PIECE-clause-left c = within_range c.args.unit c.args.spot c.requires.column c.requires.inside
 
 pub returns-then-unit-spot-gt-MAX_PIECE-clause-rest : goal.returns-then-unit-spot-gt-MAX_PIECE-clause-rest
-returns-then-unit-spot-gt-MAX_PIECE-clause-rest c = λ ranges. within c.args.unit ranges c.args.spot c.requires.column c.requires.inside
+returns-then-unit-spot-gt-MAX_PIECE-clause-rest c =
+    λ ranges. within c.args.unit ranges c.args.spot c.requires.column c.requires.inside
 
 pub returns-clause-left : goal.returns-clause-left
-returns-clause-left c = past_range c.args.unit c.args.spot c.requires.column c.requires.inside (omega (arith, c.if-unit-spot-gt-MAX_PIECE.false, c.requires.column))
+returns-clause-left c =
+    past_range c.args.unit c.args.spot c.requires.column c.requires.inside
+        (omega (arith, c.if-unit-spot-gt-MAX_PIECE.false, c.requires.column))
 
 pub returns-clause-rest : goal.returns-clause-rest
-returns-clause-rest c = λ ranges. past c.args.unit ranges c.args.spot c.requires.column c.requires.inside (omega (arith, c.if-unit-spot-gt-MAX_PIECE.false, c.requires.column))
+returns-clause-rest c =
+    λ ranges. past c.args.unit ranges c.args.spot c.requires.column c.requires.inside
+        (omega (arith, c.if-unit-spot-gt-MAX_PIECE.false, c.requires.column))

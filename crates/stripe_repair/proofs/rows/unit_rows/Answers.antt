@@ -12,5 +12,9 @@ loop-unit-preserved c =
     let row = rw source at c.in_ok-row_at.ensures in
     c.in_ok-push.ensures.ok
     ∙ ap (λ x. c.loop-unit.rows ++ (x ∷ [])) row
-    ∙ ap (λ xs. xs ++ (row_at c.args.heard.now (replica m c.args.components.now (position_of m c.args.stripe c.loop-unit.unit)) c.args.count ∷ [])) c.loop-unit.invariant
-    ∙ sym (map-range_with_len_more (λ u. row_at c.args.heard.now (replica m c.args.components.now (position_of m c.args.stripe u)) c.args.count) 0 c.loop-unit.unit c.loop-unit.unit (omega arith))
+    ∙ ap (λ xs. xs
+        ++ (row_at c.args.heard.now
+        (replica m c.args.components.now (position_of m c.args.stripe c.loop-unit.unit)) c.args.count ∷ [])) c.loop-unit.invariant
+    ∙ sym (map-range_with_len_more
+        (λ u. row_at c.args.heard.now (replica m c.args.components.now (position_of m c.args.stripe u)) c.args.count) 0
+            c.loop-unit.unit c.loop-unit.unit (omega arith))

@@ -17,4 +17,5 @@ loop-next-preserved c =
     ∙ c.loop-next.invariant
 
 pub returns : goal.returns
-returns c = sym (append-nil c.loop-next.chosen) ∙ rw (every_none c.args.groups c.loop-next.next c.args.line.now c.loop-next-test.false) at c.loop-next.invariant
+returns c = sym (append-nil c.loop-next.chosen)
+    ∙ rw (every_none c.args.groups c.loop-next.next c.args.line.now c.loop-next-test.false) at c.loop-next.invariant

@@ -21,8 +21,10 @@ loop-load-preserved c =
           ∙ c.loop-load.invariant
       | else-left-gt0 w ↦
           let same : front zone left (drop i ls) ≡ front zone left (drop (i + 1) ls) = elim w.else-left-gt0.branch [
-            | else-left-gt0-via-then-left-gt0+then-load+else-load-zone v ↦ front_leaves_other zone left ls i c.loop-load-test.true v.if-load-zone.false
-            | else-left-gt0-via-then-left-gt0+else-load v ↦ front_leaves_offline zone left ls i c.loop-load-test.true v.if-load.false
+            | else-left-gt0-via-then-left-gt0+then-load+else-load-zone v ↦ front_leaves_other zone left ls i c.loop-load-test.true
+                v.if-load-zone.false
+            | else-left-gt0-via-then-left-gt0+else-load v ↦ front_leaves_offline zone left ls i c.loop-load-test.true
+                v.if-load.false
             | else-left-gt0-via-else-left-gt0 v ↦ front_done zone left ls i c.loop-load-test.true v.if-left-gt0.false
           ] in
           ap (λ (k : ℕ). c.if-left-gt0.line ++ front zone k (drop (i + 1) ls)) w.left-is

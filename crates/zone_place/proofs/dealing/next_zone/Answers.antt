@@ -13,12 +13,15 @@ loop-load-preserved c =
     let rest = zone_from c.args.lowest (online_placed (drop (i + 1) ls)) in
     elim c.if-load.branch [
       | then-load+then-lowest-from w ↦
-          let counts = zone_counts c.args.lowest ls i c.loop-load-test.true w.if-load.true (rw w.from.ensures at w.if-lowest-from.true) in
-          ap (λ f. lowest_of f rest) (w.found-is ∙ w.lower_of-found.ensures) ∙ lowest_more c.loop-load.found (load_at ls i).zone rest
+          let counts =
+              zone_counts c.args.lowest ls i c.loop-load-test.true w.if-load.true (rw w.from.ensures at w.if-lowest-from.true) in
+          ap (λ f. lowest_of f rest) (w.found-is ∙ w.lower_of-found.ensures)
+              ∙ lowest_more c.loop-load.found (load_at ls i).zone rest
           ∙ ap (λ o. lowest_of c.loop-load.found o) (sym counts) ∙ c.loop-load.invariant
       | else-load w ↦
           let same : zone_from c.args.lowest (online_placed (drop i ls)) ≡ rest = elim w.else-load.branch [
-            | else-load-via-then-load+else-lowest-from v ↦ zone_low c.args.lowest ls i c.loop-load-test.true v.if-load.true (rw v.from.ensures at v.if-lowest-from.false)
+            | else-load-via-then-load+else-lowest-from v ↦ zone_low c.args.lowest ls i c.loop-load-test.true v.if-load.true
+                (rw v.from.ensures at v.if-lowest-from.false)
             | else-load-via-else-load v ↦ zone_offline c.args.lowest ls i c.loop-load-test.true v.if-load.false
           ] in
           ap (λ f. lowest_of f rest) w.found-is ∙ ap (λ o. lowest_of c.loop-load.found o) (sym same) ∙ c.loop-load.invariant
@@ -27,4 +30,5 @@ loop-load-preserved c =
 pub returns : goal.returns
 unfolding zone_from
 returns c =
-    sym (lowest_none c.loop-load.found) ∙ (rw (past_end c.args.loads.now c.loop-load.load-index c.loop-load-test.false) at c.loop-load.invariant)
+    sym (lowest_none c.loop-load.found)
+        ∙ (rw (past_end c.args.loads.now c.loop-load.load-index c.loop-load-test.false) at c.loop-load.invariant)

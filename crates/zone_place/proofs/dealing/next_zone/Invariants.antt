@@ -5,4 +5,6 @@ use Rattle.zone_place.proofs.Lines.{lowest_of}
 use Rattle.zone_place.proofs.dealing.next_zone.Given as goal
 
 abbrev pub invariant-loop-load : goal.invariant-loop-load
-invariant-loop-load l = lowest_of l.found (zone_from l.lowest (online_placed (drop l.load-index l.loads))) ≡ zone_from l.lowest (online_placed l.loads)
+invariant-loop-load l =
+    lowest_of l.found (zone_from l.lowest (online_placed (drop l.load-index l.loads))) ≡ zone_from l.lowest
+        (online_placed l.loads)

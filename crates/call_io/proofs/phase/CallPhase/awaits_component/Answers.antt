@@ -7,4 +7,6 @@ use Rattle.call_io.proofs.Places.{none_of}
 use Rattle.call_io.proofs.phase.CallPhase.awaits_component.Goals as goal
 
 pub returns-in-None : goal.returns-in-None
-returns-in-None c = sym (ap (λ (xs : List Awaited). is_some (first_among (of_component c.args.component xs))) c.in-None.ensures ∙ none_of c.args.component)
+returns-in-None c =
+    sym (ap (λ (xs : List Awaited). is_some (first_among (of_component c.args.component xs))) c.in-None.ensures
+    ∙ none_of c.args.component)

@@ -8,14 +8,16 @@ pub returns-in-Ok-clause-ok : goal.returns-in-Ok-clause-ok
 returns-in-Ok-clause-ok g c = record {
   state = c.in-Ok.ensures.state;
   few = omega arith;
-  crash = λ kept. of_disk g.D.Disk.moment g.D.Disk.left_since c.args.self.now c.handle.new.self _ (c.handle.ensures.any_moment kept);
+  crash = λ kept. of_disk g.D.Disk.moment g.D.Disk.left_since c.args.self.now c.handle.new.self _
+      (c.handle.ensures.any_moment kept);
   since = λ kept. let leaves = c.handle.ensures.any_moment kept in (
     leaves.each,
     g.D.Disk.moment (disk_in c.handle.new.self),
     leaves.later,
     omega arith,
     λ content left. subst (λ d. IsStoreOf d content) c.in-Ok.ensures.state
-        (stays g.D.Disk.tells g.D.Disk.seen g.D.Disk.may_leave g.D.Disk.moment g.D.Disk.left_since g.met.D.Disk.only_now c.handle.new.self content (c.in-Ok.ensures.kept kept) left),
+        (stays g.D.Disk.tells g.D.Disk.seen g.D.Disk.may_leave g.D.Disk.moment g.D.Disk.left_since g.met.D.Disk.only_now
+            c.handle.new.self content (c.in-Ok.ensures.kept kept) left),
   );
 }
 
@@ -25,7 +27,8 @@ returns-in-Err-clause-err g c = elim c.in-Err.ensures.err [
   | inr done ↦ inr (record {
     state = done.0;
     few = omega arith;
-    crash = λ kept. of_disk g.D.Disk.moment g.D.Disk.left_since c.args.self.now c.handle.new.self _ (c.handle.ensures.any_moment kept);
+    crash = λ kept. of_disk g.D.Disk.moment g.D.Disk.left_since c.args.self.now c.handle.new.self _
+        (c.handle.ensures.any_moment kept);
     since = λ kept. (c.handle.ensures.any_moment kept).each;
   })
 ]

@@ -8,12 +8,15 @@ returns-clause-body g c header bodies h =
     let kept = c.in-Ok.record in
     let found = c.in-Ok.ensures.bytes h.stands.told in
     record {
-      stands = steps_on g.D.Disk.tells g.D.Disk.seen g.D.Disk.may_leave g.D.Disk.moment g.D.Disk.left_since header bodies self.disk c.read_record.new.disk self.at self.gate h.stands
+      stands = steps_on g.D.Disk.tells g.D.Disk.seen g.D.Disk.may_leave g.D.Disk.moment g.D.Disk.left_since header bodies
+          self.disk c.read_record.new.disk self.at self.gate h.stands
           c.in-Ok.ensures.disk kept.body found.0 kept.next_gate _
-          (record { open_gate = search rules; some = c.in-Ok.ensures.size.0; fits = c.in-Ok.ensures.size.1 }) found.1 (ap (λ (n : ℕ). self.at + (5 + n)) c.len.ensures);
+          (record { open_gate = search rules; some = c.in-Ok.ensures.size.0; fits = c.in-Ok.ensures.size.1 }) found.1
+          (ap (λ (n : ℕ). self.at + (5 + n)) c.len.ensures);
       sized = h.sized ∙ ap (λ (l : List ℕ). length l) (sym c.in-Ok.ensures.disk.seen_same);
     }
 
 pub returns-in-Err-clause-refused : goal.returns-in-Err-clause-refused
 returns-in-Err-clause-refused g c =
-    refused_there g.D.Disk.tells g.D.Disk.seen g.D.Disk.may_leave c.args.self.now c.in-Err.e (search rules) c.in-Err.ensures.refused
+    refused_there g.D.Disk.tells g.D.Disk.seen g.D.Disk.may_leave c.args.self.now c.in-Err.e
+    (search rules) c.in-Err.ensures.refused

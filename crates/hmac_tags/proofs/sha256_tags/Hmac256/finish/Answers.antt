@@ -7,5 +7,6 @@ use Rattle.hmac_tags.proofs.sha256_tags.Hmac256.finish.Goals as goal
 pub returns : goal.returns
 unfolding hmac
 returns c = λ key text h.
-    let first : c.finalize-first.result ≡ sha256 (padded INNER_PAD (key_of sha256 key) ++ text) = c.finalize-first.ensures _ h.inner in
+    let first : c.finalize-first.result ≡ sha256 (padded INNER_PAD (key_of sha256 key) ++ text) =
+        c.finalize-first.ensures _ h.inner in
     c.finalize.ensures _ (c.update.ensures _ h.outer) ∙ rw first refl

@@ -5,4 +5,5 @@ use Rattle.layout_types.proofs.show.LayoutShow.show.Goals as goal
 
 pub returns : goal.returns
 unfolding layout_lines
-returns c = on_ok c.show_list.result c.show_list.ensures (λ e. e ∙ rw (c.in_ok-put_u32.ensures, c.in_ok-show_part.ensures) (one_after_another c.args.out.now _ (_ ∷ _ ∷ [])))
+returns c = on_ok c.show_list.result c.show_list.ensures
+    (λ e. e ∙ rw (c.in_ok-put_u32.ensures, c.in_ok-show_part.ensures) (one_after_another c.args.out.now _ (_ ∷ _ ∷ [])))

@@ -27,4 +27,5 @@ returns-in-Ok-clause-watches g c =
     watches_on c.watch_is_read.ensures.events c.watch_is_read.ensures.goes_on c.moves_follow.ensures.watched c.args.event
     c.args.lines.now c.carry_out.new.lines c.args.self.now _ (returns-in-Ok-clause-steps g c)
     (λ long. subst (λ (x : WorldState). HasSeen c.carry_out.new.parties.network.messages
-    (drop (length c.args.lines.now) c.carry_out.new.lines) x.watch c.carry_out.new.watch) c.self.view_is (c.in-Ok.ensures.seen long))
+    (drop (length c.args.lines.now) c.carry_out.new.lines) x.watch c.carry_out.new.watch) c.self.view_is
+        (c.in-Ok.ensures.seen long))

@@ -14,7 +14,8 @@ returns-in_err-grow-clause-taken g c = (
 pub returns-in-Ok-eq0-clause-taken : goal.returns-in-Ok-eq0-clause-taken
 returns-in-Ok-eq0-clause-taken g c = (
   [],
-  taken-piece (g.L.Links.told c.args.links.now) (g.L.Links.told c.take.new.self) c.take.new.buf 0 (rw c.in-Ok-eq0.field-0-test at c.in-Ok-eq0.ensures.told),
+  taken-piece (g.L.Links.told c.args.links.now) (g.L.Links.told c.take.new.self) c.take.new.buf 0
+      (rw c.in-Ok-eq0.field-0-test at c.in-Ok-eq0.ensures.told),
   omega (arith, ap (λ (i : Coming). i.room) c.self.view_is),
   search rules,
 )
@@ -23,13 +24,16 @@ pub returns-in-Ok-eq0-clause-over : goal.returns-in-Ok-eq0-clause-over
 returns-in-Ok-eq0-clause-over g c =
     let room : 0 < length c.take.new.buf = search rules in (
       c.self.view_is,
-      inr (inr (inr (taken-end (g.L.Links.told c.args.links.now) (g.L.Links.told c.take.new.self) c.take.new.buf room (rw c.in-Ok-eq0.field-0-test at c.in-Ok-eq0.ensures.told)))),
+      inr (inr (inr
+          (taken-end (g.L.Links.told c.args.links.now) (g.L.Links.told c.take.new.self) c.take.new.buf room
+          (rw c.in-Ok-eq0.field-0-test at c.in-Ok-eq0.ensures.told)))),
     )
 
 pub returns-in_err-self-inside-in-Ok-clause-taken : goal.returns-in_err-self-inside-in-Ok-clause-taken
 returns-in_err-self-inside-in-Ok-clause-taken g c = (
   take c.in-Ok.count c.take.new.buf,
-  taken-piece (g.L.Links.told c.args.links.now) (g.L.Links.told c.take.new.self) c.take.new.buf c.in-Ok.count c.in-Ok.ensures.told,
+  taken-piece (g.L.Links.told c.args.links.now)
+      (g.L.Links.told c.take.new.self) c.take.new.buf c.in-Ok.count c.in-Ok.ensures.told,
   rw (sym (ap (λ (i : Coming). i.room) c.self.view_is)) (search rules),
   search rules,
 )
@@ -40,7 +44,9 @@ returns-in_ok-self-inside-in-Ok-clause-taken g c =
     sym (ap (λ (i : Coming). i.begun) c.self.view_is)
     ∙ unbroken c.self.inside.is_broken c.self.inside.stream (search rules) in (
       take c.in-Ok.count c.take.new.buf,
-      taken-piece (g.L.Links.told c.args.links.now) (g.L.Links.told c.take.new.self) c.take.new.buf c.in-Ok.count c.in-Ok.ensures.told,
+      taken-piece (g.L.Links.told c.args.links.now)
+          (g.L.Links.told c.take.new.self) c.take.new.buf c.in-Ok.count c.in-Ok.ensures.told,
       rw (sym (ap (λ (i : Coming). i.room) c.self.view_is)) (search rules),
-      λ before given h. piece-reads before _ given c.read_piece.new.records c.self.inside.stream _ (rw whole at h) (rw c.split_at.ensures.front at c.in_ok-self-inside-in-Ok.ensures),
+      λ before given h. piece-reads before _ given c.read_piece.new.records c.self.inside.stream _ (rw whole at h)
+          (rw c.split_at.ensures.front at c.in_ok-self-inside-in-Ok.ensures),
     )

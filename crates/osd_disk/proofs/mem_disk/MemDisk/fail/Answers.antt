@@ -6,4 +6,5 @@ use Rattle.osd_disk.proofs.mem_disk.MemDisk.fail.Goals as goal
 
 pub invariant_of-self-2 : goal.invariant_of-self-2
 invariant_of-self-2 c =
-    stays_done c.self.inside.calls c.push.new.self Idle c.self.inside.bytes (first_or c.self.inside.bytes c.self.inside.first) (inl refl) c.self.invariant c.in_ok-push.ensures.ok
+    stays_done c.self.inside.calls c.push.new.self Idle c.self.inside.bytes (first_or c.self.inside.bytes c.self.inside.first)
+    (inl refl) c.self.invariant c.in_ok-push.ensures.ok

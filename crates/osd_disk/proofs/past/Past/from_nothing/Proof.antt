@@ -34,7 +34,8 @@ module _ {M : Type 1} {𝓤 : Ura M} (𝓛 : Logic 𝓤) (mem : Memory → SProp
   c = f.clauses 𝓛 mem run
 
   walks : (C : Calls 𝓤 H) (Λ : Loops 𝓤 H) → Walks 𝓛 f.ended tt (WpFn 𝓤 H C Λ code.function) c
-  walks C Λ = walked 𝓛 f.ended tt c (WpFn 𝓤 H C Λ code.function) (λ κs. tt) (λ κs. tt) (λ κs qs bounds a g are. via 𝓤 (on_entry 𝓛 f.signature tt tt tt tt) (fst∗ 𝓤 _ (emp 𝓤)) (
+  walks C Λ = walked 𝓛 f.ended tt c (WpFn 𝓤 H C Λ code.function) (λ κs. tt) (λ κs. tt)
+      (λ κs qs bounds a g are. via 𝓤 (on_entry 𝓛 f.signature tt tt tt tt) (fst∗ 𝓤 _ (emp 𝓤)) (
       let r : Res f.signature tt = record { first = g.first; calls = g.calls } in
       let O : Fml = (type_at f.signature.result tt).own_val r (vstruct vnil ∷ []) in
       qed 𝓛 (raw (on_entry 𝓛 f.signature tt tt tt tt) ∷ []) ∵ enter ! C Λ code.function [] _ $
@@ -47,7 +48,8 @@ module _ {M : Type 1} {𝓤 : Ura M} (𝓛 : Logic 𝓤) (mem : Memory → SProp
 
 pub from_nothing_spec : {M : Type 1} → stated.statement M
 from_nothing_spec 𝓤 𝓛 𝓜 𝓡 wired =
-    walk_Meets 𝓛 f.ended tt tt (f.clauses 𝓛 𝓜.mem 𝓡.returns) (𝓡.run (𝓡.env #self)) (λ vs. fm→mono 𝓤 (𝓡.run (𝓡.env #self) vs) (run_framed 𝓤 𝓛.H 𝓜 𝓡 (𝓡.env #self) vs))
+    walk_Meets 𝓛 f.ended tt tt (f.clauses 𝓛 𝓜.mem 𝓡.returns) (𝓡.run (𝓡.env #self))
+    (λ vs. fm→mono 𝓤 (𝓡.run (𝓡.env #self) vs) (run_framed 𝓤 𝓛.H 𝓜 𝓡 (𝓡.env #self) vs))
     (entered 𝓤 𝓛.H (walk_of 𝓛 f.ended tt (f.clauses 𝓛 𝓜.mem 𝓡.returns))
     (tables 𝓤 𝓛.H 𝓜 𝓡 𝓡.env).C (tables 𝓤 𝓛.H 𝓜 𝓡 𝓡.env).Λ #self code.function (code.unfolded 𝓤 𝓛.H 𝓜 𝓡 wired)
     (walks 𝓛 𝓜.mem 𝓡.returns (tables 𝓤 𝓛.H 𝓜 𝓡 𝓡.env).C (tables 𝓤 𝓛.H 𝓜 𝓡 𝓡.env).Λ))

@@ -4,7 +4,8 @@ use Rattle.osd_objects.proofs.sparse.SparseBytes.new.Goals as goal
 
 pub invariant_of-result : goal.invariant_of-result
 unfolding byte_at
-invariant_of-result c = rw c.new.ensures.empty (record { full = λ n page found. absurd (cc found); clean = λ k h. refl; small = omega arith })
+invariant_of-result c =
+    rw c.new.ensures.empty (record { full = λ n page found. absurd (cc found); clean = λ k h. refl; small = omega arith })
 
 pub returns : goal.returns
 unfolding span

@@ -9,7 +9,8 @@ pub returns-in-Ok-clause-kept : goal.returns-in-Ok-clause-kept
 returns-in-Ok-clause-kept g c = rw (c.of-server.ensures.0, c.of-server.ensures.1) at c.in-Ok.ensures.kept
 
 pub returns-in-Err-clause-cut_off : goal.returns-in-Err-clause-cut_off
-returns-in-Err-clause-cut_off g c = rw c.into_disk.ensures (rw (c.of-server.ensures.0, c.of-server.ensures.1) at c.keep.ensures.any_moment)
+returns-in-Err-clause-cut_off g c =
+    rw c.into_disk.ensures (rw (c.of-server.ensures.0, c.of-server.ensures.1) at c.keep.ensures.any_moment)
 
 pub returns-in-Err-clause-cause : goal.returns-in-Err-clause-cause
 returns-in-Err-clause-cause g c =

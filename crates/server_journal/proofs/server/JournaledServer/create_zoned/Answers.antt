@@ -16,7 +16,8 @@ pub returns-in-Err-clause-refused : goal.returns-in-Err-clause-refused
 returns-in-Err-clause-refused g c =
     let other : c.in-Err.e ≡ Memory → ⊥ = search rules in
     let reason = c.in-Err.ensures.refused other in
-    rw c.from.ensures (refused g.D.Disk c.args.self.now _ c.args.file c.args.raw c.args.tag true c.in-Err.e other reason.0 reason.1 reason.2
+    rw c.from.ensures
+    (refused g.D.Disk c.args.self.now _ c.args.file c.args.raw c.args.tag true c.in-Err.e other reason.0 reason.1 reason.2
     (record { server = reason.3; log = refl; goes_on = refl }))
 
 pub returns-in-Ok-keep-clause-made : goal.returns-in-Ok-keep-clause-made
@@ -24,7 +25,8 @@ returns-in-Ok-keep-clause-made g c = rw c.keep.ensures.kept_server c.in-Ok.ensur
 
 pub returns-in-Ok-keep-clause-answered : goal.returns-in-Ok-keep-clause-answered
 returns-in-Ok-keep-clause-answered g c =
-    answered g.D.Disk c.args.self.now c.keep.new.self c.create_zoned.new.self c.create_zoned.ensures.kept c.create_zoned.ensures.quiet c.in-Ok.ensures.over
+    answered g.D.Disk c.args.self.now c.keep.new.self c.create_zoned.new.self c.create_zoned.ensures.kept
+    c.create_zoned.ensures.quiet c.in-Ok.ensures.over
     c.keep.ensures.kept_server c.keep.ensures.any_moment c.in-Ok-keep.ensures.kept c.keep.ensures.quiet
 
 pub returns-in-Err-keep-clause-refused : goal.returns-in-Err-keep-clause-refused
@@ -35,6 +37,8 @@ returns-in-Err-keep-clause-refused g c =
       journal_cause _ _ c.in-Err-keep.e _ c.in-Err-keep.ensures.cause refl,
       cut_off g.D.Disk c.args.self.now c.keep.new.self c.create_zoned.new.self
           (λ chosen. after_making c.args.self.now.kept.server c.args.file c.args.raw c.args.tag true chosen) made.0
-          (made_after c.args.self.now.kept.server c.create_zoned.new.self.server c.args.file c.args.raw c.args.tag true made.0 made.1 made.2 made.3.state)
-          c.create_zoned.ensures.kept c.create_zoned.ensures.quiet c.in-Ok.ensures.over c.keep.ensures.any_moment c.keep.ensures.quiet,
+          (made_after c.args.self.now.kept.server c.create_zoned.new.self.server c.args.file c.args.raw c.args.tag true made.0
+          made.1 made.2 made.3.state)
+          c.create_zoned.ensures.kept c.create_zoned.ensures.quiet c.in-Ok.ensures.over c.keep.ensures.any_moment
+          c.keep.ensures.quiet,
     )

@@ -16,8 +16,10 @@ returns-then-len-eq0-clause-kept g c was follows kept =
 
 pub returns-in-Ok-clause-quiet : goal.returns-in-Ok-clause-quiet
 returns-in-Ok-clause-quiet g c none =
-    absurd (omega (arith, c.if-len-eq0.false, c.len.ensures, ap (λ (r : Record). length r.entries) c.changes.ensures.value, ap length none))
+    absurd (omega
+    (arith, c.if-len-eq0.false, c.len.ensures, ap (λ (r : Record). length r.entries) c.changes.ensures.value, ap length none))
 
 pub returns-in-Err-clause-quiet : goal.returns-in-Err-clause-quiet
 returns-in-Err-clause-quiet g c none =
-    absurd (omega (arith, c.if-len-eq0.false, c.len.ensures, ap (λ (r : Record). length r.entries) c.changes.ensures.value, ap length none))
+    absurd (omega
+    (arith, c.if-len-eq0.false, c.len.ensures, ap (λ (r : Record). length r.entries) c.changes.ensures.value, ap length none))

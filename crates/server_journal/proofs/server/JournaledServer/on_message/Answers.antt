@@ -11,12 +11,14 @@ returns-in-Ok-clause-did g c = rw c.keep.ensures.kept_server c.in_ok-step.ensure
 
 pub returns-in-Ok-clause-answered : goal.returns-in-Ok-clause-answered
 returns-in-Ok-clause-answered g c =
-    answered g.D.Disk c.args.self.now c.keep.new.self c.on_message.new.self c.on_message.ensures.kept c.on_message.ensures.quiet c.in_ok-step.ensures.over
+    answered g.D.Disk c.args.self.now c.keep.new.self c.on_message.new.self c.on_message.ensures.kept c.on_message.ensures.quiet
+    c.in_ok-step.ensures.over
     c.keep.ensures.kept_server c.keep.ensures.any_moment c.in-Ok.ensures.kept c.keep.ensures.quiet
 
 pub returns-in-Err-clause-cut_off : goal.returns-in-Err-clause-cut_off
 returns-in-Err-clause-cut_off g c =
     cut_off g.D.Disk c.args.self.now c.keep.new.self c.on_message.new.self
     (λ chosen. (on_bytes c.args.self.now.kept.server c.args.now chosen c.args.from c.args.bytes.now).state)
-    c.in_ok-step.ensures.did.0 c.in_ok-step.ensures.did.1.state c.on_message.ensures.kept c.on_message.ensures.quiet c.in_ok-step.ensures.over
+    c.in_ok-step.ensures.did.0 c.in_ok-step.ensures.did.1.state c.on_message.ensures.kept c.on_message.ensures.quiet
+    c.in_ok-step.ensures.over
     c.keep.ensures.any_moment c.keep.ensures.quiet

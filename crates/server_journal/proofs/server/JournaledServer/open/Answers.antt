@@ -17,23 +17,29 @@ returns-then-not-is_header-clause-cut_off g c told =
 pub returns-in-Err-take_records-clause-cut_off : goal.returns-in-Err-take_records-clause-cut_off
 returns-in-Err-take_records-clause-cut_off g c told =
     read_leaves g.D.Disk g.met.D.Disk.only_now c.args.disk (read_disk c.take_records.new.reader) _ (search rules)
-    (read_again g.D.Disk.tells g.D.Disk.seen g.D.Disk.may_leave g.D.Disk.moment g.D.Disk.left_since c.args.disk (read_disk c.in-Ok.reader) (read_disk c.take_records.new.reader)
+    (read_again g.D.Disk.tells g.D.Disk.seen g.D.Disk.may_leave g.D.Disk.moment g.D.Disk.left_since c.args.disk
+    (read_disk c.in-Ok.reader) (read_disk c.take_records.new.reader)
     c.in-Ok.ensures.disk c.take_records.ensures.disk)
 
 pub returns-then-not-is_header-clause-refused : goal.returns-then-not-is_header-clause-refused
 returns-then-not-is_header-clause-refused g c told =
     let begun = c.in-Ok.ensures.begun told in
-    other_header_at g.D.Disk (header_of c.in-Ok.reader) (read_disk c.in-Ok.reader) _ _ (g.D.Disk.seen c.args.disk) begun.stands c.in-Ok.ensures.disk.seen_same
+    other_header_at g.D.Disk (header_of c.in-Ok.reader) (read_disk c.in-Ok.reader) _ _
+    (g.D.Disk.seen c.args.disk) begun.stands c.in-Ok.ensures.disk.seen_same
     (λ is. let yes = c.is_header.ensures.no (c.header.ensures ∙ is) in absurd (cc (rw c.if-not-is_header.true at yes)))
 
 pub returns-in-Ok-reopen-clause-opened : goal.returns-in-Ok-reopen-clause-opened
 returns-in-Ok-reopen-clause-opened g c told =
     let yes : IsTrue c.is_header.result = search rules in
-    let first = taken_first g.D.Disk (header_of c.in-Ok.reader) c.in-Ok.reader (sym c.header.ensures ∙ c.is_header.ensures.yes yes)
+    let first = taken_first g.D.Disk (header_of c.in-Ok.reader) c.in-Ok.reader
+    (sym c.header.ensures ∙ c.is_header.ensures.yes yes)
     (c.in-Ok.ensures.begun told) in
-    let taken = c.in-Ok-take_records.ensures.taken (subst (λ (s : Server). HasTaken g.D.Disk s c.in-Ok.reader) (sym c.new-restoration.ensures) first) in
-    let kept = taken_kept g.D.Disk c.take_records.new.restoration c.take_records.new.reader c.into_log.result taken c.into_log.ensures.log in
-    let read = read_so_far g.D.Disk c.args.disk c.in-Ok.reader c.take_records.new.reader c.into_log.result c.in-Ok.ensures.disk c.take_records.ensures.disk
+    let taken = c.in-Ok-take_records.ensures.taken
+    (subst (λ (s : Server). HasTaken g.D.Disk s c.in-Ok.reader) (sym c.new-restoration.ensures) first) in
+    let kept = taken_kept g.D.Disk c.take_records.new.restoration c.take_records.new.reader c.into_log.result taken
+    c.into_log.ensures.log in
+    let read = read_so_far g.D.Disk c.args.disk c.in-Ok.reader c.take_records.new.reader c.into_log.result c.in-Ok.ensures.disk
+    c.take_records.ensures.disk
     c.into_log.ensures.disk in
     record {
       before = c.take_records.new.restoration;
@@ -41,7 +47,8 @@ returns-in-Ok-reopen-clause-opened g c told =
       did = c.in-Ok-reopen.ensures.did;
       kept = c.in-Ok-reopen.ensures.kept kept;
       counts = c.in-Ok-reopen.ensures.counts;
-      any_moment = opening_leaves g.D.Disk g.met.D.Disk.only_now c.args.disk _ c.take_records.new.restoration c.into_log.result read kept
+      any_moment =
+          opening_leaves g.D.Disk g.met.D.Disk.only_now c.args.disk _ c.take_records.new.restoration c.into_log.result read kept
           (c.in-Ok-reopen.ensures.any_moment kept);
       idle = λ is. read_still g.D.Disk c.args.disk _ _ (c.in-Ok-reopen.ensures.idle is) read;
     }
@@ -49,11 +56,15 @@ returns-in-Ok-reopen-clause-opened g c told =
 pub returns-in-Err-reopen-clause-cut_off : goal.returns-in-Err-reopen-clause-cut_off
 returns-in-Err-reopen-clause-cut_off g c told =
     let yes : IsTrue c.is_header.result = search rules in
-    let first = taken_first g.D.Disk (header_of c.in-Ok.reader) c.in-Ok.reader (sym c.header.ensures ∙ c.is_header.ensures.yes yes)
+    let first = taken_first g.D.Disk (header_of c.in-Ok.reader) c.in-Ok.reader
+    (sym c.header.ensures ∙ c.is_header.ensures.yes yes)
     (c.in-Ok.ensures.begun told) in
-    let taken = c.in-Ok-take_records.ensures.taken (subst (λ (s : Server). HasTaken g.D.Disk s c.in-Ok.reader) (sym c.new-restoration.ensures) first) in
-    let kept = taken_kept g.D.Disk c.take_records.new.restoration c.take_records.new.reader c.into_log.result taken c.into_log.ensures.log in
-    let read = read_so_far g.D.Disk c.args.disk c.in-Ok.reader c.take_records.new.reader c.into_log.result c.in-Ok.ensures.disk c.take_records.ensures.disk
+    let taken = c.in-Ok-take_records.ensures.taken
+    (subst (λ (s : Server). HasTaken g.D.Disk s c.in-Ok.reader) (sym c.new-restoration.ensures) first) in
+    let kept = taken_kept g.D.Disk c.take_records.new.restoration c.take_records.new.reader c.into_log.result taken
+    c.into_log.ensures.log in
+    let read = read_so_far g.D.Disk c.args.disk c.in-Ok.reader c.take_records.new.reader c.into_log.result c.in-Ok.ensures.disk
+    c.take_records.ensures.disk
     c.into_log.ensures.disk in
     opening_leaves g.D.Disk g.met.D.Disk.only_now c.args.disk _ c.take_records.new.restoration c.into_log.result read kept
     (c.in-Err-reopen.ensures.cut_off kept)
@@ -63,4 +74,5 @@ returns-in-Err-reopen-clause-refused g c = no_place _ c.in-Err-reopen.refusal.0 
 
 pub returns-in-Err-reopen-clause-cause : goal.returns-in-Err-reopen-clause-cause
 returns-in-Err-reopen-clause-cause g c =
-    rw (c.into_log.ensures.disk, c.in-Ok-take_records.ensures.cause.same, c.in-Ok.ensures.no_fault) at c.in-Err-reopen.ensures.cause
+    rw (c.into_log.ensures.disk, c.in-Ok-take_records.ensures.cause.same, c.in-Ok.ensures.no_fault) at
+    c.in-Err-reopen.ensures.cause

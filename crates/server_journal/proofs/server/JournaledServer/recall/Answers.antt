@@ -12,7 +12,8 @@ returns-in-Ok-clause-did g c = rw c.keep.ensures.kept_server c.in_ok-step.ensure
 
 pub returns-in-Ok-clause-answered : goal.returns-in-Ok-clause-answered
 returns-in-Ok-clause-answered g c =
-    answered g.D.Disk c.args.self.now c.keep.new.self c.recall.new.self c.recall.ensures.kept c.recall.ensures.quiet c.in_ok-step.ensures.over
+    answered g.D.Disk c.args.self.now c.keep.new.self c.recall.new.self c.recall.ensures.kept c.recall.ensures.quiet
+    c.in_ok-step.ensures.over
     c.keep.ensures.kept_server c.keep.ensures.any_moment c.in-Ok.ensures.kept c.keep.ensures.quiet
 
 pub returns-in-Err-clause-cut_off : goal.returns-in-Err-clause-cut_off

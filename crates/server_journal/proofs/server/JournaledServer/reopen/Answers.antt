@@ -10,14 +10,16 @@ use Rattle.server_journal.proofs.server.JournaledServer.reopen.Goals as goal
 
 pub returns-in-Err-clause-cut_off : goal.returns-in-Err-clause-cut_off
 returns-in-Err-clause-cut_off g c kept =
-    rw c.into_disk.ensures (still g.D.Disk g.met.D.Disk.only_now c.args.restoration (crash (reopen c.args.restoration).state) c.args.log kept)
+    rw c.into_disk.ensures
+    (still g.D.Disk g.met.D.Disk.only_now c.args.restoration (crash (reopen c.args.restoration).state) c.args.log kept)
 
 pub returns-in-Ok-begin-clause-did : goal.returns-in-Ok-begin-clause-did
 returns-in-Ok-begin-clause-did g c = rw c.in-Ok-begin.ensures.server c.in-Ok.ensures.did
 
 pub returns-in-Ok-begin-clause-any_moment : goal.returns-in-Ok-begin-clause-any_moment
 returns-in-Ok-begin-clause-any_moment g c kept =
-    subst (λ (s : Server). LeavesEither g.D.Disk (disk_of c.args.log) (disk_in c.in-Ok-begin.server) c.args.restoration (crash s)) c.in-Ok.ensures.did.state
+    subst (λ (s : Server). LeavesEither g.D.Disk (disk_of c.args.log) (disk_in c.in-Ok-begin.server) c.args.restoration (crash s))
+    c.in-Ok.ensures.did.state
     (c.in-Ok-begin.ensures.any_moment c.args.restoration c.in-Ok.ensures.follows kept)
 
 pub returns-in-Ok-begin-clause-kept : goal.returns-in-Ok-begin-clause-kept
@@ -31,7 +33,8 @@ returns-in-Ok-begin-clause-counts g c =
 
 pub returns-in-Err-begin-clause-cut_off : goal.returns-in-Err-begin-clause-cut_off
 returns-in-Err-begin-clause-cut_off g c kept =
-    subst (λ (s : Server). LeavesEither g.D.Disk (disk_of c.args.log) c.in-Err-begin.refusal.1 c.args.restoration (crash s)) c.in-Ok.ensures.did.state
+    subst (λ (s : Server). LeavesEither g.D.Disk (disk_of c.args.log) c.in-Err-begin.refusal.1 c.args.restoration (crash s))
+    c.in-Ok.ensures.did.state
     (c.in-Err-begin.ensures.cut_off c.args.restoration c.in-Ok.ensures.follows kept)
 
 pub returns-in-Ok-begin-clause-idle : goal.returns-in-Ok-begin-clause-idle

@@ -8,7 +8,8 @@ returns-in_err-set_format-clause-cut_off g c = at_error _ _ (stopped g.D.Disk g.
 
 pub returns-in-Ok-clause-answered : goal.returns-in-Ok-clause-answered
 returns-in-Ok-clause-answered g c =
-    answered g.D.Disk c.args.self.now c.keep.new.self c.set_format.new.self c.set_format.ensures.kept c.set_format.ensures.quiet c.in_ok-set_format.ensures.over
+    answered g.D.Disk c.args.self.now c.keep.new.self c.set_format.new.self c.set_format.ensures.kept c.set_format.ensures.quiet
+    c.in_ok-set_format.ensures.over
     c.keep.ensures.kept_server c.keep.ensures.any_moment c.in-Ok.ensures.kept c.keep.ensures.quiet
 
 pub returns-in-Err-clause-cut_off : goal.returns-in-Err-clause-cut_off

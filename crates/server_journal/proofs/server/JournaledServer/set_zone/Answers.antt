@@ -11,7 +11,8 @@ returns-in-Ok-clause-stays g c taken = rw c.keep.ensures.kept_server (c.in_ok-pu
 
 pub returns-in-Ok-clause-answered : goal.returns-in-Ok-clause-answered
 returns-in-Ok-clause-answered g c =
-    answered g.D.Disk c.args.self.now c.keep.new.self c.set_zone.new.self c.set_zone.ensures.kept c.set_zone.ensures.quiet c.in_ok-put.ensures.over
+    answered g.D.Disk c.args.self.now c.keep.new.self c.set_zone.new.self c.set_zone.ensures.kept c.set_zone.ensures.quiet
+    c.in_ok-put.ensures.over
     c.keep.ensures.kept_server c.keep.ensures.any_moment c.in-Ok.ensures.kept c.keep.ensures.quiet
 
 pub returns-in-Err-clause-cut_off : goal.returns-in-Err-clause-cut_off

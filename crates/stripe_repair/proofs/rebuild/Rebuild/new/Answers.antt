@@ -6,4 +6,6 @@ pub invariant_of-result : goal.invariant_of-result
 invariant_of-result c = omega (arith, c.requires.component, c.known.ensures.few_components)
 
 pub returns-clause-pieces : goal.returns-clause-pieces
-returns-clause-pieces c = rw (c.new.ensures, c.group_with-group.ensures) (pieces_of_target c.args.map c.args.target c.args.high c.known.ensures c.requires.high)
+returns-clause-pieces c =
+    rw (c.new.ensures, c.group_with-group.ensures)
+        (pieces_of_target c.args.map c.args.target c.args.high c.known.ensures c.requires.high)
