@@ -13,8 +13,8 @@ all_reversed : {X : Type 0} (P : X → Type 0) (xs : List X) → All P xs → Al
 all_reversed P [] all = All-nil P
 all_reversed P (x ∷ xs) all =
     rw (reverse-append (x ∷ []) xs)
-        (All-append P (reverse xs) (x ∷ []) (all_reversed P xs (All-tail P x xs all))
-        (All-cons P x [] (All-head P x xs all) (All-nil P)))
+    (All-append P (reverse xs) (x ∷ []) (all_reversed P xs (All-tail P x xs all))
+    (All-cons P x [] (All-head P x xs all) (All-nil P)))
 
 -- those that it doesn't come before stay before it
 passes : (a : Awaited) (ys zs : List Awaited) → All (λ (b : Awaited). before a.ask b.ask ≡ false) ys →
@@ -23,7 +23,7 @@ unfolding placed
 passes a [] zs all = refl
 passes a (y ∷ ys) zs all =
     let rest : placed a (ys ++ zs) ≡ ys ++ placed a zs =
-        passes a ys zs (All-tail (λ (b : Awaited). before a.ask b.ask ≡ false) y ys all) in
+    passes a ys zs (All-tail (λ (b : Awaited). before a.ask b.ask ≡ false) y ys all) in
     rw (All-head (λ (b : Awaited). before a.ask b.ask ≡ false) y ys all) (ap (λ xs. y ∷ xs) rest)
 
 stays : (a x : Awaited) (xs : List Awaited) → before a.ask x.ask ≡ true → placed a (x ∷ xs) ≡ a ∷ x ∷ xs
@@ -42,9 +42,9 @@ first_there a xs r le here = elim (cases_lt 0 r) [
   | inl some ↦
       let next : r - 1 + 1 ≡ r = omega (arith, some) in
       let split : take r xs ≡ take (r - 1) xs ++ get_or xs (r - 1) a ∷ [] =
-          ap (λ (z : ℕ). take z xs) (sym next) ∙ take_more xs (r - 1) a (omega (arith, some, le)) in
+      ap (λ (z : ℕ). take z xs) (sym next) ∙ take_more xs (r - 1) a (omega (arith, some, le)) in
       let turned : reverse (take r xs) ≡ get_or xs (r - 1) a ∷ reverse (take (r - 1) xs) =
-          ap reverse split ∙ reverse-append (take (r - 1) xs) (get_or xs (r - 1) a ∷ []) in
+      ap reverse split ∙ reverse-append (take (r - 1) xs) (get_or xs (r - 1) a ∷ []) in
       rw turned (stays a (get_or xs (r - 1) a) (reverse (take (r - 1) xs)) (here a some))
   | inr none ↦ let zero_of : r ≡ 0 = omega (arith, none) in rw zero_of (nothing a)
 ]

@@ -92,7 +92,7 @@ found d n [] h s = refl
 found d n (e ∷ es) h s = elim (cases_Bool (e.0 == n)) [
   | inl t ↦ rw (at_number n e.0 ∙ t, nonce_is n e h.0 ∙ t)
       (either_none (e.1.drive == d) _ e.1
-          (none_found d n es h.1 (apart e.0 n (keys_of es) t (sorted_head nat_cmp e.0 (keys_of es) s))))
+      (none_found d n es h.1 (apart e.0 n (keys_of es) t (sorted_head nat_cmp e.0 (keys_of es) s))))
   | inr f ↦ rw (at_number n e.0 ∙ f, nonce_is n e h.0 ∙ f) (found d n es h.1 (sorted_tail nat_cmp e.0 (keys_of es) s))
 ]
 

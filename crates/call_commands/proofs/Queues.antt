@@ -76,6 +76,8 @@ longer (y ∷ xs) x = omega (arith, longer xs x)
 
 pub push_stand : (es : List (ℕ × ℕ)) (xs : List (Option Store)) (w : Store) → StandBehind es xs →
     StandBehind es (xs ++ Some w ∷ [])
-push_stand es xs w h k =
-    (omega (arith, longer xs (Some w), (h k).0), λ j l. ap (λ x. is_to x k) (early xs (Some w ∷ []) j (omega (arith, l, (h k).0)))
-    ∙ (h k).1 j l)
+push_stand es xs w h k = (
+  omega (arith, longer xs (Some w), (h k).0),
+  λ j l. ap (λ x. is_to x k) (early xs (Some w ∷ []) j (omega (arith, l, (h k).0)))
+      ∙ (h k).1 j l,
+)

@@ -31,8 +31,12 @@ unfolding assemble
 answer_told m r got out bytes g = told _ _ bytes g
 
 pub reads_go : (h : Held) (r : Span) (got : List Column) (timed : List TimedOut) (sent xs : List Awaited) → (xs ≡ [] → ⊥) →
-    reads_on h r got timed sent xs ≡ record { held = counted h sent; turn =
-    Goes (Reads (record { awaited = xs; got = got; timed = timed })); sent = sent }
+    reads_on h r got timed sent xs ≡ record {
+      held = counted h sent;
+      turn =
+          Goes (Reads (record { awaited = xs; got = got; timed = timed }));
+      sent = sent;
+    }
 unfolding reads_on
 reads_go h r got timed sent [] n = absurd (n refl)
 reads_go h r got timed sent (a ∷ xs) n = refl
@@ -59,8 +63,12 @@ columns_told m r bytes got out cols g = told _ _ cols g
 -- ---- a gather goes on or is over
 
 pub gathers_go : (h : Held) (op : CallOp) (got : List Column) (timed : List TimedOut) (sent xs : List Awaited) → (xs ≡ [] → ⊥) →
-    gathers_on h op got timed sent xs ≡ record { held = counted h sent; turn =
-    Goes (Gathers (record { awaited = xs; got = got; timed = timed })); sent = sent }
+    gathers_on h op got timed sent xs ≡ record {
+      held = counted h sent;
+      turn =
+          Goes (Gathers (record { awaited = xs; got = got; timed = timed }));
+      sent = sent;
+    }
 unfolding gathers_on
 gathers_go h op got timed sent [] n = absurd (n refl)
 gathers_go h op got timed sent (a ∷ xs) n = refl

@@ -20,7 +20,7 @@ use Rattle.stripe_client.specs.Sending.{spelled}
 use Rattle.layout_ops.specs.declared.messages.Request.{Request}
 use Rattle.osd_lists.specs.declared.node.Node.TheVariants.{Drive, Server}
 use Rattle.osd_bytes.specs.Asking.{Answered}
-use Rattle.client_command.specs.Answers.{is_answer_to}
+use Rattle.reply_matching.specs.Answers.{is_answer_to}
 use Rattle.client_command.specs.Exchanges.{AwaitsStill, Dealing, InTurn, IsLost, IsRequest, Loses, LosesIn, LosesServer, Works, WorksAll, WorksRounds, answer_among, answered, dealing, ended, heard, late, on_links, stepped, timed_out}
 
 pub is_stepped : (s : Dealing) (step : Step) (c : Client) (told : CStep) (waiting : List Sent) (notices : List Notice)
@@ -86,7 +86,7 @@ none_still c message sends e n =
 
 pub is_answered : (s mid t : Dealing) (drive : ℕ) (command : List ℕ) (came : Option (List ℕ)) (component : Option ℕ)
     → mid ≡ heard s (Drive drive) came → component ≡ late mid.client command → t ≡ timed_out mid component →
-        t ≡ answered s drive command came
+    t ≡ answered s drive command came
 is_answered s mid t drive command came component h l e =
     e ∙ ap (λ (k : Option ℕ). timed_out mid k) l ∙ ap (λ (m : Dealing). timed_out m (late m.client command)) h
 
@@ -95,7 +95,7 @@ is_answered s mid t drive command came component h l e =
 -- a record answers the message, and the answer is awaited still
 pub loses_answer : (message came : List ℕ) (s t : Dealing) → is_answer_to message came ≡ true
     → Answered Server message s.told t.told s.faults t.faults (Some came) →
-        t ≡ on_links t.told t.faults (heard s Server (Some came))
+    t ≡ on_links t.told t.faults (heard s Server (Some came))
     → AwaitsStill t.client message → LosesServer message s t
 loses_answer message came s t answers told dealt still =
     let among : answer_among message (Some came) ≡ Some came = ap (λ (b : Bool). if b then Some came else None) answers in
@@ -113,17 +113,17 @@ pub turn_from : (u t : Dealing) (ms rest : List Sent) → ms ≡ u.waiting → r
     → InTurn Works u.waiting (record u { waiting = [] }) t
 turn_from u t ms rest e f h =
     subst (λ (ns : List Sent). InTurn Works ns (record u { waiting = [] }) t) e
-        (subst (λ (ns : List Sent). InTurn Works ms (record u { waiting = ns }) t) f h)
+    (subst (λ (ns : List Sent). InTurn Works ms (record u { waiting = ns }) t) f h)
 
 pub loses_from : (u t : Dealing) (ms rest : List Sent) → ms ≡ u.waiting → rest ≡ [] → LosesIn ms (record u { waiting = rest }) t
     → LosesIn u.waiting (record u { waiting = [] }) t
 loses_from u t ms rest e f h =
     subst (λ (ns : List Sent). LosesIn ns (record u { waiting = [] }) t) e
-        (subst (λ (ns : List Sent). LosesIn ms (record u { waiting = ns }) t) f h)
+    (subst (λ (ns : List Sent). LosesIn ms (record u { waiting = ns }) t) f h)
 
 pub all_worked : (rounds : ℕ) (s : Dealing) (client : Client) (waiting : List Sent) (notices : List Notice)
     (told : Option Traffic) (faults : Faults)
     → WorksRounds rounds s (dealing client waiting notices told faults) → waiting ≡ [] →
-        WorksAll s (dealing client [] notices told faults)
+    WorksAll s (dealing client [] notices told faults)
 all_worked rounds s client waiting notices told faults h e =
     (rounds, subst (λ (ws : List Sent). WorksRounds rounds s (dealing client ws notices told faults)) e h, refl)

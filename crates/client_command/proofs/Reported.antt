@@ -21,11 +21,11 @@ module _ (number n sequence : ℕ) (op o : CallOp) (kind : CallKind) (first noti
     (same_number : n ≡ number) (same_op : o ≡ op) (its_kind : kind ≡ kind_of o) (none : first ≡ []) (same : told ≡ notices) where
   pub is_ended : (next : ℕ) (r : Result Report Memory)
       → ((client : Client) ×
-          Calls o (dealing (new_client n sequence) [] first before.told before.faults)
-              (dealing client [] notices now.told now.faults)
+      Calls o (dealing (new_client n sequence) [] first before.told before.faults)
+      (dealing client [] notices now.told now.faults)
       × (next ≡ client.next))
       → IfOk r (λ report. IsSome (end_of told) ×
-          IsReport (lines_text (call_lines number kind told) ++ next_line next) (end_of told) report)
+      IsReport (lines_text (call_lines number kind told) ++ next_line next) (end_of told) report)
       → IfOk r (ReportsCall number sequence op before now)
   is_ended next (Err e) c report = tt
   is_ended next (Ok r) c report =
@@ -35,8 +35,8 @@ module _ (number n sequence : ℕ) (op o : CallOp) (kind : CallKind) (first noti
 
   pub is_lost : (r : Result Report Memory)
       → ((client : Client) ×
-          StopsCall o (dealing (new_client n sequence) [] first before.told before.faults) client notices now.told now.faults
-              Lost)
+      StopsCall o (dealing (new_client n sequence) [] first before.told before.faults) client notices now.told now.faults
+      Lost)
       → IfOk r (IsReport (lines_text (call_lines number kind told)) None)
       → IfOk r (ReportsCall number sequence op before now)
   is_lost (Err e) c report = tt

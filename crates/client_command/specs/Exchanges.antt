@@ -16,7 +16,7 @@ use Rattle.client_rules.specs.Envelopes.{bytes_of, on_bytes}
 use Rattle.client_rules.specs.Steps.{awaited_component, times_out}
 use Rattle.stripe_client.specs.declared.sending.Sent.{Sent}
 use Rattle.stripe_client.specs.Sending.{spelled}
-use Rattle.client_command.specs.Answers.{is_answer_to}
+use Rattle.reply_matching.specs.Answers.{is_answer_to}
 use Rattle.client_command.specs.declared.drive.TheConstants.{NONCE_AT, NONCE_END}
 use Rattle.client_command.specs.declared.notices.Notice.{Notice}
 use Rattle.client_command.specs.declared.notices.Notice.TheVariants.{Ended, TimedOut}

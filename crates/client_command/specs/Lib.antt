@@ -4,5 +4,4 @@ pub mod Calls
 pub mod Orders
 pub mod Reports
 pub mod Ends
-pub mod Answers
 pub mod Exchanges

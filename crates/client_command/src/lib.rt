@@ -5,7 +5,6 @@
 //! to the client ([`deal`]).
 #![tactic(auto)]
 
-mod answers;
 mod calls;
 mod command;
 mod drive;

@@ -3,12 +3,12 @@ ghost use Rattle.std.specs.Prelude.{◌≡◌, ◌↔◌, IfOk, IsTrue, IsErrOf,
 ghost use Rattle.client_command.specs.declared.exchanges.DealErr.TheVariants.{LinkFault};
 ghost use Rattle.client_command.specs.Exchanges.{AsksServer, AwaitsStill, IsRequest, LosesServer, dealing_at};
 
-use crate::answers::is_answer_to;
 use crate::drive::hear_reply;
 use crate::exchanges::DealErr;
 use crate::notices::Notices;
 use osd_bytes::{Links, asked};
 use osd_lists::{Memory, Node};
+use reply_matching::is_answer_to;
 use std::alloc::Global;
 use stripe_client::{ClientCore, Sends, Sent};
 

@@ -52,7 +52,7 @@ pub others_none : (xs : List Awaited) (a : Awaited) → AreApart xs → IsIn a x
 unfolding others
 others_none xs a x i =
     gone (λ (y : Awaited). not (y.command.nonce == a.command.nonce)) xs a
-        (rw (eq-eqb a.command.nonce a.command.nonce refl) refl) x i
+    (rw (eq-eqb a.command.nonce a.command.nonce refl) refl) x i
 
 -- ---- more commands
 

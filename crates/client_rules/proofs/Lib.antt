@@ -9,6 +9,7 @@ pub mod TakenMaps
 pub mod Apart
 pub mod ReadMoves
 pub mod HeldGrants
+pub mod OneWrite
 pub mod ReadSteps
 pub mod Others
 mod Opened

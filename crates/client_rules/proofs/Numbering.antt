@@ -149,7 +149,7 @@ on_commit_numbered : (h : Held) (op : CallOp) (a : Answer) (timed : List TimedOu
 unfolding on_commit
 on_commit_numbered h op a timed =
     either h (status_of a.results == NFS4_OK) (committed h op a timed) (turned h (not_committed (status_of a.results) a.detail))
-        (record { same = refl; counted = omega arith; nonces = refl }) (still h _)
+    (record { same = refl; counted = omega arith; nonces = refl }) (still h _)
 
 -- ---- numbers one after another
 

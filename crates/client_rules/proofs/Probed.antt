@@ -26,10 +26,10 @@ unfolding probe_each
 each_some h out p zero i lt there e = absurd (omega (arith, lt))
 each_some h out p (suc n) zero lt there e =
     let z : p + 0 ≡ p = omega arith in
-        probe_some h p (source h.map out p) (rw z at there) (front_none (probe_of h p (source h.map out p)) _ e)
+    probe_some h p (source h.map out p) (rw z at there) (front_none (probe_of h p (source h.map out p)) _ e)
 each_some h out p (suc n) (suc i) lt there e =
     let z : p + suc i ≡ p + 1 + i = omega arith in
-        each_some h out (p + 1) n i (omega (arith, lt)) (rw z at there) (rest_none (probe_of h p (source h.map out p)) _ e)
+    each_some h out (p + 1) n i (omega (arith, lt)) (rw z at there) (rest_none (probe_of h p (source h.map out p)) _ e)
 
 -- so an empty read that isn't lost asks something
 pub due_some : (h : Held) (out : List ℕ) (p : ℕ) → IsChecked h.map → is_probe_lost h.map out p ≡ false →
@@ -38,8 +38,8 @@ unfolding probes_due is_probe_lost positions_out
 due_some h out p ch kept e = elim (cases_Bool (is_out h.map out p)) [
   | inl gone ↦
       let few = below (parities h.map)
-          (length (out_from h.map out (p / group_width h.map * group_width h.map) (group_width h.map)))
-              (rw gone at kept) ch.some_data in
+      (length (out_from h.map out (p / group_width h.map * group_width h.map) (group_width h.map)))
+      (rw gone at kept) ch.some_data in
       let i = some_there h.map out (p / group_width h.map * group_width h.map) (group_width h.map) few in
       each_some h out (p / group_width h.map * group_width h.map) (group_width h.map) i.0 i.1 i.2 (rw gone at e)
   | inr there ↦ let z : p + 0 ≡ p = omega arith in each_some h out p 1 0 (omega arith) (rw z there) (rw there at e)

@@ -185,8 +185,12 @@ probes_on_good : (h : Held) (op : CallOp) (got : List Column) (timed : List Time
     GoodMoved h op (probes_on h got timed sent awaited) got
 unfolding probes_on
 probes_on_good h op got timed sent [] none n rs =
-    record { file = refl; map = refl; turn =
-        ends _ _ _ _ _ (n refl, outs h timed, nothing_answered h.map (clipped h.size (span_of op)) got (outs h timed) none) }
+    record {
+      file = refl;
+      map = refl;
+      turn =
+          ends _ _ _ _ _ (n refl, outs h timed, nothing_answered h.map (clipped h.size (span_of op)) got (outs h timed) none);
+    }
 probes_on_good h op got timed sent (a ∷ xs) none n rs = record { file = refl; map = refl; turn = goes _ _ _ _ _ (none, refl, rs) }
 
 probes_sent_good : (h : Held) (op : CallOp) (got : List Column) (timed : List TimedOut) (awaited : List Awaited) (p : ℕ) →
@@ -203,19 +207,19 @@ probes_sent_good h op got timed awaited p ch none rs kept =
 
 probes_by_good : (h : Held) (op : CallOp) (got : List Column) (timed : List TimedOut) (awaited : List Awaited) (o : Option ℕ) →
     IsChecked h.map → (clipped h.size (span_of op)).length ≡ 0 → AreReads awaited →
-        GoodMoved h op (probes_by h got timed awaited o) got
+    GoodMoved h op (probes_by h got timed awaited o) got
 probes_by_good h op got timed awaited None ch none rs = turned_good h op _ got (ends _ _ _ _ _ tt)
 probes_by_good h op got timed awaited (Some k) ch none rs =
     elim (cases_Bool (is_probe_lost h.map (outs h timed) (k / replicas h.map))) [
-  | inl gone ↦ rw gone
-      (turned_good h op (Ends (Lost (positions_out h.map (outs h timed) (k / replicas h.map / group_width h.map)))) got
-      (ends _ _ _ _ _ tt))
-  | inr kept ↦ rw kept (probes_sent_good h op got timed awaited (k / replicas h.map) ch none rs kept)
-]
+      | inl gone ↦ rw gone
+          (turned_good h op (Ends (Lost (positions_out h.map (outs h timed) (k / replicas h.map / group_width h.map)))) got
+          (ends _ _ _ _ _ tt))
+      | inr kept ↦ rw kept (probes_sent_good h op got timed awaited (k / replicas h.map) ch none rs kept)
+    ]
 
 probes_good : (h : Held) (op : CallOp) (got : List Column) (timed : List TimedOut) (awaited : List Awaited) →
     IsChecked h.map → (clipped h.size (span_of op)).length ≡ 0 → AreReads awaited →
-        GoodMoved h op (probes h got timed awaited) got
+    GoodMoved h op (probes h got timed awaited) got
 unfolding probes
 probes_good h op got timed awaited ch none rs = probes_by_good h op got timed awaited _ ch none rs
 
@@ -274,15 +278,15 @@ read_good : (h : Held) (op : CallOp) (io : Io) (a : Awaited) (r : Reply) (got : 
     GoodMoved h op (performed h op (Reads io) a r) (got ++ got_of a r ∷ [])
 read_good h op io a r got g =
     rw (sym g.1)
-        (reads_on_good h op (io.got ++ got_of a r ∷ []) io.timed [] _ g.0 (λ e. grown (got_of a r) io.got)
-        (others_read io.awaited a.command.nonce g.2))
+    (reads_on_good h op (io.got ++ got_of a r ∷ []) io.timed [] _ g.0 (λ e. grown (got_of a r) io.got)
+    (others_read io.awaited a.command.nonce g.2))
 
 probe_good : (h : Held) (op : CallOp) (io : Io) (a : Awaited) (r : Reply) (got : List Column) → GoodPhase h op (Probes io) got →
     GoodMoved h op (performed h op (Probes io) a r) (got ++ got_of a r ∷ [])
 probe_good h op io a r got g =
     rw (sym g.1)
-        (probes_on_good h op (io.got ++ got_of a r ∷ []) io.timed [] _ g.0 (λ e. grown (got_of a r) io.got)
-        (others_read io.awaited a.command.nonce g.2))
+    (probes_on_good h op (io.got ++ got_of a r ∷ []) io.timed [] _ g.0 (λ e. grown (got_of a r) io.got)
+    (others_read io.awaited a.command.nonce g.2))
 
 pub replied_good : (h : Held) (op : CallOp) (p : Phase) (a : Awaited) (r : Reply) (got : List Column) → GoodPhase h op p got →
     IsIn a (awaited_in p) →
@@ -304,8 +308,8 @@ replied_good h op (Gathers io) a r got g i =
     either h op _ _ _ _ (gathers_on_good h op _ io.timed [] _ _) (refused_good h op (Gathers io) a r _)
 replied_good h op (Scatters io queue) a r got g i =
     either h op _ _ _ _
-        (scatters_next_good h op io.timed queue _ _ _ (others_apart io.awaited a.command.nonce g) (others_none io.awaited a g i))
-        (refused_good h op (Scatters io queue) a r _)
+    (scatters_next_good h op io.timed queue _ _ _ (others_apart io.awaited a.command.nonce g) (others_none io.awaited a g i))
+    (refused_good h op (Scatters io queue) a r _)
 replied_good h op Starts a r got g i = absurd i
 replied_good h op (Needs need) a r got g i = absurd i
 replied_good h op (Waits need) a r got g i = absurd i
@@ -317,14 +321,14 @@ gather_timed_good : (h : Held) (op : CallOp) (io : Io) (k : ℕ) (timed : List T
 unfolding gather_timed
 gather_timed_good h op io k timed got =
     either h op got (is_too_short h op timed) (ended h (Silent k)) (gathers h op io.got timed (not_of k io.awaited))
-        (turned_good h op _ got (ends _ _ _ _ _ tt)) (gathers_good h op io.got timed _ got)
+    (turned_good h op _ got (ends _ _ _ _ _ tt)) (gathers_good h op io.got timed _ got)
 
 scatter_timed_good : (h : Held) (op : CallOp) (io : Io) (queue : List Store) (k : ℕ) (timed : List TimedOut) (got : List Column) →
     AreApart io.awaited → GoodMoved h op (scatter_timed h op io queue k timed) got
 unfolding scatter_timed
 scatter_timed_good h op io queue k timed got x =
     either h op got (is_too_short h op timed) (turned h (closing (Silent k) (report_of h timed)))
-        (scatters_on h op timed (without_component k queue) [] (not_of k io.awaited))
+    (scatters_on h op timed (without_component k queue) [] (not_of k io.awaited))
     (turned_good h op _ got (goes _ _ _ _ _ tt)) (scatters_on_good h op timed _ [] _ got (rest_apart k io.awaited x))
 
 pub timed_good : (h : Held) (op : CallOp) (p : Phase) (k : ℕ) (a : Awaited) (xs : List Awaited) (got : List Column) →
@@ -360,6 +364,6 @@ pub on_commit_good : (h : Held) (op : CallOp) (a : Answer) (timed : List TimedOu
 unfolding on_commit
 on_commit_good h op a timed got =
     either h op got (status_of a.results == NFS4_OK) (committed h op a timed)
-        (turned h (not_committed (status_of a.results) a.detail))
+    (turned h (not_committed (status_of a.results) a.detail))
     (record { file = refl; map = refl; turn = accounted_good _ _ op timed got })
     (turned_good h op _ got (not_committed_good _ _ op _ _ got))

@@ -21,7 +21,7 @@ use Rattle.client_rules.specs.Messages.{Message, Replies, Answers, Recalls, Step
 use Rattle.client_rules.specs.Steps.{timeout_under, timeout_call, times_out, is_bad_range, is_spent, writes_nothing, starts, calls, all_due, leaves, new_client}
 use Rattle.client_rules.specs.Writes.{lowest}
 use Rattle.client_rules.specs.History.{Input, Calls, Hears, TimesOut, Leaves, Resends, unless_refused, step, state_after}
-use Rattle.client_rules.specs.Laws.{with_reply, kept_by, read_after, read_by, IsAnswer, ReadsTookReplies, AreApart, WritesApart, CallApart, OneWriteEach}
+use Rattle.client_rules.specs.Laws.{with_reply, kept_by, read_after, read_by, IsAnswer, ReadsTookReplies, AreApart}
 use Rattle.client_rules.proofs.TakenMaps.{taken_checked}
 use Rattle.client_rules.proofs.Apart.{IsIn}
 use Rattle.client_rules.proofs.ReadMoves.{found_in, FitsOutcome, AnswersNone, weaker, GoodNeed, GoodPhase, Follows, GoodTurn, GoodMoved, replied_good, timed_good, begins_good, on_commit_good}
@@ -30,7 +30,7 @@ use Rattle.client_rules.proofs.HeldGrants.{AreChecked, put_checked, without_chec
 -- ---- a client between steps
 
 -- a phase that reads has its grant
-abbrev GoodAt : List Held → CallOp → Phase → List Column → Type 0
+abbrev pub GoodAt : List Held → CallOp → Phase → List Column → Type 0
 GoodAt hs op Starts got = got ≡ []
 GoodAt hs op (Needs n) got = GoodNeed n got
 GoodAt hs op (Waits n) got = GoodNeed n got
@@ -39,7 +39,7 @@ GoodAt hs op (Probes io) got = (h : Held) × (held_of hs (file_of op) ≡ Some h
 GoodAt hs op (Gathers io) got = Unit {0}
 GoodAt hs op (Scatters io queue) got = AreApart io.awaited
 
-abbrev GoodCall : List Held → Option Call → List Column → Type 0
+abbrev pub GoodCall : List Held → Option Call → List Column → Type 0
 GoodCall hs None got = Unit {0}
 GoodCall hs (Some call) got = GoodAt hs call.op call.phase got
 
@@ -89,27 +89,31 @@ in_phase hs op (Scatters io queue) got h e x = x
 by_turn_good : (Fit : List ℕ → Type 0) (d : Done) (op : CallOp) (h k : Held) (got : List Column) (t : Turn) →
     AreChecked d.client.held →
     held_of d.client.held (file_of op) ≡ Some k → GoodTurn h k op t got →
-        ((bytes : List ℕ) → Follows h op got bytes → Fit bytes) → Fits Fit d.outcome → GoodDone Fit (by_turn d op t) got
+    ((bytes : List ℕ) → Follows h op got bytes → Fit bytes) → Fits Fit d.outcome → GoodDone Fit (by_turn d op t) got
 unfolding GoodTurn
 by_turn_good Fit d op h k got (Goes p) x e g f o =
     record { checked = x; call = at_phase d.client.held op p got k e g; outcome = o }
 by_turn_good Fit d op h k got (Ends u) x e g f o =
     record { checked = x; call = tt; outcome = weaker (Follows h op got) Fit f u g }
 by_turn_good Fit d op h k got (Forgets u) x e g f o =
-    record { checked = without_checked d.client.held (file_of op) x; call = tt; outcome =
-    weaker (λ bytes. ⊥) Fit (λ bytes. λ z. absurd z) u g }
+    record {
+      checked = without_checked d.client.held (file_of op) x;
+      call = tt;
+      outcome =
+          weaker (λ bytes. ⊥) Fit (λ bytes. λ z. absurd z) u g;
+    }
 
 moved_good : (Fit : List ℕ → Type 0) (d : Done) (op : CallOp) (h : Held) (m : Moved) (got : List Column) →
     AreChecked d.client.held →
     held_of d.client.held (file_of op) ≡ Some h → GoodMoved h op m got → ((bytes : List ℕ) → Follows h op got bytes → Fit bytes) →
-        Fits Fit d.outcome → GoodDone Fit (moved d op m) got
+    Fits Fit d.outcome → GoodDone Fit (moved d op m) got
 moved_good Fit d op h m got x e g f o =
     let ch : IsChecked h.map = held_checked d.client.held (file_of op) h x e in
     let there : m.held.file ≡ file_of op = g.file ∙ held_file d.client.held (file_of op) h e in
     let found : held_of (put_held d.client.held m.held) (file_of op) ≡ Some m.held =
-        put_at d.client.held m.held (file_of op) there in
+    put_at d.client.held m.held (file_of op) there in
     by_turn_good Fit (record (with_held d m.held) { commands = m.sent }) op h m.held got m.turn
-        (put_checked d.client.held m.held x (rw (sym g.map) at ch)) found g.turn f o
+    (put_checked d.client.held m.held x (rw (sym g.map) at ch)) found g.turn f o
 
 -- ---- what follows in a step
 
@@ -124,7 +128,7 @@ starts_under_good Fit d op None e g = starts_with_good Fit d op (Get 0) _ [] g r
 starts_under_good Fit d op (Some h) e g =
     either_done Fit [] (covers h op) (moved d op (begins h op)) (starts_with d op First d.client.outstanding)
     (moved_good Fit d op h (begins h op) [] g.checked e (begins_good h op (held_checked d.client.held (file_of op) h g.checked e))
-        (λ bytes. λ x. absurd (x.0 refl)) g.outcome)
+    (λ bytes. λ x. absurd (x.0 refl)) g.outcome)
     (starts_with_good Fit d op First _ [] g refl)
 
 starts_at_good : (Fit : List ℕ → Type 0) (d : Done) (op : CallOp) (p : Phase) (got : List Column) →
@@ -159,8 +163,12 @@ returns_good : (Fit : List ℕ → Type 0) (d : Done) (o : Option Due) (got : Li
 unfolding requests
 returns_good Fit d None got e g = record { checked = g.checked; call = g.call; outcome = g.outcome }
 returns_good Fit d (Some u) got e g =
-    record { checked = after_checked d.client.held u.file (return_args u.number []) g.checked; call = rw e tt; outcome =
-    g.outcome }
+    record {
+      checked = after_checked d.client.held u.file (return_args u.number []) g.checked;
+      call = rw e tt;
+      outcome =
+          g.outcome;
+    }
 
 returns_due_good : (Fit : List ℕ → Type 0) (d : Done) (got : List Column) → d.client.call ≡ None → GoodDone Fit d got →
     GoodDone Fit (returns_due d) got
@@ -250,7 +258,7 @@ not_granted_good : (Fit : List ℕ → Type 0) (d : Done) (op : CallOp) (a : Ans
 unfolding not_granted
 not_granted_good Fit d op a tries got e g =
     turn_good Fit d op (refused_with (status_of a.results) a.detail tries) got e
-        (refused_with_refuses (status_of a.results) a.detail tries) g
+    (refused_with_refuses (status_of a.results) a.detail tries) g
 
 answered_get_good : (Fit : List ℕ → Type 0) (d : Done) (op : CallOp) (r : Result Held Why) (got : List Column) →
     ((h : Held) → r ≡ Ok h → IsChecked h.map) → got ≡ [] → GoodDone Fit d got → GoodDone Fit (answered_get d op r) got
@@ -274,9 +282,9 @@ commit_under_good : (Fit : List ℕ → Type 0) (d : Done) (op : CallOp) (a : An
 commit_under_good Fit d op a timed None got e g = g
 commit_under_good Fit d op a timed (Some h) got e g =
     let x = moved_good Fit d op h (on_commit h op a timed) [] g.checked e (on_commit_good h op a timed [])
-        (λ bytes. λ z. absurd (z.0 refl)) g.outcome in
+    (λ bytes. λ z. absurd (z.0 refl)) g.outcome in
     let y = moved_good (λ bytes. Unit {0}) d op h (on_commit h op a timed) got g.checked e (on_commit_good h op a timed got)
-        (λ bytes. λ z. tt) (any_fits d.outcome) in
+    (λ bytes. λ z. tt) (any_fits d.outcome) in
     record { checked = x.checked; call = y.call; outcome = x.outcome }
 
 on_need_good : (Fit : List ℕ → Type 0) (d : Done) (op : CallOp) (n : Need) (a : Answer) (got : List Column) → GoodNeed n got →
@@ -336,8 +344,8 @@ answer_of c call h got bytes p e ch f =
 reply_under_good : (c : Client) (call : Call) (a : Awaited) (r : Reply) (o : Option Held) (got : List Column) →
     c.call ≡ Some call → held_of c.held (file_of call.op) ≡ o → AreChecked c.held →
     GoodAt c.held call.op call.phase got → IsIn a (awaited_in call.phase) →
-        GoodDone (IsAnswer c (with_reply got (Some (TakesReply a r)))) (reply_under c call a r o)
-            (with_reply got (Some (TakesReply a r)))
+    GoodDone (IsAnswer c (with_reply got (Some (TakesReply a r)))) (reply_under c call a r o)
+    (with_reply got (Some (TakesReply a r)))
 reply_under_good c call a r None got p e x w i =
     quiet_good _ c _ x (rw p (without_grant c.held call.op call.phase a got (with_reply got (Some (TakesReply a r))) e i w))
 reply_under_good c call a r (Some h) got p e x w i =
@@ -388,8 +396,8 @@ by_taken_good : (c : Client) (t : Option Taken) (got : List Column) → IsGood c
 by_taken_good c None got g f = still_good _ c got g
 by_taken_good c (Some (TakesAnswer a)) got g f =
     finished_good _ _ got
-        (on_call_good _ (quiet (record c { outstanding = None })) c.call a got g.call
-        (quiet_good _ (record c { outstanding = None }) got g.checked g.call))
+    (on_call_good _ (quiet (record c { outstanding = None })) c.call a got g.call
+    (quiet_good _ (record c { outstanding = None }) got g.checked g.call))
 by_taken_good c (Some (TakesReply a r)) got g f = finished_good _ _ _ (reply_call_good c a r c.call got refl g.checked g.call f)
 by_taken_good c (Some (TakesRecall r)) got g f = finished_good _ _ got (recalled_good _ c r _ got g)
 
@@ -401,7 +409,7 @@ timeout_under_good : (c : Client) (call : Call) (k : ℕ) (o : Option Held) (xs 
 timeout_under_good c call k (Some h) (a ∷ xs) got p e g w =
     finished_good _ _ got (moved_good _ (quiet c) call.op h (timed_out h call.op call.phase k a xs) got g.checked e
     (timed_good h call.op call.phase k a xs got (held_checked c.held (file_of call.op) h g.checked e)
-        (in_phase c.held call.op call.phase got h e w))
+    (in_phase c.held call.op call.phase got h e w))
     (λ bytes f. answer_of c call h got bytes p e (held_checked c.held (file_of call.op) h g.checked e) f) tt)
 timeout_under_good c call k None xs got p e g w = still_good _ c got g
 timeout_under_good c call k (Some h) [] got p e g w = still_good _ c got g
@@ -416,8 +424,8 @@ timeout_call_good c k (Some call) got p g w = timeout_under_good c call k _ _ go
 -- a call may begin only where none is pending, and then nothing was read
 starts_good : (Fit : List ℕ → Type 0) (c : Client) (op : CallOp) (b : Bool) → AreChecked c.held → IsGood c [] →
     GoodStep Fit
-        (if b then record (still c) { outcome = Some (WriteOk 0) } else finished
-        (quiet (record c { call = Some (record { op = op; phase = Starts }) }))) []
+    (if b then record (still c) { outcome = Some (WriteOk 0) } else finished
+    (quiet (record c { call = Some (record { op = op; phase = Starts }) }))) []
 starts_good Fit c op true x g = record { client = g; outcome = tt }
 starts_good Fit c op false x g =
     finished_good Fit _ [] (quiet_good Fit (record c { call = Some (record { op = op; phase = Starts }) }) [] x refl)
@@ -440,7 +448,7 @@ calls_good : (Fit : List ℕ → Type 0) (c : Client) (op : CallOp) (got : List 
 unfolding calls
 calls_good Fit c op got g =
     refuses Fit c (kept_by c.call got) (is_some c.call) (is_bad_range (span_of op)) (is_spent c.next) Busy BadRange SlotSpent
-        (starts c op) g
+    (starts c op) g
     (λ e. let z = none_pending c.call got e in rw z (starts_good Fit c op (writes_nothing op) g.checked (rw z at g)))
 
 -- ---- any step
@@ -455,7 +463,7 @@ unfolding hears times_out leaves
 step_good c got (Calls op) g = calls_good _ c op got (record { checked = g.checked; call = kept_good c.held c.call got g.call })
 step_good c got (Hears from m) g =
     by_taken_good c (takes c from m) (kept_by c.call got)
-        (record { checked = g.checked; call = kept_good c.held c.call got g.call }) (takes_fair c from m)
+    (record { checked = g.checked; call = kept_good c.held c.call got g.call }) (takes_fair c from m)
 step_good c got (TimesOut k) g =
     let w = kept_good c.held c.call got g.call in
     timeout_call_good c k c.call (kept_by c.call got) refl (record { checked = g.checked; call = w }) w
@@ -464,7 +472,7 @@ step_good c got Leaves g =
 step_good c got Resends g =
     record { client = record { checked = g.checked; call = kept_good c.held c.call got g.call }; outcome = tt }
 
-all_good : (c : Client) (got : List Column) (is : List Input) → IsGood c got → IsGood (state_after c is) (read_by c got is)
+pub all_good : (c : Client) (got : List Column) (is : List Input) → IsGood c got → IsGood (state_after c is) (read_by c got is)
 all_good c got [] g = g
 all_good c got (i ∷ is) g = all_good (step c i).client (read_after c got i) is (step_good c got i g).client
 
@@ -477,19 +485,3 @@ reads_took_replies = λ number sequence is i bytes e.
     let got : List Column = read_by (new_client number sequence) [] is in
     let g : IsGood c got = all_good (new_client number sequence) [] is (record { checked = tt; call = tt }) in
     fits_answer (IsAnswer c (read_after c got i)) (step c i).outcome bytes e (step_good c got i g).outcome
-
--- ---- one WRITE at a time
-
-phase_apart : (hs : List Held) (op : CallOp) (p : Phase) (got : List Column) → GoodAt hs op p got → WritesApart p
-phase_apart hs op (Scatters io queue) got x = x
-phase_apart hs op p got x = tt
-
-call_apart : (hs : List Held) (o : Option Call) (got : List Column) → GoodCall hs o got → CallApart o
-call_apart hs None got x = tt
-call_apart hs (Some call) got x = phase_apart hs call.op call.phase got x
-
-pub one_write_each : OneWriteEach
-one_write_each = λ number sequence is.
-    call_apart (state_after (new_client number sequence) is).held (state_after (new_client number sequence) is).call
-    (read_by (new_client number sequence) [] is)
-        (all_good (new_client number sequence) [] is (record { checked = tt; call = tt })).call

@@ -47,7 +47,7 @@ abbrev events : List Event
 events =
     refused_for 1 (gives_bodies first_grant []) Unreadable
     ++ refused_for 2
-        (gives_bodies first_grant (layout_item (layout_of first_grant) ∷ layout_item (layout_of first_grant) ∷ [])) Unreadable
+    (gives_bodies first_grant (layout_item (layout_of first_grant) ∷ layout_item (layout_of first_grant) ∷ [])) Unreadable
     ++ refused_for 3 (gives_bodies first_grant ((0 ∷ []) ∷ [])) Unreadable
     ++ refused_for 4 committed Unreadable
     ++ refused_for 5 (gives_layout (record first_grant { writes = false })) Unreadable

@@ -10,8 +10,15 @@ use Rattle.client_rules.proofs.RowsGrants.{rotating}
 
 abbrev first_grant : Given
 first_grant =
-    record { number = 2; writes = false; offset = 0; len = 8; map = rotating; components =
-    Usable 0 65536 0 4 ∷ Usable 1 65537 0 4 ∷ Usable 2 65538 0 4 ∷ [] }
+    record {
+      number = 2;
+      writes = false;
+      offset = 0;
+      len = 8;
+      map = rotating;
+      components =
+          Usable 0 65536 0 4 ∷ Usable 1 65537 0 4 ∷ Usable 2 65538 0 4 ∷ [];
+    }
 
 abbrev events : List Event
 events =

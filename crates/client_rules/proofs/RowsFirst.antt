@@ -9,16 +9,30 @@ use Rattle.client_rules.proofs.RowsGrants.{rotating, striping}
 
 abbrev first_grant : Given
 first_grant =
-    record { number = 1; writes = false; offset = 0; len = 8; map = rotating; components =
-    Usable 0 65536 0 4 ∷ Usable 1 65537 0 4 ∷ Usable 2 65538 0 4 ∷ [] }
+    record {
+      number = 1;
+      writes = false;
+      offset = 0;
+      len = 8;
+      map = rotating;
+      components =
+          Usable 0 65536 0 4 ∷ Usable 1 65537 0 4 ∷ Usable 2 65538 0 4 ∷ [];
+    }
 
 abbrev second_grant : Given
 second_grant = record { number = 2; writes = true; offset = 0; len = 4; map = striping; components = Usable 0 65539 0 4 ∷ [] }
 
 abbrev third_grant : Given
 third_grant =
-    record { number = 3; writes = true; offset = 0; len = 8; map = rotating; components =
-    Usable 0 65536 0 4 ∷ Usable 1 65537 0 4 ∷ Usable 2 65538 0 4 ∷ [] }
+    record {
+      number = 3;
+      writes = true;
+      offset = 0;
+      len = 8;
+      map = rotating;
+      components =
+          Usable 0 65536 0 4 ∷ Usable 1 65537 0 4 ∷ Usable 2 65538 0 4 ∷ [];
+    }
 
 abbrev events : List Event
 events =

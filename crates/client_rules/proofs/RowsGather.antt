@@ -12,8 +12,8 @@ abbrev events : List Event
 events =
     on (Calls (Write 0 0 (1 ∷ 2 ∷ 3 ∷ 4 ∷ 5 ∷ 6 ∷ 7 ∷ 8 ∷ []))) TheServer (asks_to_write 1 0 0 8 ∷ []) ∷
     on (answers 1 0 0 0 (gives_layout rotating_grant)) (ADrive 0)
-        (writes rotating_grant 0 1 0 (1 ∷ 2 ∷ 3 ∷ 4 ∷ []) ∷ writes rotating_grant 1 2 0
-        (5 ∷ 6 ∷ 7 ∷ 8 ∷ []) ∷ writes rotating_grant 2 3 0 (4 ∷ 4 ∷ 4 ∷ 12 ∷ []) ∷ []) ∷
+    (writes rotating_grant 0 1 0 (1 ∷ 2 ∷ 3 ∷ 4 ∷ []) ∷ writes rotating_grant 1 2 0
+    (5 ∷ 6 ∷ 7 ∷ 8 ∷ []) ∷ writes rotating_grant 2 3 0 (4 ∷ 4 ∷ 4 ∷ 12 ∷ []) ∷ []) ∷
     on (has_written rotating_grant 0 1) (ADrive 1) [] ∷
     on (has_written rotating_grant 1 2) (ADrive 2) [] ∷
     on (has_written rotating_grant 2 3) TheServer (commits 2 0 1 0 8 ∷ []) ∷
@@ -21,7 +21,7 @@ events =
     on (Calls (Write 0 0 (255 ∷ []))) (ADrive 0) (reads rotating_grant 0 4 0 1 ∷ reads rotating_grant 2 5 0 1 ∷ []) ∷
     on (has_read rotating_grant 0 4 (1 ∷ [])) (ADrive 2) [] ∷
     on (has_read rotating_grant 2 5 (4 ∷ [])) (ADrive 0)
-        (writes rotating_grant 0 6 0 (255 ∷ []) ∷ writes rotating_grant 2 7 0 (250 ∷ []) ∷ []) ∷
+    (writes rotating_grant 0 6 0 (255 ∷ []) ∷ writes rotating_grant 2 7 0 (250 ∷ []) ∷ []) ∷
     on (has_written rotating_grant 0 6) (ADrive 2) [] ∷
     ends (has_written rotating_grant 2 7) (WriteOk 1) Nothing [] ∷
     []

@@ -11,21 +11,21 @@ abbrev events : List Event
 events =
     on (Calls (Write 0 0 (1 ∷ 2 ∷ 3 ∷ 4 ∷ 5 ∷ 6 ∷ 7 ∷ 8 ∷ []))) TheServer (asks_to_write 1 0 0 8 ∷ []) ∷
     on (answers 1 0 0 0 (gives_layout rotating_grant)) (ADrive 0)
-        (writes rotating_grant 0 1 0 (1 ∷ 2 ∷ 3 ∷ 4 ∷ []) ∷ writes rotating_grant 1 2 0
-        (5 ∷ 6 ∷ 7 ∷ 8 ∷ []) ∷ writes rotating_grant 2 3 0 (4 ∷ 4 ∷ 4 ∷ 12 ∷ []) ∷ []) ∷
+    (writes rotating_grant 0 1 0 (1 ∷ 2 ∷ 3 ∷ 4 ∷ []) ∷ writes rotating_grant 1 2 0
+    (5 ∷ 6 ∷ 7 ∷ 8 ∷ []) ∷ writes rotating_grant 2 3 0 (4 ∷ 4 ∷ 4 ∷ 12 ∷ []) ∷ []) ∷
     on (has_written rotating_grant 0 1) (ADrive 1) [] ∷
     on (has_written rotating_grant 1 2) (ADrive 2) [] ∷
     on (has_written rotating_grant 2 3) TheServer (commits 2 0 1 0 8 ∷ []) ∷
     ends (answers 2 0 0 8 committed) (WriteOk 8) Nothing [] ∷
     on (Calls (Write 0 3 (170 ∷ 187 ∷ []))) (ADrive 0)
-        (reads rotating_grant 0 4 3 1 ∷ reads rotating_grant 1 5 0 1 ∷ reads rotating_grant 2 6 0 1 ∷ reads rotating_grant 2 7 3 1
-        ∷ []) ∷
+    (reads rotating_grant 0 4 3 1 ∷ reads rotating_grant 1 5 0 1 ∷ reads rotating_grant 2 6 0 1 ∷ reads rotating_grant 2 7 3 1
+    ∷ []) ∷
     on (has_read rotating_grant 0 4 (4 ∷ [])) (ADrive 1) [] ∷
     on (has_read rotating_grant 1 5 (5 ∷ [])) (ADrive 2) [] ∷
     on (has_read rotating_grant 2 6 (4 ∷ [])) (ADrive 2) [] ∷
     on (has_read rotating_grant 2 7 (12 ∷ [])) (ADrive 0)
-        (writes rotating_grant 0 8 3 (170 ∷ []) ∷ writes rotating_grant 1 9 0 (187 ∷ []) ∷ writes rotating_grant 2 10 0
-        (186 ∷ []) ∷ []) ∷
+    (writes rotating_grant 0 8 3 (170 ∷ []) ∷ writes rotating_grant 1 9 0 (187 ∷ []) ∷ writes rotating_grant 2 10 0
+    (186 ∷ []) ∷ []) ∷
     on (has_written rotating_grant 0 8) (ADrive 1) [] ∷
     on (has_written rotating_grant 1 9) (ADrive 2) [] ∷
     on (has_written rotating_grant 2 10) (ADrive 2) (writes rotating_grant 2 11 3 (162 ∷ []) ∷ []) ∷

@@ -12,10 +12,10 @@ events =
     on (Calls (Write 0 0 (1 ∷ []))) TheServer (asks_to_write 1 0 0 1 ∷ []) ∷
     refuses (Calls (Read 0 0 1)) Busy TheServer ∷
     on (answers 1 0 0 0 (gives_layout rotating_grant)) (ADrive 0)
-        (reads rotating_grant 0 1 0 1 ∷ reads rotating_grant 2 2 0 1 ∷ []) ∷
+    (reads rotating_grant 0 1 0 1 ∷ reads rotating_grant 2 2 0 1 ∷ []) ∷
     on (has_read rotating_grant 0 1 []) (ADrive 2) [] ∷
     on (has_read rotating_grant 2 2 []) (ADrive 0)
-        (writes rotating_grant 0 3 0 (1 ∷ []) ∷ writes rotating_grant 2 4 0 (1 ∷ []) ∷ []) ∷
+    (writes rotating_grant 0 3 0 (1 ∷ []) ∷ writes rotating_grant 2 4 0 (1 ∷ []) ∷ []) ∷
     on (has_written rotating_grant 0 3) (ADrive 2) [] ∷
     on (has_written rotating_grant 2 4) TheServer (commits 2 0 1 0 1 ∷ []) ∷
     ends (answers 2 0 0 1 committed) (WriteOk 1) Nothing [] ∷

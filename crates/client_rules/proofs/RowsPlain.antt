@@ -12,27 +12,34 @@ striping = record { comps = 3; unit = 4; width = 0; depth = 0; mirrors = 0; algo
 
 abbrev first_grant : Given
 first_grant =
-    record { number = 1; writes = true; offset = 0; len = 24; map = striping; components =
-    Usable 0 65536 0 8 ∷ Usable 1 65537 0 8 ∷ Usable 2 65538 0 8 ∷ [] }
+    record {
+      number = 1;
+      writes = true;
+      offset = 0;
+      len = 24;
+      map = striping;
+      components =
+          Usable 0 65536 0 8 ∷ Usable 1 65537 0 8 ∷ Usable 2 65538 0 8 ∷ [];
+    }
 
 abbrev events : List Event
 events =
     on (Calls (Write 0 3 (97 ∷ 98 ∷ 99 ∷ 100 ∷ 101 ∷ 102 ∷ 103 ∷ 104 ∷ 105 ∷ 106 ∷ []))) TheServer (asks_to_write 1 0 3 10 ∷ []) ∷
     on (answers 1 0 0 0 (gives_layout first_grant)) (ADrive 0)
-        (writes first_grant 0 1 3 (97 ∷ []) ∷ writes first_grant 1 2 0 (98 ∷ 99 ∷ 100 ∷ 101 ∷ []) ∷ writes first_grant 2 3 0
-        (102 ∷ 103 ∷ 104 ∷ 105 ∷ []) ∷ []) ∷
+    (writes first_grant 0 1 3 (97 ∷ []) ∷ writes first_grant 1 2 0 (98 ∷ 99 ∷ 100 ∷ 101 ∷ []) ∷ writes first_grant 2 3 0
+    (102 ∷ 103 ∷ 104 ∷ 105 ∷ []) ∷ []) ∷
     on (has_written first_grant 0 1) (ADrive 0) (writes first_grant 0 4 4 (106 ∷ []) ∷ []) ∷
     on (has_written first_grant 1 2) (ADrive 0) [] ∷
     on (has_written first_grant 2 3) (ADrive 0) [] ∷
     on (has_written first_grant 0 4) TheServer (commits 2 0 1 3 10 ∷ []) ∷
     ends (answers 2 0 0 13 committed) (WriteOk 10) Nothing [] ∷
     on (Calls (Read 0 0 20)) (ADrive 0)
-        (reads first_grant 0 5 0 4 ∷ reads first_grant 1 6 0 4 ∷ reads first_grant 2 7 0 4 ∷ reads first_grant 0 8 4 1 ∷ []) ∷
+    (reads first_grant 0 5 0 4 ∷ reads first_grant 1 6 0 4 ∷ reads first_grant 2 7 0 4 ∷ reads first_grant 0 8 4 1 ∷ []) ∷
     on (has_read first_grant 0 5 (0 ∷ 0 ∷ 0 ∷ 97 ∷ [])) (ADrive 0) [] ∷
     on (has_read first_grant 1 6 (98 ∷ 99 ∷ 100 ∷ 101 ∷ [])) (ADrive 0) [] ∷
     on (has_read first_grant 2 7 (102 ∷ 103 ∷ 104 ∷ 105 ∷ [])) (ADrive 0) [] ∷
     ends (has_read first_grant 0 8 (106 ∷ []))
-        (ReadOk (0 ∷ 0 ∷ 0 ∷ 97 ∷ 98 ∷ 99 ∷ 100 ∷ 101 ∷ 102 ∷ 103 ∷ 104 ∷ 105 ∷ 106 ∷ [])) Nothing [] ∷
+    (ReadOk (0 ∷ 0 ∷ 0 ∷ 97 ∷ 98 ∷ 99 ∷ 100 ∷ 101 ∷ 102 ∷ 103 ∷ 104 ∷ 105 ∷ 106 ∷ [])) Nothing [] ∷
     on (Calls (Read 0 0 0)) (ADrive 0) (reads first_grant 0 9 0 0 ∷ []) ∷
     ends (has_read first_grant 0 9 []) (ReadOk []) Nothing [] ∷
     on (Calls (Read 0 13 5)) (ADrive 0) (reads first_grant 0 10 0 0 ∷ []) ∷

@@ -9,8 +9,15 @@ use Rattle.client_rules.proofs.RowsGrants.{rotating}
 
 abbrev first_grant : Given
 first_grant =
-    record { number = 1; writes = true; offset = 0; len = 8; map = rotating; components =
-    Usable 0 65536 0 4 ∷ Missing 1 65537 ∷ Usable 2 65538 0 4 ∷ [] }
+    record {
+      number = 1;
+      writes = true;
+      offset = 0;
+      len = 8;
+      map = rotating;
+      components =
+          Usable 0 65536 0 4 ∷ Missing 1 65537 ∷ Usable 2 65538 0 4 ∷ [];
+    }
 
 abbrev events : List Event
 events =
@@ -18,7 +25,7 @@ events =
     on (answers 1 0 0 8 (gives_layout first_grant)) (ADrive 0) (reads first_grant 0 1 0 1 ∷ reads first_grant 2 2 0 1 ∷ []) ∷
     on (has_read first_grant 0 1 (1 ∷ [])) (ADrive 2) [] ∷
     on (has_read first_grant 2 2 (4 ∷ [])) (ADrive 0)
-        (writes first_grant 0 3 0 (255 ∷ []) ∷ writes first_grant 2 4 0 (250 ∷ []) ∷ []) ∷
+    (writes first_grant 0 3 0 (255 ∷ []) ∷ writes first_grant 2 4 0 (250 ∷ []) ∷ []) ∷
     on (has_written first_grant 0 3) (ADrive 2) [] ∷
     ends (has_written first_grant 2 4) (WriteOk 1) Nothing [] ∷
     on (Calls (Write 0 4 (9 ∷ []))) (ADrive 0) (reads first_grant 0 5 0 1 ∷ reads first_grant 2 6 0 1 ∷ []) ∷

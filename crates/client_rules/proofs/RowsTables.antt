@@ -17,7 +17,7 @@ use Rattle.client_rules.proofs.RowsGrants.{striping}
 
 pub errors : map errno_of (0 ∷ 1 ∷ 2 ∷ 3 ∷ 4 ∷ 5 ∷ 6 ∷ 7 ∷ 8 ∷ 9 ∷ 10 ∷ 11 ∷ 12 ∷ 13 ∷ 14 ∷ 15 ∷ 16 ∷ 17 ∷ []) ≡
     Eio ∷ BadCred ∷ BadCred ∷ NoAccess ∷ NoAccess ∷ NoAccess ∷ NoAccess ∷ NotFound ∷ Eio ∷ Eio ∷ Resource ∷ NoSpace ∷ Resource
-        ∷ Eio ∷ Eio ∷ Eio ∷ Eio ∷ Eio ∷ []
+    ∷ Eio ∷ Eio ∷ Eio ∷ Eio ∷ Eio ∷ []
 unfolding opened
 errors = refl
 
@@ -32,12 +32,18 @@ in_format_2 = record (usable first_grant 0 65536 0 4) { format = 2 }
 -- a component with a capability of format 2 and this key
 abbrev with_key : List ℕ → ObjectCred
 with_key key =
-    record (credential first_grant (Usable 0 65536 0 4)) { oc_capability_key = key; oc_capability =
-    capabilities.spelling in_format_2 }
+    record (credential first_grant (Usable 0 65536 0 4)) {
+      oc_capability_key = key;
+      oc_capability =
+          capabilities.spelling in_format_2;
+    }
 
 pub long_key : listed (with_key (replicate 32 7)) ≡ Some
-    (record { id = object_at 0 65536; credential =
-    Some (record { drive = 0; key = Two (replicate 32 7); capability = in_format_2 }) })
+    (record {
+      id = object_at 0 65536;
+      credential =
+          Some (record { drive = 0; key = Two (replicate 32 7); capability = in_format_2 });
+    })
 unfolding opened
 long_key = refl
 
@@ -50,14 +56,22 @@ short_key = refl
 -- a grant that isn't extending, for the first 8 bytes of a file of 6
 abbrev held : (rw : Bool) → (count : ℕ) → Held
 held rw count =
-    record { file = 0; number = 1; reach = record { rw = rw; extending = false; first = 0; end = 8 }; size = 6; map =
-    striping; components = []; count = count }
+    record {
+      file = 0;
+      number = 1;
+      reach = record { rw = rw; extending = false; first = 0; end = 8 };
+      size = 6;
+      map =
+          striping;
+      components = [];
+      count = count;
+    }
 
 pub cover :
     covers (held true 0) (Write 0 4 (1 ∷ 2 ∷ [])) ∷ covers (held true 0) (Write 0 5 (1 ∷ 2 ∷ [])) ∷ covers (held false 0)
-        (Write 0 4 (1 ∷ 2 ∷ []))
+    (Write 0 4 (1 ∷ 2 ∷ []))
     ∷ covers (held false 0) (Read 0 4 100) ∷ covers (held false 0) (Read 0 9 1) ∷ covers (held true MAX_COUNT)
-        (Read 0 0 1) ∷ covers (held true (MAX_COUNT + 1)) (Read 0 0 1) ∷ []
+    (Read 0 0 1) ∷ covers (held true (MAX_COUNT + 1)) (Read 0 0 1) ∷ []
     ≡ true ∷ false ∷ false ∷ true ∷ true ∷ true ∷ false ∷ []
 unfolding opened
 cover = refl

@@ -11,15 +11,22 @@ use Rattle.client_rules.proofs.RowsGrants.{rotating, rotating_grant}
 
 abbrev second_grant : Given
 second_grant =
-    record { number = 2; writes = false; offset = 0; len = 8; map = rotating; components =
-    Usable 0 65536 0 4 ∷ Usable 1 65537 0 4 ∷ Usable 2 65538 0 4 ∷ [] }
+    record {
+      number = 2;
+      writes = false;
+      offset = 0;
+      len = 8;
+      map = rotating;
+      components =
+          Usable 0 65536 0 4 ∷ Usable 1 65537 0 4 ∷ Usable 2 65538 0 4 ∷ [];
+    }
 
 abbrev events : List Event
 events =
     on (Calls (Write 0 0 (1 ∷ 2 ∷ 3 ∷ 4 ∷ 5 ∷ 6 ∷ 7 ∷ 8 ∷ []))) TheServer (asks_to_write 1 0 0 8 ∷ []) ∷
     on (answers 1 0 0 0 (gives_layout rotating_grant)) (ADrive 0)
-        (writes rotating_grant 0 1 0 (1 ∷ 2 ∷ 3 ∷ 4 ∷ []) ∷ writes rotating_grant 1 2 0
-        (5 ∷ 6 ∷ 7 ∷ 8 ∷ []) ∷ writes rotating_grant 2 3 0 (4 ∷ 4 ∷ 4 ∷ 12 ∷ []) ∷ []) ∷
+    (writes rotating_grant 0 1 0 (1 ∷ 2 ∷ 3 ∷ 4 ∷ []) ∷ writes rotating_grant 1 2 0
+    (5 ∷ 6 ∷ 7 ∷ 8 ∷ []) ∷ writes rotating_grant 2 3 0 (4 ∷ 4 ∷ 4 ∷ 12 ∷ []) ∷ []) ∷
     on (has_written rotating_grant 0 1) (ADrive 1) [] ∷
     on (has_written rotating_grant 1 2) (ADrive 2) [] ∷
     on (has_written rotating_grant 2 3) TheServer (commits 2 0 1 0 8 ∷ []) ∷

@@ -20,7 +20,7 @@ use Rattle.client_rules.proofs.KnownMaps.{whole_known}
 
 pub last_none : (a b c d e : Bool) (v w x y z : Why) →
     (if a then Some v else if b then Some w else if c then Some x else if d then Some y else if not e then Some z else None)
-        ≡ None → e ≡ true
+    ≡ None → e ≡ true
 last_none true b c d e v w x y z n = absurd (cc n)
 last_none false true c d e v w x y z n = absurd (cc n)
 last_none false false true d e v w x y z n = absurd (cc n)

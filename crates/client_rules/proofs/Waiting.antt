@@ -49,7 +49,7 @@ starts_under_rests : (d : Done) (op : CallOp) (o : Option Held) → RestsDone d 
 starts_under_rests d op None w = starts_with_rests d op (Get 0) _ w
 starts_under_rests d op (Some h) w =
     either_done (covers h op) (moved d op (begins h op)) (starts_with d op First d.client.outstanding)
-        (moved_rests d op (begins h op) (begins_rests h op)) (starts_with_rests d op First _ w)
+    (moved_rests d op (begins h op) (begins_rests h op)) (starts_with_rests d op First _ w)
 
 starts_at_rests : (d : Done) (op : CallOp) (p : Phase) → RestsDone d → RestsDone (starts_at d op p)
 starts_at_rests d op Starts w = starts_under_rests d op _ w
@@ -195,7 +195,7 @@ timeout_under_rests : (c : Client) (call : Call) (k : ℕ) (o : Option Held) (xs
     IsResting (timeout_under c call k o xs).client
 timeout_under_rests c call k (Some h) (a ∷ xs) w =
     finished_rests _
-        (moved_rests (quiet c) call.op (timed_out h call.op call.phase k a xs) (timed_out_rests h call.op call.phase k a xs))
+    (moved_rests (quiet c) call.op (timed_out h call.op call.phase k a xs) (timed_out_rests h call.op call.phase k a xs))
 timeout_under_rests c call k None xs w = w
 timeout_under_rests c call k (Some h) [] w = w
 
@@ -205,7 +205,7 @@ timeout_call_rests c k (Some call) w = timeout_under_rests c call k _ _ w
 
 starts_rests : (c : Client) (op : CallOp) (b : Bool) → IsResting c →
     IsResting (if b then record (still c) { outcome = Some (WriteOk 0) } else finished
-        (quiet (record c { call = Some (record { op = op; phase = Starts }) }))).client
+    (quiet (record c { call = Some (record { op = op; phase = Starts }) }))).client
 starts_rests c op true w = w
 starts_rests c op false w = finished_rests _ (quiet_rests (record c { call = Some (record { op = op; phase = Starts }) }) tt)
 
@@ -221,7 +221,7 @@ calls_rests : (c : Client) (op : CallOp) → IsResting c → IsResting (unless_r
 unfolding calls
 calls_rests c op w =
     refuses c (is_some c.call) (is_bad_range (span_of op)) (is_spent c.next) Busy BadRange SlotSpent (starts c op) w
-        (starts_rests c op (writes_nothing op) w)
+    (starts_rests c op (writes_nothing op) w)
 
 hears_rests : (c : Client) (from : Node) (m : Message) → IsResting c → IsResting (hears c from m).client
 unfolding hears

@@ -97,8 +97,8 @@ pub probes_by_rests : (h : Held) (got : List Column) (timed : List TimedOut) (aw
 probes_by_rests h got timed awaited None = turned_rests _ _ _ (ends _)
 probes_by_rests h got timed awaited (Some k) =
     either (is_probe_lost h.map (outs h timed) (k / replicas h.map))
-        (ended h (Lost (positions_out h.map (outs h timed) (k / replicas h.map / group_width h.map))))
-            (probes_sent h got timed awaited (k / replicas h.map))
+    (ended h (Lost (positions_out h.map (outs h timed) (k / replicas h.map / group_width h.map))))
+    (probes_sent h got timed awaited (k / replicas h.map))
     (turned_rests _ _ _ (ends _)) (probes_on_rests h got timed _ _)
 
 pub probes_rests : (h : Held) (got : List Column) (timed : List TimedOut) (awaited : List Awaited) →
@@ -155,7 +155,7 @@ pub refused_rests : (h : Held) (p : Phase) (a : Awaited) (r : Reply) → RestsMo
 unfolding refused
 refused_rests h p a r =
     either (r.verdict == 9) (turned h (Forgets (refusal a r))) (turned h (closing (refusal a r) (refused_report h p a r)))
-        (turned_rests _ _ _ (forgets _)) (turned_rests _ _ _ (needs _))
+    (turned_rests _ _ _ (forgets _)) (turned_rests _ _ _ (needs _))
 
 pub replied_rests : (h : Held) (op : CallOp) (p : Phase) (a : Awaited) (r : Reply) → Rests p → RestsMoved (replied h op p a r)
 unfolding replied
@@ -166,15 +166,15 @@ pub gather_timed_rests : (h : Held) (op : CallOp) (io : Io) (k : ℕ) (timed : L
 unfolding gather_timed
 gather_timed_rests h op io k timed =
     either (is_too_short h op timed) (ended h (Silent k)) (gathers h op io.got timed (not_of k io.awaited))
-        (turned_rests _ _ _ (ends _)) (gathers_rests h op io.got timed _)
+    (turned_rests _ _ _ (ends _)) (gathers_rests h op io.got timed _)
 
 pub scatter_timed_rests : (h : Held) (op : CallOp) (io : Io) (queue : List Store) (k : ℕ) (timed : List TimedOut) →
     RestsMoved (scatter_timed h op io queue k timed)
 unfolding scatter_timed
 scatter_timed_rests h op io queue k timed =
     either (is_too_short h op timed) (turned h (closing (Silent k) (report_of h timed)))
-        (scatters_on h op timed (without_component k queue) [] (not_of k io.awaited)) (turned_rests _ _ _ (needs _))
-            (scatters_on_rests h op timed _ [] _)
+    (scatters_on h op timed (without_component k queue) [] (not_of k io.awaited)) (turned_rests _ _ _ (needs _))
+    (scatters_on_rests h op timed _ [] _)
 
 pub timed_out_rests : (h : Held) (op : CallOp) (p : Phase) (k : ℕ) (a : Awaited) (xs : List Awaited) →
     RestsMoved (timed_out h op p k a xs)

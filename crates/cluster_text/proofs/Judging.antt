@@ -36,8 +36,13 @@ module _ {X : Type 0} (view : X → Members) where
   good_counts : (ds fs : List X) → 0 < length ds → length ds ≤ MAX_DRIVES → length fs ≤ MAX_FILES →
       has_good_counts (map view ds) (map view fs) ≡ true
   good_counts ds fs some few files =
-      rw (length-map ds view, length-map fs view, lt-ltb 0 (length ds) some, le-leb (length ds) MAX_DRIVES few,
-      le-leb (length fs) MAX_FILES files) refl
+      rw (
+        length-map ds view,
+        length-map fs view,
+        lt-ltb 0 (length ds) some,
+        le-leb (length ds) MAX_DRIVES few,
+        le-leb (length fs) MAX_FILES files,
+      ) refl
 
   module _ (top : Members) (ds fs : List X) where
     pub bad_drives : (server : List ℕ) (format : ℕ) → 0 < length ds → length ds ≤ MAX_DRIVES → length fs ≤ MAX_FILES
@@ -50,25 +55,25 @@ module _ {X : Type 0} (view : X → Members) where
     pub bad_files : (server : List ℕ) (format : ℕ) (drives : List ClusterDrive) → 0 < length ds → length ds ≤ MAX_DRIVES →
         length fs ≤ MAX_FILES
         → Some server ≡ address_at (codes "server") top → Some format ≡ format_in top →
-            Some drives ≡ all_in (λ x. drive_in (view x)) ds
+        Some drives ≡ all_in (λ x. drive_in (view x)) ds
         → None ≡ all_in (λ x. file_in (length ds) (view x)) fs → None ≡ cluster_in top (map view ds) (map view fs)
     unfolding cluster_in
     bad_files server format drives some few files a f d g =
         rw (good_counts ds fs some few files)
-            (rw (← a) (rw (← f)
-            (rw (← (d ∙ all-map drive_in view ds))
-            (rw (length-map ds view) (rw (← (g ∙ all-map (file_in (length ds)) view fs)) refl)))))
+        (rw (← a) (rw (← f)
+        (rw (← (d ∙ all-map drive_in view ds))
+        (rw (length-map ds view) (rw (← (g ∙ all-map (file_in (length ds)) view fs)) refl)))))
 
     pub whole : (server owned : List ℕ) (format : ℕ) (drives : List ClusterDrive) (all : List ClusterFile) → 0 < length ds →
         length ds ≤ MAX_DRIVES → length fs ≤ MAX_FILES
         → Some server ≡ address_at (codes "server") top → Some format ≡ format_in top →
-            Some drives ≡ all_in (λ x. drive_in (view x)) ds
+        Some drives ≡ all_in (λ x. drive_in (view x)) ds
         → Some all ≡ all_in (λ x. file_in (length ds) (view x)) fs → owned ≡ server
         → Some (record { server = owned; format = format; drives = drives; files = all }) ≡ cluster_in top (map view ds)
-            (map view fs)
+        (map view fs)
     unfolding cluster_in
     whole server owned format drives all some few files a f d g same =
         rw (good_counts ds fs some few files)
-            (rw (← a) (rw (← f)
-            (rw (← (d ∙ all-map drive_in view ds))
-            (rw (length-map ds view) (rw (← (g ∙ all-map (file_in (length ds)) view fs)) (rw same refl))))))
+        (rw (← a) (rw (← f)
+        (rw (← (d ∙ all-map drive_in view ds))
+        (rw (length-map ds view) (rw (← (g ∙ all-map (file_in (length ds)) view fs)) (rw same refl))))))

@@ -21,7 +21,7 @@ is_key Top key = is_one_of (codes "server" ∷ codes "format" ∷ codes "drive" 
 is_key Drive key = is_one_of (codes "number" ∷ codes "address" ∷ codes "key" ∷ codes "capacity" ∷ []) key
 is_key File key = is_one_of
     (codes "number" ∷ codes "components" ∷ codes "unit" ∷ codes "width" ∷ codes "depth" ∷ codes "mirrors" ∷ codes "algorithm"
-        ∷ [])
+    ∷ [])
     key
 
 abbrev pub has_other_key : Section → Members → Bool

@@ -99,11 +99,11 @@ still_online all (x ∷ xs) d a o = split (is_online all x) _ _ a (still_online 
 pub chosen_too : (chosen : List ℕ) (count i : ℕ) (all : List DriveLoad) (x : DriveLoad) → i < length all →
     x ≡ slice_index_or all i x →
     x.online ≡ true → length chosen < count → AreDifferent (drives_of all) → Taken chosen count i all →
-        Taken (chosen ++ x.drive ∷ []) count (i + 1) all
+    Taken (chosen ++ x.drive ∷ []) count (i + 1) all
 chosen_too chosen count i all x l e o m d t =
     let long : length (chosen ++ x.drive ∷ []) ≡ length chosen + 1 = one_longer chosen x.drive in
     let c : count_by (λ l. l.online) (drop i all) ≡ 1 + count_by (λ l. l.online) (drop (i + 1) all) =
-        rw o at (counted all i x l e) in record {
+    rw o at (counted all i x l e) in record {
       few = omega (arith, long, m);
       enough = omega (arith, long, c, t.enough);
       online = still_online all chosen x.drive t.online (found all i x l e o);
@@ -117,8 +117,8 @@ chosen_too chosen count i all x l e o m d t =
         | inr q ↦
             let p = t.placed a (omega (arith, f, q)) in
             (λ same. d p.0 i p.1 (omega (arith, many_drives all, l))
-                (sym p.2 ∙ sym (at_left chosen x.drive a (omega (arith, f, q))) ∙ same ∙ at_end chosen x.drive b q
-                ∙ sym (drive_at all i x l e)))
+            (sym p.2 ∙ sym (at_left chosen x.drive a (omega (arith, f, q))) ∙ same ∙ at_end chosen x.drive b q
+            ∙ sym (drive_at all i x l e)))
       ];
     }
   where

@@ -25,5 +25,18 @@ checked_is_checked m n a h = record {
 pub checked_again : (m : RawMap) → IsChecked m → checked m ≡ Ok m
 unfolding checked
 checked_again m c =
-    grind (arith, nat_tests, c.some_unit, c.short_unit, c.some_components, c.few_components, c.whole_positions, c.narrow,
-    c.whole_groups, c.some_data, c.no_depth, c.some_depth, c.short_depth)
+    grind (
+      arith,
+      nat_tests,
+      c.some_unit,
+      c.short_unit,
+      c.some_components,
+      c.few_components,
+      c.whole_positions,
+      c.narrow,
+      c.whole_groups,
+      c.some_data,
+      c.no_depth,
+      c.some_depth,
+      c.short_depth,
+    )

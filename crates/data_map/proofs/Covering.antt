@@ -34,7 +34,7 @@ part_bytes : (m : RawMap) (l n : ℕ) → IsChecked m → n ≤ left_in_unit m l
 part_bytes m l n c short =
     same_run (λ o. ((place_of m l).position, o)) (λ x. ((place_of m x).position, (place_of m x).offset)) (place_of m l).offset l n
     (λ j below. let there = ahead m l j c (omega (arith, below, short)) in
-        ap (λ o. ((place_of m l).position, o)) (sym there.1) ∙ ap (λ p. (p, (place_of m (l + j)).offset)) (sym there.0))
+    ap (λ o. ((place_of m l).position, o)) (sym there.1) ∙ ap (λ p. (p, (place_of m (l + j)).offset)) (sym there.0))
 
 -- a part ends with its unit or with the range
 part_short : (m : RawMap) (off end u : ℕ) → IsChecked m → off < (u + 1) * m.unit →
@@ -50,12 +50,12 @@ part_short m off end u c touched =
 -- the parts in the units from u on
 parts_bytes : (m : RawMap) (off end u n : ℕ) → IsChecked m → off < (u + 1) * m.unit → (u + n) * m.unit < end →
     flat_map bytes_of_part (map (part_in m off end) (range_with_len u (n + 1))) ≡ bytes_of_range m (max off (u * m.unit))
-        (min end ((u + n + 1) * m.unit) - max off (u * m.unit))
+    (min end ((u + n + 1) * m.unit) - max off (u * m.unit))
 parts_bytes m off end u zero c touched more =
     let here : u + 0 + 1 ≡ u + 1 = omega arith in
     append-nil (bytes_of_part (part_in m off end u))
-        ∙ part_bytes m (max off (u * m.unit)) (min end ((u + 1) * m.unit) - max off (u * m.unit)) c
-            (part_short m off end u c touched)
+    ∙ part_bytes m (max off (u * m.unit)) (min end ((u + 1) * m.unit) - max off (u * m.unit)) c
+    (part_short m off end u c touched)
     ∙ ap (λ k. bytes_of_range m (max off (u * m.unit)) (min end (k * m.unit) - max off (u * m.unit))) (sym here)
 parts_bytes m off end u (suc n) c touched more =
     let from = max off (u * m.unit) in
@@ -79,7 +79,7 @@ parts_bytes m off end u (suc n) c touched more =
     ap (λ k. flat_map bytes_of_part (map (part_in m off end) (range_with_len u k))) count
     ∙ ap (λ xs. bytes_of_part (part_in m off end u) ++ xs) rest
     ∙ ap (λ xs. xs ++ bytes_of_range m (max off next) (last - max off next))
-        (part_bytes m from (min end next - from) c (part_short m off end u c touched) ∙ ap (bytes_of_range m from) length_here)
+    (part_bytes m from (min end next - from) c (part_short m off end u c touched) ∙ ap (bytes_of_range m from) length_here)
     ∙ ap (λ x. bytes_of_range m from (next - from) ++ bytes_of_range m x (last - x)) (from_next ∙ sym at_next)
     ∙ ap (λ x. bytes_of_range m from (next - from) ++ bytes_of_range m (from + (next - from)) (last - x)) at_next
     ∙ sym (split_range (λ l. ((place_of m l).position, (place_of m l).offset)) from (next - from) (last - next))
@@ -103,11 +103,11 @@ extents_bytes m off len c = elim (cases_eq len 0) [
       let final : (last + 1) * m.unit ≡ last * m.unit + m.unit = add-mul last 1 m.unit ∙ omega arith in
       let touched : off < (u + 1) * m.unit = omega (arith, first, lt-div-mul-add {a = off} c.some_unit) in
       let inside : (u + (last - u)) * m.unit < off + len =
-          omega (arith, ap (λ k. k * m.unit) units, div-mul-le_self (off + len - 1) m.unit, some) in
+      omega (arith, ap (λ k. k * m.unit) units, div-mul-le_self (off + len - 1) m.unit, some) in
       let reach : off + len - 1 < (last + 1) * m.unit = omega (arith, final, lt-div-mul-add {a = off + len - 1} c.some_unit) in
       let start : max off (u * m.unit) ≡ off = omega (arith, div-mul-le_self off m.unit) in
       let end : min (off + len) ((u + (last - u) + 1) * m.unit) ≡ off + len =
-          ap (λ k. min (off + len) ((k + 1) * m.unit)) units ∙ omega (arith, reach, some) in
+      ap (λ k. min (off + len) ((k + 1) * m.unit)) units ∙ omega (arith, reach, some) in
       let length_all : off + len - off ≡ len = omega arith in
       rw (ne_eqb len 0 some, count) (
       parts_bytes m off (off + len) u (last - u) c touched inside

@@ -15,7 +15,7 @@ turned_back g t c t_below c_below = elim (cases_lt c t) [
   | inl before ↦
       let step : (c + g - t) % g ≡ c + g - t = mod-eq_of_lt (omega (arith, before, t_below)) in
       ap (λ y. (y + t) % g) step ∙ wrapped_high g (c + g - t + t) (omega (arith, t_below)) (omega (arith, t_below, c_below))
-          ∙ omega (arith, t_below)
+      ∙ omega (arith, t_below)
   | inr from ↦
       let step : (c + g - t) % g ≡ c + g - t - g = wrapped_high g (c + g - t) (omega (arith, from)) (omega (arith, c_below)) in
       ap (λ y. (y + t) % g) step ∙ mod-eq_of_lt (omega (arith, from, c_below)) ∙ omega (arith, from)
@@ -39,7 +39,7 @@ round_whole d n s =
     let inner : (s / d / n) * n + s / d % n ≡ s / d = div-add-mod' (s / d) n in
     let outer : (s / d) * d + s % d ≡ s = div-add-mod' s d in
     let turn : (s / d / n) * (d * n) ≡ ((s / d / n) * n) * d =
-        ap (λ x. (s / d / n) * x) (mul_comm d n) ∙ sym (mul_assoc (s / d / n) n d) in
+    ap (λ x. (s / d / n) * x) (mul_comm d n) ∙ sym (mul_assoc (s / d / n) n d) in
     ap (λ x. x * (d * n) + (s / d % n) * d + s % d) q
     ∙ ap (λ x. x + (s / d % n) * d + s % d) turn
     ∙ ap (λ x. x + s % d) (sym (add-mul ((s / d / n) * n) (s / d % n) d) ∙ ap (λ x. x * d) inner)
@@ -59,7 +59,7 @@ round_row d n a b j group row =
     let whole = in_groups d n a b j in
     let first : (a * (d * n) + b * d + j) / (d * n) ≡ a =
     sym (div-div-eq-div-mul (a * (d * n) + b * d + j) d n) ∙ ap (λ x. x / d / n) whole
-        ∙ ap (λ x. x / n) (div-mul-add (a * n + b) d j row) ∙ div-mul-add a n b group in
+    ∙ ap (λ x. x / n) (div-mul-add (a * n + b) d j row) ∙ div-mul-add a n b group in
     let last : (a * (d * n) + b * d + j) % d ≡ j = ap (λ x. x % d) whole ∙ mod-mul-add (a * n + b) d j row in
     ap (λ x. x * d + (a * (d * n) + b * d + j) % d) first ∙ ap (λ x. a * d + x) last
 
@@ -74,7 +74,7 @@ pub stripe_most : (d n a b j : ℕ) → b < n → j < d → a * (d * n) + b * d 
 stripe_most d n a b j group row =
     let turn : a * (d * n) ≡ (a * d) * n = sym (mul_assoc a d n) in
     let split : (a * d + j + d) * n ≡ (a * d) * n + (j * n + d * n) =
-        add-mul (a * d + j) d n ∙ ap (λ x. x + d * n) (add-mul (a * d) j n) ∙ omega arith in
+    add-mul (a * d + j) d n ∙ ap (λ x. x + d * n) (add-mul (a * d) j n) ∙ omega arith in
     let more : b + 1 ≤ n = omega (arith, group) in
     let less : (b + 1) * d ≤ n * d = mul-le-mul_right d more in
     omega (arith, turn, split, less, add-mul b 1 d, mul_comm n d, row)

@@ -46,8 +46,12 @@ some_stripe m c = one-le-mul (some_data m c) c.some_unit
 -- the data units of all groups are no more than the positions
 pub few_data : (m : RawMap) → IsChecked m → groups m * data_units m ≤ 1024
 few_data m c =
-    omega (arith, mul-le (groups m) (data_units m) (groups m) (group_width m) (omega arith) (omega arith), whole_groups m c,
-    few_positions m c)
+    omega (
+      arith,
+      mul-le (groups m) (data_units m) (groups m) (group_width m) (omega arith) (omega arith),
+      whole_groups m c,
+      few_positions m c,
+    )
 
 -- without groups all is one
 pub one_group : (m : RawMap) → IsChecked m → m.width ≡ 0 → groups m ≡ 1
@@ -74,5 +78,5 @@ pub group_ends : (m : RawMap) (p : ℕ) → IsChecked m → p < positions m →
     p / group_width m * group_width m + group_width m ≤ positions m
 group_ends m p c l =
     let more : p / group_width m + 1 ≤ groups m =
-        omega (arith, div_below p (group_width m) (groups m) (omega (arith, c.some_data)) (rw (whole_groups m c) l)) in
+    omega (arith, div_below p (group_width m) (groups m) (omega (arith, c.some_data)) (rw (whole_groups m c) l)) in
     omega (arith, mul-le-mul_right (group_width m) more, add-mul (p / group_width m) 1 (group_width m), whole_groups m c)

@@ -31,7 +31,7 @@ stripe_again m s c = elim (cases_eq m.width 0) [
       let j = mod_below s m.depth (c.some_depth some) in
       let q = s / (m.depth * (positions m / m.width)) in
       rw (ne_eqb m.width 0 some, div-mul-add q m.depth (s % m.depth) j, mod-mul-add q m.depth (s % m.depth) j)
-          (round_whole m.depth (positions m / m.width) s)
+      (round_whole m.depth (positions m / m.width) s)
 ]
 
 pub group_again : (m : RawMap) (group row : ℕ) → IsChecked m → group < groups m → group_of m (stripe_in m group row) ≡ group
@@ -47,7 +47,7 @@ row_again m group row c below = elim (cases_eq m.width 0) [
   | inl none ↦ rw (eq-eqb m.width 0 none) refl
   | inr some ↦ rw (ne_eqb m.width 0 some)
       (round_row m.depth (positions m / m.width) (row / m.depth) group (row % m.depth) (rw (ne_eqb m.width 0 some) at below)
-          (mod_below row m.depth (c.some_depth some)) ∙ div-add-mod' row m.depth)
+      (mod_below row m.depth (c.some_depth some)) ∙ div-add-mod' row m.depth)
 ]
 
 -- ---- units and places inside a group
@@ -96,9 +96,11 @@ place_in_position m s unit below =
 
 pub position_in_range : (m : RawMap) (s unit : ℕ) → IsChecked m → unit < group_width m → position_of m s unit < positions m
 position_in_range m s unit c below =
-    omega (arith,
-        two_digits (group_width m) (groups m) (group_of m s) (turned m s unit) (group_below m s c) (turned_below m s unit below),
-        whole_groups m c)
+    omega (
+      arith,
+      two_digits (group_width m) (groups m) (group_of m s) (turned m s unit) (group_below m s c) (turned_below m s unit below),
+      whole_groups m c,
+    )
 
 -- a position and its stripe tell the unit
 pub unit_found : (m : RawMap) (s unit column : ℕ) → IsChecked m → unit < group_width m → column < m.unit →
@@ -107,9 +109,11 @@ pub unit_found : (m : RawMap) (s unit column : ℕ) → IsChecked m → unit < g
 unit_found m s unit column c below inside =
     let stripe : stripe_at m (position_of m s unit) (offset_of m s column) ≡ s =
     ap (λ g. stripe_in m g (offset_of m s column / m.unit)) (group_in_position m s unit below)
-        ∙ ap (λ r. stripe_in m (group_of m s) r) (div-mul-add (row_of m s) m.unit column inside) ∙ stripe_again m s c in
-    (stripe, ap (λ x. unit_in m x (position_of m s unit % group_width m)) stripe
-        ∙ ap (λ p. unit_in m s p) (place_in_position m s unit below) ∙ unit_again m s unit below)
+    ∙ ap (λ r. stripe_in m (group_of m s) r) (div-mul-add (row_of m s) m.unit column inside) ∙ stripe_again m s c in (
+      stripe,
+      ap (λ x. unit_in m x (position_of m s unit % group_width m)) stripe
+          ∙ ap (λ p. unit_in m s p) (place_in_position m s unit below) ∙ unit_again m s unit below,
+    )
 
 -- ---- bytes
 
@@ -138,9 +142,9 @@ pub found_again : (m : RawMap) (l : ℕ) → IsChecked m → byte_at m (place_of
 found_again m l c =
     let found = place_found m l c in
     let column : (place_of m l).offset % m.unit ≡ column_of m l =
-        mod-mul-add (row_of m (stripe_of m l)) m.unit (column_of m l) (column_below m l c) in
+    mod-mul-add (row_of m (stripe_of m l)) m.unit (column_of m l) (column_below m l c) in
     ap (λ s. s * stripe_length m + unit_at m (place_of m l).position
-        (place_of m l).offset * m.unit + (place_of m l).offset % m.unit) found.0
+    (place_of m l).offset * m.unit + (place_of m l).offset % m.unit) found.0
     ∙ ap (λ k. stripe_of m l * stripe_length m + k * m.unit + (place_of m l).offset % m.unit) found.1
     ∙ ap (λ b. stripe_of m l * stripe_length m + data_unit_of m l * m.unit + b) column
     ∙ digits m.unit (data_units m) l c.some_unit
@@ -186,8 +190,8 @@ column_again m l c =
     let inside = column_below m l c in
     let whole : (stripe_of m l * data_units m + data_unit_of m l) * m.unit + column_of m l ≡ l =
     ap (λ x. x + column_of m l)
-        (add-mul (stripe_of m l * data_units m) (data_unit_of m l) m.unit
-        ∙ ap (λ x. x + data_unit_of m l * m.unit) (mul_assoc (stripe_of m l) (data_units m) m.unit))
+    (add-mul (stripe_of m l * data_units m) (data_unit_of m l) m.unit
+    ∙ ap (λ x. x + data_unit_of m l * m.unit) (mul_assoc (stripe_of m l) (data_units m) m.unit))
     ∙ digits m.unit (data_units m) l c.some_unit in
     ap (λ x. x % m.unit) (sym whole) ∙ mod-mul-add (stripe_of m l * data_units m + data_unit_of m l) m.unit (column_of m l) inside
 
@@ -209,7 +213,7 @@ pub row_start : (m : RawMap) (l row : ℕ) → IsChecked m → row ≤ stripe_of
 row_start m l row c low =
     let some : 1 ≤ data_units m = some_data m c in
     let rows : row * m.unit ≤ stripe_of m l * stripe_length m =
-        mul-le row m.unit (stripe_of m l) (stripe_length m) low (omega (arith, mul-le-mul_right m.unit some)) in
+    mul-le row m.unit (stripe_of m l) (stripe_length m) low (omega (arith, mul-le-mul_right m.unit some)) in
     omega (arith, rows, digits m.unit (data_units m) l c.some_unit)
 
 -- a group's positions are among all

@@ -70,65 +70,66 @@ more-of : (puts still : Bool) (first new : DriveState) (begin before now : Ends)
     → Told begin.times (map (λ h. h.time) handled) before.times → TellsTime before.times now.times time
     → new ≡ drive_after (after_all first handled) time message
     → before.last ≡ last_after first begin.last handled →
-        now.last ≡ last_of (after_all first handled) before.last (handled_at time message)
+    now.last ≡ last_of (after_all first handled) before.last (handled_at time message)
     → Talked begin.told now.told taken put
-        (notes_of first begin.last handled ++ lines_of (after_all first handled) before.last (handled_at time message))
+    (notes_of first begin.last handled ++ lines_of (after_all first handled) before.last (handled_at time message))
     → frames first handled ++ framed (reply_bytes (after_all first handled) time message) ≡ put ++ unput
     → NoFewer begin.faults now.faults → (still ≡ true → unput ≡ [])
     → (still ≡ false → Rose begin.faults.accepted now.faults.accepted)
     → Serves still first new begin now taken (handled ++ handled_at time message ∷ [])
 more-of puts still first new begin before now taken handled time message put unput told tells state last newest talked replies
     faults stands broke = record {
-  put = put;
-  unput = unput;
-  talked = subst (λ (ns : List (List ℕ)). Talked begin.told now.told taken put ns)
-      (ap (λ (l : Option ℕ). notes_of first begin.last handled ++ lines_of (after_all first handled) l (handled_at time message))
+      put = put;
+      unput = unput;
+      talked = subst (λ (ns : List (List ℕ)). Talked begin.told now.told taken put ns)
+          (ap (λ (l : Option ℕ). notes_of first begin.last handled ++ lines_of (after_all first handled) l
+          (handled_at time message))
           last
-      ∙ sym (notes-more first begin.last handled (handled_at time message))) talked;
-  last = newest ∙ ap (λ (l : Option ℕ). last_of (after_all first handled) l (handled_at time message)) last
-      ∙ sym (last-more first begin.last handled (handled_at time message));
-  state = state ∙ sym (after-more first handled (handled_at time message));
-  replies = frames-more first handled (handled_at time message) ∙ replies;
-  times = subst (λ (ts : List ℕ). Told begin.times ts now.times)
-      (sym (map-append (λ (h : Handled). h.time) handled (handled_at time message ∷ [])))
-      (told-then begin.times before.times now.times (map (λ h. h.time) handled) time told tells);
-  faults = faults;
-  stands = stands;
-  broke = broke;
-}
+          ∙ sym (notes-more first begin.last handled (handled_at time message))) talked;
+      last = newest ∙ ap (λ (l : Option ℕ). last_of (after_all first handled) l (handled_at time message)) last
+          ∙ sym (last-more first begin.last handled (handled_at time message));
+      state = state ∙ sym (after-more first handled (handled_at time message));
+      replies = frames-more first handled (handled_at time message) ∙ replies;
+      times = subst (λ (ts : List ℕ). Told begin.times ts now.times)
+          (sym (map-append (λ (h : Handled). h.time) handled (handled_at time message ∷ [])))
+          (told-then begin.times before.times now.times (map (λ h. h.time) handled) time told tells);
+      faults = faults;
+      stands = stands;
+      broke = broke;
+    }
 
 -- what a record tells
 with_lines : (first : DriveState) (begin before : Ends) (taken : List ℕ) (handled : List Handled) (message put : List ℕ)
     (time : ℕ)
     → Talked begin.told before.told taken put (notes_of first begin.last handled)
     → Talked begin.told
-        (after_notes (lines_of (after_all first handled) before.last (handled_at time message)) before.told) taken put
+    (after_notes (lines_of (after_all first handled) before.last (handled_at time message)) before.told) taken put
     (notes_of first begin.last handled ++ lines_of (after_all first handled) before.last (handled_at time message))
 with_lines first begin before taken handled message put time t = talked-noted _ _ _ taken put _ _ t refl
 
 answered : (puts still : Bool) (first new : DriveState) (begin before now : Ends) (taken : List ℕ) (handled : List Handled)
     (message : List ℕ)
     → Serves puts first (after_all first handled) begin before taken handled →
-        (a : Answers puts still (after_all first handled) new before now message)
+    (a : Answers puts still (after_all first handled) new before now message)
     → Serves still first new begin now taken (handled ++ handled_at a.time message ∷ [])
 answered true true first new begin before now taken handled message s a =
     let reply = framed (reply_bytes (after_all first handled) a.time message) in
     let noted = with_lines first begin before taken handled message s.put a.time s.talked in
     more-of true true first new begin before now taken handled a.time message
-        (s.put ++ reply) [] s.times a.told a.state s.last a.last
+    (s.put ++ reply) [] s.times a.told a.state s.last a.last
     (talked-put _ _ _ taken s.put reply _ noted a.reply.0)
     (ap (λ (x : List ℕ). x ++ reply) (s.replies ∙ ap (λ (x : List ℕ). s.put ++ x) (s.stands refl) ∙ append-nil s.put)
-        ∙ sym (append-nil (s.put ++ reply)))
+    ∙ sym (append-nil (s.put ++ reply)))
     (fewer-same _ _ _ s.faults a.reply.1) (λ e. refl) (λ e. absurd (cc e))
 answered true false first new begin before now taken handled message s a =
     let reply = framed (reply_bytes (after_all first handled) a.time message) in
     let went = a.reply.0 in
     let noted = with_lines first begin before taken handled message s.put a.time s.talked in
     more-of true false first new begin before now taken handled a.time message
-        (s.put ++ went.0) went.1 s.times a.told a.state s.last a.last
+    (s.put ++ went.0) went.1 s.times a.told a.state s.last a.last
     (talked-put _ _ _ taken s.put went.0 _ noted went.3)
     (ap (λ (x : List ℕ). x ++ reply) (s.replies ∙ ap (λ (x : List ℕ). s.put ++ x) (s.stands refl) ∙ append-nil s.put)
-        ∙ ap (λ (x : List ℕ). s.put ++ x) went.2 ∙ sym (append_assoc s.put went.0 went.1))
+    ∙ ap (λ (x : List ℕ). s.put ++ x) went.2 ∙ sym (append_assoc s.put went.0 went.1))
     (fewer-then _ _ _ s.faults a.reply.1.0) (λ e. absurd (cc e)) (λ e. cause a.reply.1.1)
   where
     cause : Rose before.faults.accepted now.faults.accepted ⊎
@@ -140,11 +141,11 @@ answered false still first new begin before now taken handled message s a =
     let reply = framed (reply_bytes (after_all first handled) a.time message) in
     let noted = with_lines first begin before taken handled message s.put a.time s.talked in
     more-of false still first new begin before now taken handled a.time message s.put
-        (s.unput ++ reply) s.times a.told a.state s.last a.last
+    (s.unput ++ reply) s.times a.told a.state s.last a.last
     (talked-same _ _ _ taken s.put _ noted a.reply.1)
     (ap (λ (x : List ℕ). x ++ reply) s.replies ∙ append_assoc s.put s.unput reply)
     (fewer-same _ _ _ s.faults a.reply.2) (λ e. absurd (cc (sym e ∙ a.reply.0)))
-        (λ e. subst (λ (x : Faults). Rose begin.faults.accepted x.accepted) (sym a.reply.2) (s.broke refl))
+    (λ e. subst (λ (x : Faults). Rose begin.faults.accepted x.accepted) (sym a.reply.2) (s.broke refl))
 
 pub serves-answered : (puts still : Bool) (first old new : DriveState) (begin before now : Ends) (taken : List ℕ)
     (handled : List Handled) (message : List ℕ)
@@ -152,9 +153,9 @@ pub serves-answered : (puts still : Bool) (first old new : DriveState) (begin be
     → (h : Handled) × (h.message ≡ message) × Serves still first new begin now taken (handled ++ h ∷ [])
 serves-answered puts still first old new begin before now taken handled message s a =
     let t : Serves puts first (after_all first handled) begin before taken handled =
-        subst (λ (d : DriveState). Serves puts first d begin before taken handled) s.state s in
+    subst (λ (d : DriveState). Serves puts first d begin before taken handled) s.state s in
     let b : Answers puts still (after_all first handled) new before now message =
-        subst (λ (d : DriveState). Answers puts still d new before now message) s.state a in
+    subst (λ (d : DriveState). Answers puts still d new before now message) s.state a in
     (handled_at b.time message, refl, answered puts still first new begin before now taken handled message t b)
 
 -- these records, and one more
@@ -190,7 +191,7 @@ take-got records i x e = rw add-one (got records i x e)
 pub serving-taken : (puts : Bool) (first new : DriveState) (begin before now : Ends) (taken piece : List ℕ)
     (handled : List Handled)
     → Serves puts first new begin before taken handled → WasTaken before.told now.told piece → NoFewer before.faults now.faults →
-        now.times ≡ before.times → now.last ≡ before.last
+    now.times ≡ before.times → now.last ≡ before.last
     → Serves puts first new begin now (taken ++ piece) handled
 serving-taken puts first new begin before now taken piece handled s w fewer same last = record {
   put = s.put;
@@ -227,9 +228,14 @@ HasServed puts old new before now inbox =
 
 pub served-none : (d : DriveState) (before : Ends) (inbox : Coming) → inbox ≡ record { begun = Some fresh; room = MAX_TAKEN } →
     HasServed true d d before before inbox
-served-none d before inbox e =
-    ([], [], serving-none d before, split-nil fresh
-    ∙ ap (λ (i : Coming). record { records = []; begun = i.begun }) (sym e), omega (arith, ap (λ (i : Coming). i.room) e))
+served-none d before inbox e = (
+  [],
+  [],
+  serving-none d before,
+  split-nil fresh
+      ∙ ap (λ (i : Coming). record { records = []; begun = i.begun }) (sym e),
+  omega (arith, ap (λ (i : Coming). i.room) e),
+)
 
 pub served-more : (puts still : Bool) (old mid new : DriveState) (begin before taking now : Ends) (inbox left : Coming)
     (piece : List ℕ) (records : List (List ℕ))
@@ -238,7 +244,7 @@ pub served-more : (puts still : Bool) (old mid new : DriveState) (begin before t
     → ServesMore puts still mid new taking now records → HasServed still old new begin now left
 served-more puts still old mid new begin before taking now inbox left piece records s w rooms reads faults times last more =
     let took = serving-taken puts old mid begin before taking s.0 piece s.1 s.2 w
-        (fewer-same _ _ _ (same-fewer before.faults) faults) times last in
+    (fewer-same _ _ _ (same-fewer before.faults) faults) times last in
     let done = more old begin (s.0 ++ piece) s.1 took in (
       s.0 ++ piece,
       s.1 ++ done.0,
@@ -246,7 +252,7 @@ served-more puts still old mid new begin before taking now inbox left piece reco
       reads s.0 (map (λ h. h.message) s.1) s.3
           ∙ ap (λ (rs : List (List ℕ)). record { records = rs; begun = left.begun })
           (ap (λ (rs : List (List ℕ)). map (λ (h : Handled). h.message) s.1 ++ rs) (sym done.1)
-              ∙ sym (map-append (λ (h : Handled). h.message) s.1 done.0)),
+          ∙ sym (map-append (λ (h : Handled). h.message) s.1 done.0)),
       omega (arith, s.4, rooms, length-append s.0 piece),
     )
 
@@ -256,9 +262,9 @@ nothing-taken (x ∷ piece) room e = absurd (omega (arith, e))
 
 pub served-over : (puts : Bool) (old new : DriveState) (begin before now : Ends) (inbox left : Coming) (piece : List ℕ)
     → HasServed puts old new begin before inbox → WasTaken before.told now.told piece → length piece + left.room ≡ inbox.room →
-        left ≡ inbox
+    left ≡ inbox
     → NoFewer before.faults now.faults → now.times ≡ before.times → now.last ≡ before.last →
-        over.IsOver inbox now.told before.faults now.faults
+    over.IsOver inbox now.told before.faults now.faults
     → ServesConnection old new begin now
 served-over puts old new begin before now inbox left piece s w rooms same fewer times last ends = record {
   taken = s.0;
@@ -266,7 +272,7 @@ served-over puts old new begin before now inbox left piece s w rooms same fewer 
   puts = puts;
   serves = subst (λ (t : List ℕ). Serves puts old new begin now t s.1)
       (ap (λ (p : List ℕ). s.0 ++ p)
-          (nothing-taken piece inbox.room (ap (λ (i : Coming). length piece + i.room) (sym same) ∙ rooms)) ∙ append-nil s.0)
+      (nothing-taken piece inbox.room (ap (λ (i : Coming). length piece + i.room) (sym same) ∙ rooms)) ∙ append-nil s.0)
       (serving-taken puts old new begin before now s.0 piece s.1 s.2 w fewer times last);
   records = ap (λ (x : Split). x.records) s.3;
   limit = omega (arith, s.4);
@@ -281,5 +287,5 @@ served-over puts old new begin before now inbox left piece s w rooms same fewer 
 
 pub served-one : (n : ℕ) (old d new : DriveState) (before between accepted now : Ends)
     → ServesEach n old d before between → AcceptsOne between accepted → ServesConnection d new accepted now →
-        ServesEach (n + 1) old new before now
+    ServesEach (n + 1) old new before now
 served-one n old d new before between accepted now all accepts serves = rw add-one (d, between, all, accepted, accepts, serves)

@@ -34,16 +34,18 @@ from_unrepeated false x c h = cc h
 
 from_tests : (unknown lacking wrong : Bool) (o : Option Cluster) (c : Cluster)
     → (if unknown then Err (Refused Unknown) else if lacking then Err (Refused Missing) else if wrong then Err
-        (Refused WrongType) else unrepeated o) ≡ Ok c
+    (Refused WrongType) else unrepeated o) ≡ Ok c
     → (lacking ≡ false) × (wrong ≡ false) × (o ≡ Some c)
 from_tests true lacking wrong o c h = cc h
 from_tests false true wrong o c h = cc h
 from_tests false false true o c h = cc h
 from_tests false false false None c h = cc h
-from_tests false false false (Some x) c h =
-    (refl, refl,
-        ap (λ (y : Cluster). Some y)
-            (from_unrepeated (repeats (map (λ d. d.number) x.drives) || repeats (map (λ f. f.number) x.files)) x c h))
+from_tests false false false (Some x) c h = (
+  refl,
+  refl,
+  ap (λ (y : Cluster). Some y)
+      (from_unrepeated (repeats (map (λ d. d.number) x.drives) || repeats (map (λ f. f.number) x.files)) x c h),
+)
 
 -- the drives of the tables
 drives_of : (top : Members) (ds fs : List Members) (c : Cluster) → cluster_in top ds fs ≡ Some c →
@@ -51,13 +53,13 @@ drives_of : (top : Members) (ds fs : List Members) (c : Cluster) → cluster_in 
 unfolding cluster_in
 drives_of top ds fs c h =
     go (has_good_counts ds fs) (address_at (codes "server") top) (format_in top) (all_in drive_in ds)
-        (all_in (file_in (length ds)) fs) h
+    (all_in (file_in (length ds)) fs) h
   where
     go : (good : Bool) (server : Option (List ℕ)) (format : Option ℕ) (drives : Option (List ClusterDrive))
         (files : Option (List ClusterFile))
         → (if good then (server >>=
-            (λ s. format >>=
-            (λ f. drives >>= (λ d. files >>= (λ x. Some (record { server = s; format = f; drives = d; files = x }))))))
+        (λ s. format >>=
+        (λ f. drives >>= (λ d. files >>= (λ x. Some (record { server = s; format = f; drives = d; files = x }))))))
         else None) ≡ Some c → drives ≡ Some c.drives
     go false server format drives files e = cc e
     go true None format drives files e = cc e
@@ -129,7 +131,7 @@ core_some n d h = go d.key h
 found : (n : ℕ) (ts : List Members) (ds : List ClusterDrive) → all_in drive_in ts ≡ Some ds →
     list_any (lacks_drive_key true) ts ≡ false
     → list_any is_wrong_drive ts ≡ false → list_any (is_drive n) ts ≡ true →
-        is_some (option_and_then (core_from n) (find (λ d. nat_eq d.number n) ds)) ≡ true
+    is_some (option_and_then (core_from n) (find (λ d. nat_eq d.number n) ds)) ≡ true
 found n [] ds h lack wrong any = cc any
 found n (t ∷ ts) ds h lack wrong any =
     let a = bound (drive_in t) _ ds h in
@@ -142,8 +144,8 @@ found n (t ∷ ts) ds h lack wrong any =
   where
     go : (test : Bool) → {x : Bool} → x ≡ test → (d : ClusterDrive) (rest : List ClusterDrive) → is_some d.key ≡ true
         → x ≡ is_drive n t →
-            (list_any (is_drive n) ts ≡ true →
-            is_some (option_and_then (core_from n) (find (λ d. nat_eq d.number n) rest)) ≡ true)
+        (list_any (is_drive n) ts ≡ true →
+        is_some (option_and_then (core_from n) (find (λ d. nat_eq d.number n) rest)) ≡ true)
         → is_some (option_and_then (core_from n) (cond x (Some d) (find (λ d. nat_eq d.number n) rest))) ≡ true
     go true is d rest some tests more = rw is (core_some n d some)
     go false is d rest some tests more = rw is (more (ap (λ b. b || list_any (is_drive n) ts) (sym (sym tests ∙ is)) ∙ any))

@@ -38,7 +38,7 @@ module _ {H : Type 0} (s : Ghosts H) where
   since_then : (mid new : H) (d : DriveState) (hs gs cut_off : List Handled) (t : ℕ)
       → StandsSince s.stands_for (s.left_since mid) (s.moment mid) d hs [] t → t ≤ s.moment mid → s.moment mid ≤ s.moment new
       → ((u : ℕ) (c : List ℕ) → u ≤ s.moment mid → s.left_since new u c →
-          s.left_since mid u c ⊎ Some_of (after_all d hs) (gs ++ cut_off) c)
+      s.left_since mid u c ⊎ Some_of (after_all d hs) (gs ++ cut_off) c)
       → StandsSince s.stands_for (s.left_since new) (s.moment new) (after_all d hs) gs cut_off (s.moment mid)
       → StandsSince s.stands_for (s.left_since new) (s.moment new) d (hs ++ gs) cut_off t
   since_then mid new d [] [] cut_off t first le later before behind =
@@ -63,7 +63,7 @@ module _ {H : Type 0} (s : Ghosts H) where
       → HasHandled s gs cut_off mid new → HasHandled s (hs ++ gs) cut_off old new
   joined hs gs cut_off old mid new x kept y =
       let between : s.drive mid ≡ after_all (s.drive old) hs =
-          x.state ∙ ap (λ (ks : List Handled). after_all (s.drive old) ks) (append-nil hs) in record {
+      x.state ∙ ap (λ (ks : List Handled). after_all (s.drive old) ks) (append-nil hs) in record {
         state = y.state ∙ ap (λ (d : DriveState). after_all d (gs ++ cut_off)) between
             ∙ after_all-then (s.drive old) hs (gs ++ cut_off)
             ∙ ap (λ (ks : List Handled). after_all (s.drive old) ks) (sym (append_assoc hs gs cut_off));
@@ -72,15 +72,15 @@ module _ {H : Type 0} (s : Ghosts H) where
             (Some_of (after_all (s.drive old) hs) (gs ++ cut_off))
             (Some_of (s.drive old) ((hs ++ gs) ++ cut_off)) (x.crash k)
             (subst (λ (d : DriveState). LeavesOnly s.moment s.left_since mid new (Some_of d (gs ++ cut_off))) between
-                (y.crash (kept k)))
+            (y.crash (kept k)))
             (some_before (s.drive old) hs gs cut_off) (some_behind (s.drive old) hs gs cut_off);
         since = λ k.
             let before =
-                subst (λ (d : DriveState). LeavesOnly s.moment s.left_since mid new (Some_of d (gs ++ cut_off))) between
-                    (y.crash (kept k)) in
+            subst (λ (d : DriveState). LeavesOnly s.moment s.left_since mid new (Some_of d (gs ++ cut_off))) between
+            (y.crash (kept k)) in
             since_then mid new (s.drive old) hs gs cut_off (s.moment old) (x.since k) (x.crash k).later before.later before.before
             (subst (λ (d : DriveState). StandsSince s.stands_for (s.left_since new) (s.moment new) d gs cut_off (s.moment mid))
-                between (y.since (kept k)));
+            between (y.since (kept k)));
       }
 
   -- before any record

@@ -14,7 +14,6 @@ use Rattle.drive_command.specs.declared.stored_stop.StoredStop.TheVariants.{Comm
 use Rattle.drive_command.specs.Opened.{IsRefusedAt, LeavesOpenable, StopsOpening}
 
 module _ {D : Type 0} (s : DiskGhosts D) (first : DriveState) where
-
   -- the disk was only opened and asked for its size before
   pub since_opened : (disk mid left : D) (stop : StoredStop) → s.tells mid ≡ s.tells disk → s.seen mid ≡ s.seen disk
       → s.faults mid ≡ s.faults disk

@@ -26,7 +26,7 @@ rose n old new a b r = omega (arith, no_fewer r.0 old new a r.2 r.3, r.4)
 pub stopped_serving : (n : ℕ) (old new : DriveState) (a b : Ends) (taken_before taken : Option (List ℕ))
     (failed_before failed faults_before faults : ℕ)
     (e : DriveServeErr) → Appends taken_before taken listening_line → (e ≡ LinkFault → IsRefused n old new a b) →
-        (e ≡ DiskFault → Rose faults_before faults)
+    (e ≡ DiskFault → Rose faults_before faults)
     → StopsServer n old new a b taken_before taken failed_before failed faults_before faults (stop_of_serving e)
 stopped_serving n old new a b taken_before taken failed_before failed faults_before faults LinkFault told refused failing =
     (told, refused refl)

@@ -22,14 +22,16 @@ module _ (number connections : ℕ) (cluster : Cluster) (before now : Ends) (tak
       → StopsIn number connections cluster before now taken_before taken failed_before failed stop
   serving_in stop settled drive last same own s =
       go stop (subst
-          (λ (x : Ends). StopsServing connections drive last x now taken_before taken failed_before failed stop) same s)
+      (λ (x : Ends). StopsServing connections drive last x now taken_before taken failed_before failed stop) same s)
     where
       go : (stop : CommandStop) → StopsServing connections drive last before now taken_before taken failed_before failed stop
           → StopsIn number connections cluster before now taken_before taken failed_before failed stop
       go WriteFault s = (record { drive = drive; own = own; last = last; cuts = s.0 }, s.1)
       go LinkFault s =
-          inr (record { drive = drive; own = own; last = last; refused = s.1; rose = rose connections drive last before now s.1 },
-          s.0)
+          inr (
+            record { drive = drive; own = own; last = last; refused = s.1; rose = rose connections drive last before now s.1 },
+            s.0,
+          )
       go Memory s = s
       go (BadCluster kind) s = absurd s
       go ReadFault s = absurd s

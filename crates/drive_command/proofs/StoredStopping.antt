@@ -14,7 +14,6 @@ use Rattle.drive_command.specs.StoredStops.{IsTold, no_memory}
 use Rattle.drive_command.proofs.Described.{described}
 
 module _ {D : Type 0} (s : DiskGhosts D) (number connections : ℕ) (disk left : D) where
-
   -- the cluster that a text describes has the drive
   never_lacks : (text : List ℕ) (in_before in_now : Streams) (c : Cluster) (stop : StoredStop) →
       GivesCluster (Drive number) in_before.left in_now.left c
@@ -31,7 +30,7 @@ module _ {D : Type 0} (s : DiskGhosts D) (number connections : ℕ) (disk left :
   pub stopped_as : (in_before in_now : Streams) (before now : Ends) (stop : StoredStop) (c : Cluster) →
       GivesCluster (Drive number) in_before.left in_now.left c
       → StopsStored s number connections c before now in_before.taken in_now.taken in_before.writes_failed in_now.writes_failed
-          disk left stop
+      disk left stop
       → StopsStoredDrive s number connections in_before in_now before now disk left stop
   stopped_as in_before in_now before now stop c gives (inl lacks) =
       absurd (never_lacks gives.text in_before in_now c stop gives lacks.why)
@@ -55,4 +54,4 @@ module _ {D : Type 0} (s : DiskGhosts D) (number connections : ℕ) (disk left :
   told_as in_before in_now before now stop told (inr (none, at, is)) x =
       subst (λ (e : StoredStop). StopsStoredDrive s number connections in_before in_now before now disk left e) (sym none)
       (without_line in_before in_now before now at
-          (subst (λ (e : StoredStop). StopsStoredDrive s number connections in_before in_now before now disk left e) is x))
+      (subst (λ (e : StoredStop). StopsStoredDrive s number connections in_before in_now before now disk left e) is x))

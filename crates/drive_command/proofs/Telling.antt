@@ -10,7 +10,7 @@ use Rattle.drive_command.specs.Ends.{CutsLine}
 
 pub second_part : (connections : ℕ) (old new : DriveState) (first last : Ends) (before between now : Option (List ℕ)) (upto : ℕ)
     → ServesAll connections old new first last → Appends before between listening_line →
-        Appends between now (take upto (served_line connections))
+    Appends between now (take upto (served_line connections))
     → CutsLine connections old new first last before now
 second_part connections old new first last before between now upto served a b =
     inr (served, upto, Appends-then before between now listening_line (take upto (served_line connections)) a b)

@@ -32,7 +32,7 @@ StandsSince stands_for left_since now d (h ∷ hs) cut_off since =
 -- handled till then.
 pub record Carries {H : Type 0} (drive : H → DriveState) (keeps : H → Type 0) (moment : H → ℕ)
     (left_since : H → ℕ → List ℕ → Type 0) (stands_for : DriveState → List ℕ → Type 0) (handled cut_off : List Handled)
-        (old new : H)
+    (old new : H)
     : Type 0 where
   pub state : drive new ≡ after_all (drive old) (handled ++ cut_off)
   pub few : length cut_off ≤ 1

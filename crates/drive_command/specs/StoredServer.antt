@@ -17,6 +17,6 @@ handle_err_of other = Memory
 pub stays : {D : Type 0} (tells : D → Bool) (seen : D → List ℕ) (may_leave : D → List ℕ → Type 0) (moment : D → ℕ)
     (left_since : D → ℕ → List ℕ → Type 0) → ((disk : D) (c : List ℕ) → left_since disk (moment disk) c → may_leave disk c)
     → (s : StoredDrive D) (c : List ℕ) → IsKept tells seen may_leave s → left_since (disk_in s) (moment (disk_in s)) c →
-        IsStoreOf (core_of s) c
+    IsStoreOf (core_of s) c
 stays tells seen may_leave moment left_since only_now s c k left =
     kept_leaves tells seen may_leave (core_of s) s.log k c (only_now (disk_in s) c left)

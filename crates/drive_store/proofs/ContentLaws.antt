@@ -16,12 +16,12 @@ made_alike : (d e : DriveState) → d.number < 2 ^ 32 → e.number < 2 ^ 32 → 
     d.keys ≡ e.keys → header_for d ≡ header_for e → emptied d ≡ emptied e
 made_alike d e low below fits holds keys header =
     let number : d.number ≡ e.number =
-        sym (number_in d.number d.store.capacity (omega (arith, low)))
-        ∙ ap (λ (l : List ℕ). from_be_bytes w64 (slice_range l 8 16)) header
-        ∙ number_in e.number e.store.capacity (omega (arith, below)) in
+    sym (number_in d.number d.store.capacity (omega (arith, low)))
+    ∙ ap (λ (l : List ℕ). from_be_bytes w64 (slice_range l 8 16)) header
+    ∙ number_in e.number e.store.capacity (omega (arith, below)) in
     let capacity : d.store.capacity ≡ e.store.capacity =
-        sym (capacity_in d.number d.store.capacity fits) ∙ ap (λ (l : List ℕ). from_be_bytes w64 (slice_range l 16 24)) header
-        ∙ capacity_in e.number e.store.capacity holds in
+    sym (capacity_in d.number d.store.capacity fits) ∙ ap (λ (l : List ℕ). from_be_bytes w64 (slice_range l 16 24)) header
+    ∙ capacity_in e.number e.store.capacity holds in
     ap (λ (n : ℕ). new_drive n d.keys d.store.capacity) number
     ∙ ap (λ (k : List DriveKey). new_drive e.number k d.store.capacity) keys
     ∙ ap (λ (n : ℕ). new_drive e.number e.keys n) capacity
@@ -33,7 +33,7 @@ pub one_drive : (d e : DriveState) (c : List ℕ) → IsStoreOf d c → IsStoreO
 one_drive d e c is also keys =
     let logs = one_log (header_for d) is.records (header_for e) also.records c is.log also.log in
     let made = made_alike d e is.lead.number_fits also.lead.number_fits is.lead.capacity_fits also.lead.capacity_fits keys
-        logs.0 in
+    logs.0 in
     same_drive d e (sym is.lead.drive
     ∙ ap (λ (x : DriveState). replayed (Some x) is.records) made
     ∙ ap (λ (records : List (List ℕ)). replayed (Some (emptied e)) records) logs.1
@@ -42,8 +42,8 @@ one_drive d e c is also keys =
 no_other_header : (c : List ℕ) (at : ℕ) (d : DriveState) → HasOtherHeader c at → IsStoreOf d c → ⊥
 no_other_header c at d o is =
     let begins =
-        front_begins o.header [] o.stands.front o.stands.gate o.stands.rest
-            (header_for d) is.records c o.stands.is_front o.stands.contents is.log in
+    front_begins o.header [] o.stands.front o.stands.gate o.stands.rest
+    (header_for d) is.records c o.stands.is_front o.stands.contents is.log in
     o.other d.number d.store.capacity is.lead.number_fits is.lead.capacity_fits begins.0
 
 some_none : (d : DriveState) → Some d ≡ None → ⊥
@@ -53,17 +53,17 @@ no_change_there : (keys : List DriveKey) (c : List ℕ) (at : ℕ) (d : DriveSta
     d.keys ≡ keys → ⊥
 no_change_there keys c at d n is same =
     let begins =
-        front_begins (header_for n.drive) (n.records ++ n.bytes ∷ []) n.behind.front n.behind.gate n.behind.rest
-            (header_for d) is.records c n.behind.is_front n.behind.contents is.log in
+    front_begins (header_for n.drive) (n.records ++ n.bytes ∷ []) n.behind.front n.behind.gate n.behind.rest
+    (header_for d) is.records c n.behind.is_front n.behind.contents is.log in
     let made = made_alike n.drive d n.lead.number_fits is.lead.number_fits n.lead.capacity_fits is.lead.capacity_fits
-        (n.same ∙ sym same) begins.0 in
+    (n.same ∙ sym same) begins.0 in
     some_none d (sym is.lead.drive
     ∙ ap (λ (records : List (List ℕ)). replayed (Some (emptied d)) records) begins.1.1
     ∙ replayed-then (Some (emptied d)) (n.records ++ n.bytes ∷ []) begins.1.0
     ∙ ap (λ (x : DriveState). replayed (replayed (Some x) (n.records ++ n.bytes ∷ [])) begins.1.0) (sym made)
     ∙ ap (λ (o : Option DriveState). replayed o begins.1.0)
-        (replayed-more (Some (emptied n.drive)) n.records n.bytes
-        ∙ ap (λ (o : Option DriveState). after_record_of o n.bytes) n.lead.drive ∙ n.none)
+    (replayed-more (Some (emptied n.drive)) n.records n.bytes
+    ∙ ap (λ (o : Option DriveState). after_record_of o n.bytes) n.lead.drive ∙ n.none)
     ∙ replayed-none begins.1.0)
 
 pub refused_is_none : (keys : List DriveKey) (c : List ℕ) (at : ℕ) → IsNoStoreAt keys c at → (d : DriveState) → IsStoreOf d c →

@@ -42,16 +42,16 @@ module _ {D : Type 0} (tells : D → Bool) (seen : D → List ℕ) (may_leave : 
       → after_record d bytes ≡ None → IsNoStoreAt keys c at
   no_change_at records d keys bytes disk next at gate then_at then_gate c lead same here seen_here behind seen_behind none =
       inr (inr (record {
-    records = records;
-    drive = d;
-    same = same;
-    lead = lead;
-    stand = stand (header_for d) records disk at gate c here seen_here;
-    bytes = bytes;
-    next = then_at;
-    behind = stand (header_for d) (records ++ bytes ∷ []) next then_at then_gate c behind seen_behind;
-    none = none;
-  }))
+        records = records;
+        drive = d;
+        same = same;
+        lead = lead;
+        stand = stand (header_for d) records disk at gate c here seen_here;
+        bytes = bytes;
+        next = then_at;
+        behind = stand (header_for d) (records ++ bytes ∷ []) next then_at then_gate c behind seen_behind;
+        none = none;
+      }))
 
   -- a header that is none
   pub other_header_at : (header : List ℕ) (keys : List DriveKey) (disk : D) (at gate : ℕ) (c : List ℕ) →
@@ -79,7 +79,7 @@ module _ {D : Type 0} (tells : D → Bool) (seen : D → List ℕ) (may_leave : 
   pub taken_more : (d e : DriveState) (bytes : List ℕ) (old new : LogReader D) → HasTaken tells seen may_leave d old →
       after_record d bytes ≡ Some e
       → ((header : List ℕ) (bodies : List (List ℕ)) → HasRead tells seen may_leave header bodies old →
-          HasRead tells seen may_leave header (bodies ++ bytes ∷ []) new)
+      HasRead tells seen may_leave header (bodies ++ bytes ∷ []) new)
       → HasTaken tells seen may_leave e new
   taken_more d e bytes old new t leads reads = record {
     records = t.records ++ bytes ∷ [];
@@ -92,26 +92,26 @@ module _ {D : Type 0} (tells : D → Bool) (seen : D → List ℕ) (may_leave : 
   -- none more
   pub taken_none : (d : DriveState) (old new : LogReader D) → HasTaken tells seen may_leave d old
       → ((header : List ℕ) (bodies : List (List ℕ)) → HasRead tells seen may_leave header bodies old →
-          HasRead tells seen may_leave header bodies new) → HasTaken tells seen may_leave d new
+      HasRead tells seen may_leave header bodies new) → HasTaken tells seen may_leave d new
   taken_none d old new t reads = record { records = t.records; lead = t.lead; read = reads (header_for d) t.records t.read }
 
   -- one that isn't performed
   pub not_taken : (d : DriveState) (keys : List DriveKey) (bytes : List ℕ) (old new : LogReader D) (c : List ℕ) (at : ℕ) →
       HasTaken tells seen may_leave d old → d.keys ≡ keys → after_record d bytes ≡ None
       → ((header : List ℕ) (bodies : List (List ℕ)) → HasRead tells seen may_leave header bodies old →
-          HasRead tells seen may_leave header (bodies ++ bytes ∷ []) new)
+      HasRead tells seen may_leave header (bodies ++ bytes ∷ []) new)
       → seen (read_disk old) ≡ c → seen (read_disk new) ≡ c → at ≡ place_of old → IsNoStoreAt keys c at
   not_taken d keys bytes old new c at t same none reads seen_old seen_new is =
       let behind = reads (header_for d) t.records t.read in
       subst (λ (n : ℕ). IsNoStoreAt keys c n) (sym is)
-          (no_change_at t.records d keys bytes (read_disk old)
-          (read_disk new) _ _ _ _ c t.lead same t.read.stands seen_old behind.stands seen_new none)
+      (no_change_at t.records d keys bytes (read_disk old)
+      (read_disk new) _ _ _ _ c t.lead same t.read.stands seen_old behind.stands seen_new none)
 
   -- where the log is broken
   pub broken_there : (d : DriveState) (keys : List DriveKey) (reader : LogReader D) (c : List ℕ) (at : ℕ) →
       HasTaken tells seen may_leave d reader
       → ((header : List ℕ) (bodies : List (List ℕ)) → HasRead tells seen may_leave header bodies reader →
-          IsBrokenAt (seen (read_disk reader)) at)
+      IsBrokenAt (seen (read_disk reader)) at)
       → seen (read_disk reader) ≡ c → IsNoStoreAt keys c at
   broken_there d keys reader c at t broken same =
       inl (subst (λ (s : List ℕ). IsBrokenAt s at) same (broken (header_for d) t.records t.read))
@@ -120,8 +120,8 @@ module _ {D : Type 0} (tells : D → Bool) (seen : D → List ℕ) (may_leave : 
   pub broken_told : (d : DriveState) (keys : List DriveKey) (reader : LogReader D) (c : List ℕ) (e : LogErr) (T : Type 0) →
       (T → HasTaken tells seen may_leave d reader)
       → NotALogSays
-          (λ at. (header : List ℕ) (bodies : List (List ℕ)) → HasRead tells seen may_leave header bodies reader →
-          IsBrokenAt (seen (read_disk reader)) at) e
+      (λ at. (header : List ℕ) (bodies : List (List ℕ)) → HasRead tells seen may_leave header bodies reader →
+      IsBrokenAt (seen (read_disk reader)) at) e
       → seen (read_disk reader) ≡ c → NotAStoreSays (λ at. T → IsNoStoreAt keys c at) (told_by e)
   broken_told d keys reader c (log.NotEmpty size) T taken says same = says
   broken_told d keys reader c (log.NotALog at) T taken says same = λ t. broken_there d keys reader c at (taken t) says same
@@ -131,5 +131,5 @@ module _ {D : Type 0} (tells : D → Bool) (seen : D → List ℕ) (may_leave : 
   -- a log that was read to its end is a store of the drive
   pub taken_kept : (d : DriveState) (reader : LogReader D) (log : GateLog D) → HasTaken tells seen may_leave d reader
       → ((header : List ℕ) (bodies : List (List ℕ)) → HasRead tells seen may_leave header bodies reader →
-          IsAtRest tells seen may_leave header bodies log) → KeepsDrive tells seen may_leave d log
+      IsAtRest tells seen may_leave header bodies log) → KeepsDrive tells seen may_leave d log
   taken_kept d reader log t rests = record { records = t.records; rest = rests (header_for d) t.records t.read; lead = t.lead }

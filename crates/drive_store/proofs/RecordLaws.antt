@@ -63,7 +63,7 @@ unfolding command_at
 by_capability bytes action (Ok capability) c e =
     let d = command_at action capability bytes in
     sym (ap (λ (x : Command). x.payload)
-        (sized_is (is_sized bytes d.action d.length (length d.payload)) (Length (length d.payload)) d c e))
+    (sized_is (is_sized bytes d.action d.length (length d.payload)) (Length (length d.payload)) d c e))
 by_capability bytes action (Err why) c e = absurd (cc e)
 
 by_stray : (bytes : List ℕ) (action : Action) (at : Option ℕ) (c : Command) → unless_reserved bytes action at ≡ Ok c →
@@ -157,7 +157,7 @@ pub no_change : (d : DriveState) (now : ℕ) (message : List ℕ) (c : Command) 
 no_change d now message c spelled other =
     rw spelled (stays_by (first_fault d now c) d c
     (λ e. ap (λ (s : StoreState). record d { store = s })
-        (same_effect c.action c.attribute d.store c other (ready d now c e).attribute)))
+    (same_effect c.action c.attribute d.store c other (ready d now c e).attribute)))
 
 -- ---- what a record leaves
 
@@ -231,7 +231,7 @@ has_format (r ∷ records) d e first is =
   where
     by : (o : Option DriveState) → after_record d r ≡ o → replayed o records ≡ Some e
         → ((f : DriveState) → FIRST_FORMAT ≤ f.least → replayed (Some f) records ≡ Some e → FIRST_FORMAT ≤ e.least) →
-            FIRST_FORMAT ≤ e.least
+        FIRST_FORMAT ≤ e.least
     by (Some f) one more rest = rest f (omega (arith, first, no_lower d f r one)) more
     by None one more rest = absurd (cc (sym (replayed-none records) ∙ more))
 

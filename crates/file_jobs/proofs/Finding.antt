@@ -48,7 +48,7 @@ renewed_not f now old i x front rest long l g e =
     let n : i < length now = omega (arith, l, long) in (
       take_more now i x n ∙ ap (λ zs. zs ++ (get_or now i x ∷ [])) front
           ∙ ap (λ z. map f (take i old) ++ (z ∷ []))
-              (get_or_from_slice_get now i x x g ∙ sym e ∙ ap f (same_at now old i x rest long l g)) ∙ sym (map_more f old i x l),
+          (get_or_from_slice_get now i x x g ∙ sym e ∙ ap f (same_at now old i x rest long l g)) ∙ sym (map_more f old i x l),
       rest_more now old i x rest long l,
     )
 

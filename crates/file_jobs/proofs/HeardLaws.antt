@@ -39,7 +39,7 @@ by_job g drive r o j a e f = rw e (rw f refl)
 pub is_heard : (g : Going) (drive : ℕ) (r : Reply) (o : Option Job) (j : Job) (place : ℕ) (x : Going) → o ≡ Some j →
     FoundIn drive r place o →
     ((a : Awaited) → slice_get j.awaited place ≡ Some a → x ≡ hears g j a r (hearing g.file.kept a r)) →
-        heard_in g drive r o ≡ Some x
+    heard_in g drive r o ≡ Some x
 is_heard g drive r None j place x e f h = absurd f
 is_heard g drive r (Some i) j place x e f h =
     let same : i ≡ j = cc e in
@@ -52,7 +52,7 @@ pub heard_job : (j i : Job) (a x y : Awaited) (r : Reply) (rest : List Awaited) 
     i ≡ record { kind = j.kind; work = j.work; awaited = rest; heard = heard } → x ≡ a → y ≡ a →
     rest ≡ others j.awaited y.command.nonce →
     heard ≡ j.heard ++ (record { component = x.component; payload = r.payload } ∷ []) →
-        i ≡ record j { awaited = others j.awaited a.command.nonce; heard = heard_with j a r }
+    i ≡ record j { awaited = others j.awaited a.command.nonce; heard = heard_with j a r }
 heard_job j i a x y r rest heard e ex ey er eh = e ∙ rw (er, eh, ex, ey) refl
 
 -- the command is answered, and the job goes on without it
@@ -65,5 +65,5 @@ answered_job g j i a r e = rw e refl
 pub renewed_job : (k : Kept) (m is : Effects) (s : Around) (j : Job) (a : Awaited) (cs : List Awaited) →
     is ≡ sends m (again_in_2 a m.nonce ∷ []) → cs ≡ map (renewed a (again_in_2 a m.nonce)) j.awaited →
     turned (Rests (record { kind = j.kind; work = j.work; awaited = cs; heard = j.heard }))
-        (record k { format = FORMAT_SHA256 }) is s ≡ renews (going k m s) j a
+    (record k { format = FORMAT_SHA256 }) is s ≡ renews (going k m s) j a
 renewed_job k m is s j a cs e f = rw (e, f) refl

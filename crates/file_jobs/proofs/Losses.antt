@@ -41,7 +41,7 @@ use Rattle.file_jobs.proofs.FitsLaws.{some_is}
 fetching_at : (g : Going) (kind : JobKind) (stage : Stage) (todo : List Piece) (short : List ℕ) (rest : List Awaited)
     (heard : List Heard) → stage ≡ Fetching →
     repairs kind g todo short ≡ loses g (record { kind = kind; work = work_at stage todo short; awaited = rest; heard = heard })
-        (work_at stage todo short) rest false
+    (work_at stage todo short) rest false
 unfolding loses
 fetching_at g kind Fetching todo short rest heard e = refl
 fetching_at g kind (Storing b) todo short rest heard e = absurd (cc e)
@@ -49,9 +49,9 @@ fetching_at g kind (Storing b) todo short rest heard e = absurd (cc e)
 storing_at : (g : Going) (kind : JobKind) (stage : Stage) (todo : List Piece) (short : List ℕ) (rest : List Awaited)
     (heard : List Heard) (b : Bool) → stage ≡ Storing b →
     waits_or_on g (record { kind = kind; work = work_at (broken stage) todo short; awaited = rest; heard = heard })
-        (work_at (broken stage) todo short) rest heard
+    (work_at (broken stage) todo short) rest heard
     ≡ loses g (record { kind = kind; work = work_at stage todo short; awaited = rest; heard = heard })
-        (work_at stage todo short) rest false
+    (work_at stage todo short) rest false
 unfolding loses
 storing_at g kind Fetching todo short rest heard b e = absurd (cc e)
 storing_at g kind (Storing c) todo short [] heard b e = refl
@@ -65,10 +65,10 @@ loses_fetching g kind r rest heard e = fetching_at g kind r.stage r.todo r.short
 pub loses_storing : (g : Going) (kind : JobKind) (r s : RepairState) (rest : List Awaited) (heard : List Heard) (b : Bool) →
     r.stage ≡ Storing b → s ≡ record r { stage = broken r.stage } →
     waits_or_on g (record { kind = kind; work = work_of s; awaited = rest; heard = heard })
-        (work_of s) rest heard ≡ loses_in_repair g kind r rest heard
+    (work_of s) rest heard ≡ loses_in_repair g kind r rest heard
 loses_storing g kind r s rest heard b e x =
     ap (λ (y : RepairState). waits_or_on g (record { kind = kind; work = work_of y; awaited = rest; heard = heard })
-        (work_of y) rest heard) x
+    (work_of y) rest heard) x
     ∙ storing_at g kind r.stage r.todo r.short rest heard b e
 
 -- ---- a WRITE for which there is no space
@@ -77,7 +77,7 @@ fills_at : (g : Going) (kind : JobKind) (work : Work) (awaited : List Awaited) (
     target_in work ≡ None →
     loses (noting (with_components g (lose_from (a.component ∷ []) g.file.kept.components 0)) (NoSpace a.component))
     (record { kind = kind; work = work; awaited = others awaited a.command.nonce; heard = heard }) work
-        (others awaited a.command.nonce) false
+    (others awaited a.command.nonce) false
     ≡ fills_up g (record { kind = kind; work = work; awaited = awaited; heard = heard }) a work
 unfolding loses
 fills_at g kind Creates awaited heard a f = refl
@@ -93,10 +93,10 @@ fills_at g kind (Checks todo t) awaited heard a f = refl
 pub fills_is : (kept : Kept) (m is : Effects) (s : Around) (j : Job) (a x y : Awaited) (cs : List Component)
     (rest : List Awaited) → target_in j.work ≡ None → x ≡ a → y ≡ a →
     cs ≡ lose_from (x.component ∷ []) kept.components 0 → rest ≡ others j.awaited y.command.nonce →
-        is ≡ noted m kept.number (NoSpace x.component) →
+    is ≡ noted m kept.number (NoSpace x.component) →
     loses (going (record kept { components = cs }) is s)
-        (record { kind = j.kind; work = j.work; awaited = rest; heard = j.heard }) j.work rest false ≡ fills_up
-            (going kept m s) j a j.work
+    (record { kind = j.kind; work = j.work; awaited = rest; heard = j.heard }) j.work rest false ≡ fills_up
+    (going kept m s) j a j.work
 fills_is kept m is s j a x y cs rest f ex ey ec er ei =
     rw (ec, er, ei, ex, ey) (fills_at (going kept m s) j.kind j.work j.awaited j.heard a f)
 
@@ -118,8 +118,14 @@ full_is g j a (Checks todo x) t f = absurd (cc f)
 pub sound_lost : (k : Kept) (cs : List Component) (lost : ℕ) → cs ≡ lose_from (lost ∷ []) k.components 0 → IsSound k →
     IsSound (record k { components = cs })
 sound_lost k cs lost e s =
-    record { few = rw (e, length_lost (lost ∷ []) k.components 0) s.few; whole =
-    rw (e, length_lost (lost ∷ []) k.components 0) s.whole; high = s.high; live = s.live; ended = s.ended }
+    record {
+      few = rw (e, length_lost (lost ∷ []) k.components 0) s.few;
+      whole =
+          rw (e, length_lost (lost ∷ []) k.components 0) s.whole;
+      high = s.high;
+      live = s.live;
+      ended = s.ended;
+    }
 
 -- ---- a drive is declared
 
@@ -140,10 +146,10 @@ declared_at g kind (Checks todo t) awaited heard rest drive f = refl
 
 pub declared_is : (g : Going) (j : Job) (rest others : List Awaited) (drive : ℕ) → target_in j.work ≡ None → rest ≡ others →
     loses g (record { kind = j.kind; work = j.work; awaited = rest; heard = j.heard }) j.work rest false ≡ loses g j j.work others
-        (is_target j.work drive)
+    (is_target j.work drive)
 declared_is g j rest others drive f e =
     declared_at g j.kind j.work j.awaited j.heard rest drive f
-        ∙ ap (λ (r : List Awaited). loses g j j.work r (is_target j.work drive)) e
+    ∙ ap (λ (r : List Awaited). loses g j j.work r (is_target j.work drive)) e
 
 -- the target stands on the drive
 pub gone_is : (g : Going) (j : Job) (work : Work) (rest : List Awaited) (t : Target) (drive : ℕ) → target_in work ≡ Some t →
@@ -185,7 +191,7 @@ pub redirected : (g : Going) (j : Job) (r : RebuildState) (t : Target) (rest : L
 redirected g j r t rest drive w e f =
     let same : r.target ≡ t = target_at r.stage r.target r.todo t (ap target_in (sym w) ∙ e) in
     refills_is g j r.stage r.target r.todo rest drive (rw same f)
-        ∙ ap (λ (x : Work). loses g j x rest (is_target x drive)) (sym w)
+    ∙ ap (λ (x : Work). loses g j x rest (is_target x drive)) (sym w)
 
 no_repair : (stage : Stage) (todo : List Piece) (short : List ℕ) (t : Target) → target_in (work_at stage todo short) ≡ Some t → ⊥
 no_repair Fetching todo short t e = cc e
@@ -212,14 +218,14 @@ pub declares_is : (f : FileState) (m : Effects) (ds : List Drive) (chosen : List
     (any_on drive f.kept.components || targets f.job drive) ≡ true →
     cs ≡ lose_on drive f.kept.components → f.job ≡ Some j →
     loses (going (record f.kept { components = cs }) m (record { spent = f.spent; job = f.job; drives = ds; chosen = chosen })) j
-        j.work (others_than drive j.awaited) (is_target j.work drive) ≡ declares (at f m ds chosen) drive
+    j.work (others_than drive j.awaited) (is_target j.work drive) ≡ declares (at f m ds chosen) drive
 unfolding declares
 declares_is f m ds chosen drive cs j a e o =
     in_job (going (record f.kept { components = cs }) m (record { spent = f.spent; job = f.job; drives = ds; chosen = chosen }))
-        drive f.job j o
+    drive f.job j o
     ∙ ap (λ (x : List Component). declared_in
-        (going (record f.kept { components = x }) m (record { spent = f.spent; job = f.job; drives = ds; chosen = chosen })) drive
-            f.job) e
+    (going (record f.kept { components = x }) m (record { spent = f.spent; job = f.job; drives = ds; chosen = chosen })) drive
+    f.job) e
     ∙ rw a refl
 
 pub lost_many : (new : List Component) (drive : ℕ) (old : List Component) → new ≡ lose_on drive old → length new ≡ length old
@@ -228,5 +234,11 @@ lost_many new drive old e = rw e (length_lost_on drive old)
 pub sound_off : (k : Kept) (cs : List Component) (drive : ℕ) → cs ≡ lose_on drive k.components → IsSound k →
     IsSound (record k { components = cs })
 sound_off k cs drive e s =
-    record { few = rw (e, length_lost_on drive k.components) s.few; whole =
-    rw (e, length_lost_on drive k.components) s.whole; high = s.high; live = s.live; ended = s.ended }
+    record {
+      few = rw (e, length_lost_on drive k.components) s.few;
+      whole =
+          rw (e, length_lost_on drive k.components) s.whole;
+      high = s.high;
+      live = s.live;
+      ended = s.ended;
+    }

@@ -23,12 +23,12 @@ lose_next lost k at cs = ap (λ (c : Component). c ∷ lose_from (lost ∷ []) c
 pub lost_more : (lost k i : ℕ) (left new cs : List Component) (d : Component) (missing : Bool) → i < length cs →
     missing ≡ ((get_or cs i d).missing || (k == lost)) →
     new ≡ left ++ (record (get_or cs i d) { missing = missing } ∷ []) →
-        left ++ lose_from (lost ∷ []) (drop i cs) k ≡ lose_from (lost ∷ []) cs 0 →
+    left ++ lose_from (lost ∷ []) (drop i cs) k ≡ lose_from (lost ∷ []) cs 0 →
     new ++ lose_from (lost ∷ []) (drop (i + 1) cs) (k + 1) ≡ lose_from (lost ∷ []) cs 0
 lost_more lost k i left new cs d missing l m n e =
     let at = get_or cs i d in
     ap (λ (xs : List Component). xs ++ lose_from (lost ∷ []) (drop (i + 1) cs) (k + 1))
-        (n ∙ ap (λ (b : Bool). left ++ (record (get_or cs i d) { missing = b } ∷ [])) m)
+    (n ∙ ap (λ (b : Bool). left ++ (record (get_or cs i d) { missing = b } ∷ [])) m)
     ∙ append_assoc left _ _
     ∙ ap (λ (xs : List Component). left ++ xs)
     (ap (λ (j : ℕ). record at { missing = at.missing || (k == lost) } ∷ lose_from (lost ∷ []) (drop j cs) (k + 1)) (add-one i)

@@ -18,9 +18,12 @@ pub tail_of : (l : DriveLoad) (ls : List DriveLoad) (d : Drive) (ds : List Drive
     (l.drive ≡ d.number) × (l.online ≡ d.online) × AreLoadsOf ls ds × (l.zone ≡ d.zone)
 tail_of l ls d ds e =
     let h : (l.drive, l.online, l.zone) ≡ (d.number, d.online, d.zone) = cc e in
-    let rest : AreLoadsOf ls ds = cc e in
-    (ap (λ (p : ℕ × Bool × Option ℕ). p.0) h, ap (λ (p : ℕ × Bool × Option ℕ). p.1) h, rest,
-        ap (λ (p : ℕ × Bool × Option ℕ). p.2) h)
+    let rest : AreLoadsOf ls ds = cc e in (
+      ap (λ (p : ℕ × Bool × Option ℕ). p.0) h,
+      ap (λ (p : ℕ × Bool × Option ℕ). p.1) h,
+      rest,
+      ap (λ (p : ℕ × Bool × Option ℕ). p.2) h,
+    )
 
 -- how many are online
 counted : (b : Bool) (n m : ℕ) → n ≡ cond b 1 0 + m → n ≡ 0 → (b ≡ false) × (m ≡ 0)
@@ -45,7 +48,7 @@ none_free cs (l ∷ ls) [] e z = absurd (cc e)
 none_free cs (l ∷ ls) (d ∷ ds) e z =
     let t = tail_of l ls d ds e in
     let s = counted (free_load cs l).online _ _
-        (sum_by-cons (λ (x : DriveLoad). cond x.online 1 0) (free_load cs l) (free_loads cs ls)) z in
+    (sum_by-cons (λ (x : DriveLoad). cond x.online 1 0) (free_load cs l) (free_loads cs ls)) z in
     let f : (d.online && not (stood_on d.number cs)) ≡ false = rw (← t.0, ← t.1) s.0 in
     kept_out cs d ds f ∙ none_free cs ls ds t.2 s.1
 

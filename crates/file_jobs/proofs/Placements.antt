@@ -25,11 +25,11 @@ use Rattle.file_jobs.specs.Steps.{Around, going, RestsOr, MakesOn}
 pub made_on : (k drive : ℕ) (kept : Kept) (was is : Effects) (turn : Turn) (cs : List Awaited) →
     cs ≡ sent_to kept Creating k drive was.object was.nonce ∷ [] →
     RestsOr cs Rebuilding (Placing (record { component = k; drive = drive; object = was.object }))
-        (record was { object = was.object + 1 }) turn is → MakesOn k drive kept was turn is
+    (record was { object = was.object + 1 }) turn is → MakesOn k drive kept was turn is
 made_on k drive kept was is turn cs e h = λ a.
     h kept a (over (going kept was a))
     ∙ ap (λ (xs : List Awaited). rests_or xs (going kept (record was { object = was.object + 1 }) a) Rebuilding
-        (Targets (record { component = k; drive = drive; object = was.object })) (over (going kept was a))) e
+    (Targets (record { component = k; drive = drive; object = was.object })) (over (going kept was a))) e
 
 -- ---- one component
 
@@ -68,16 +68,16 @@ pub is_present : (kept : Kept) (m : Effects) (a : Around) (k : ℕ) (at : Compon
     rebuilds (going kept m a) (drop (k + 1) kept.components) (k + 1) ≡ rebuilds (going kept m a) (drop k kept.components) k
 is_present kept m a k at l e f =
     sym (one_present (going kept m a) at (drop (k + 1) kept.components) k f)
-        ∙ ap (λ (cs : List Component). rebuilds (going kept m a) cs k) (sym (here kept.components k at l e))
+    ∙ ap (λ (cs : List Component). rebuilds (going kept m a) cs k) (sym (here kept.components k at l e))
 
 pub is_passed : (kept : Kept) (m : Effects) (a : Around) (k : ℕ) (at : Component) → k < length kept.components →
     slice_get kept.components k ≡ Some at → at.missing ≡ true →
     IsPick a.drives kept k None →
     rebuilds (going kept (noted m kept.number (NoDrive k)) a) (drop (k + 1) kept.components) (k + 1) ≡ rebuilds (going kept m a)
-        (drop k kept.components) k
+    (drop k kept.components) k
 is_passed kept m a k at l e t p =
     sym (one_passed (going kept m a) at (drop (k + 1) kept.components) k t p)
-        ∙ ap (λ (cs : List Component). rebuilds (going kept m a) cs k) (sym (here kept.components k at l e))
+    ∙ ap (λ (cs : List Component). rebuilds (going kept m a) cs k) (sym (here kept.components k at l e))
 
 pub is_made_on : (kept : Kept) (m : Effects) (a : Around) (k drive : ℕ) (at : Component) → k < length kept.components →
     slice_get kept.components k ≡ Some at → at.missing ≡ true →

@@ -32,7 +32,7 @@ rise_joined from r (x ∷ xs) a b c h = elim (cases_Bool (nat_lt x.end r.first))
     | inl u ↦ rw u (a, b, c, (less r.end x.first u, h.1, h.2, h.3))
     | inr u ↦ rw u (rise_joined from (record { first = min r.first x.first; end = max r.end x.end }) xs
         (le-min a h.0) (le_trans (min-le_left r.first x.first) (le_trans b (le-max_left r.end x.end))) (max-le c h.2)
-            (rise_from x.end from xs (le_trans h.0 h.1) h.3))
+        (rise_from x.end from xs (le_trans h.0 h.1) h.3))
   ])
 ]
 
@@ -51,7 +51,7 @@ pub few_stripes : (from : ℕ) (rs : List Stripes) → from ≤ MAX_FILE_SIZE �
 few_stripes from [] l h = omega (arith, l)
 few_stripes from (r ∷ rs) l h =
     rw (sum_by-cons (λ (s : Stripes). s.end - s.first) r rs)
-        (within from r.first r.end (count_stripes rs) MAX_FILE_SIZE h.0 h.1 (few_stripes r.end rs h.2 h.3))
+    (within from r.first r.end (count_stripes rs) MAX_FILE_SIZE h.0 h.1 (few_stripes r.end rs h.2 h.3))
 
 -- one more is counted
 pub counted : (count i : ℕ) (rs : List Stripes) (r : Stripes) (all : ℕ) → count + count_stripes (drop i rs) ≡ all →
@@ -71,7 +71,7 @@ pub fits_more : (count i : ℕ) (rs : List Stripes) (r : Stripes) → Rise 0 rs 
     count + ((get_or rs i r).end - (get_or rs i r).first) ≤ MAX_FILE_SIZE
 fits_more count i rs r h e l =
     below _ (count_stripes (drop (suc i) rs)) (count_stripes rs) MAX_FILE_SIZE (counted count i rs r (count_stripes rs) e l)
-        (few_stripes 0 rs (omega arith) h)
+    (few_stripes 0 rs (omega arith) h)
 
 -- the grants that a fence ended, and those that another ends
 pub all_inside : (gs hs : List Grant) → EndInside gs → EndInside hs → EndInside (gs ++ hs)
@@ -107,7 +107,7 @@ module _ (all : List Stripes) (r : Stripes) (rs : List Stripes) (i : ℕ) (d : S
       ∙ append_assoc all _ _
       ∙ ap (λ (ys : List Stripes). all ++ ys)
       (ap (λ (j : ℕ). x ∷ joined r (drop j rs)) (add-one i) ∙ sym (joined_less r x (drop (suc i) rs) t)
-          ∙ ap (joined r) (sym (drop-cons rs i d l)))
+      ∙ ap (joined r) (sym (drop-cons rs i d l)))
 
   pub joined_on : (a b : ℕ) → i < length rs → r.first ≤ (get_or rs i d).end → (get_or rs i d).first ≤ r.end →
       a ≡ min r.first (get_or rs i d).first → b ≡ max r.end (get_or rs i d).end →
@@ -128,7 +128,7 @@ module _ (all : List Stripes) (r : Stripes) (rs : List Stripes) (i : ℕ) (d : S
       ∙ append_assoc all _ _
       ∙ ap (λ (ys : List Stripes). all ++ ys)
       (ap (λ (ys : List Stripes). r ∷ ys) (e ∙ drop-cons rs i d l) ∙ sym (joined_before r (get_or rs i d) (drop (suc i) rs) g t)
-          ∙ ap (joined r) (sym (drop-cons rs i d l)))
+      ∙ ap (joined r) (sym (drop-cons rs i d l)))
 
 joined_none : (r : Stripes) → joined r [] ≡ r ∷ []
 unfolding joined

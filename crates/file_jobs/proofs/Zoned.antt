@@ -37,7 +37,7 @@ placed_alike (l ∷ ls) (d ∷ ds) e =
 
 one_online : (l : DriveLoad) (zone : Option ℕ) (rest : List ZoneLoad) →
     online_placed
-        (and_zoned l zone rest) ≡ (if l.online then and_in_zone l.drive zone (online_placed rest) else online_placed rest)
+    (and_zoned l zone rest) ≡ (if l.online then and_in_zone l.drive zone (online_placed rest) else online_placed rest)
 one_online l None rest = elim (cases_Bool l.online) [ inl t ↦ rw t refl | inr f ↦ rw f refl ]
 one_online l (Some z) rest = elim (cases_Bool l.online) [ inl t ↦ rw t refl | inr f ↦ rw f refl ]
 
@@ -90,7 +90,7 @@ and_assoc false b c = refl
 drive_taker : (cs : List Component) (has : Option ℕ → Bool) (d : Drive) (ds : List Drive) →
     map (λ e. e.number) (filter (λ e. has e.zone) (free_drives (d ∷ ds) cs))
     ≡ and_numbers (d.online && (not (stood_on d.number cs) && has d.zone)) d.number
-        (map (λ e. e.number) (filter (λ e. has e.zone) (free_drives ds cs)))
+    (map (λ e. e.number) (filter (λ e. has e.zone) (free_drives ds cs)))
 unfolding and_numbers
 drive_taker cs has d ds = rw (← and_assoc d.online (not (stood_on d.number cs)) (has d.zone))
     (elim (cases_Bool (d.online && not (stood_on d.number cs))) [
@@ -102,7 +102,7 @@ takers_alike : (cs : List Component) (free room : ℕ → Bool) (has : Option �
     AreLoadsOf loads ds →
     ((n : ℕ) → free n ≡ not (stood_on n cs)) → has None ≡ false → ((z : ℕ) → has (Some z) ≡ room z) →
     map (λ l. l.drive) (filter (may_take free room) (zone_loads loads)) ≡ map (λ d. d.number)
-        (filter (λ d. has d.zone) (free_drives ds cs))
+    (filter (λ d. has d.zone) (free_drives ds cs))
 takers_alike cs free room has [] [] e f none some = refl
 takers_alike cs free room has [] (d ∷ ds) e f none some = absurd (cc e)
 takers_alike cs free room has (l ∷ ls) [] e f none some = absurd (cc e)
@@ -163,13 +163,13 @@ stood_alike n (at ∷ cs) k = elim (cases_Bool (at.drive == n)) [
 
 pub picked_taker : (f : Kept) (k : ℕ) (loads : List DriveLoad) (ds : List Drive) → AreLoadsOf loads ds →
     IsAmong (takers_by true ds f k)
-        (option_map (λ l. l.drive) (pick_of (ask_of f.map) k (holders_from f.components 0) (zone_loads loads)))
+    (option_map (λ l. l.drive) (pick_of (ask_of f.map) k (holders_from f.components 0) (zone_loads loads)))
 picked_taker f k loads ds e =
     let hs = holders_from f.components 0 in
     let free = λ (n : ℕ). is_free n hs in
     let room = λ (z : ℕ). zone_takes (ask_of f.map) (all_placed (zone_loads loads)) k z hs in
     among_alike (pick_of (ask_of f.map) k hs (zone_loads loads)) (filter (may_take free room) (zone_loads loads))
-        (takers_by true ds f k)
+    (takers_by true ds f k)
     (first_in (filter (may_take free room) (zone_loads loads)))
     (takers_alike f.components free room (zone_has_room ds f k) loads ds e (λ n. ap not (stood_alike n f.components 0)) refl
     (λ z. ap (λ (ps : List InZone). zone_takes (ask_of f.map) ps k z hs) (sym (placed_alike loads ds e))))

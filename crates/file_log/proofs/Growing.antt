@@ -25,7 +25,7 @@ pub accepted_fits : (log : List Entry) (i : ℕ) (e : Entry) → i < length log 
     Fits (candidates (take i log)) (get_or log i e)
 accepted_fits log i e inside h =
     let whole : log ≡ take i log ++ (get_or log i e ∷ drop (i + 1) log) =
-        sym (take-append-drop i log)
-        ∙ ap (λ (x : List Entry). take i log ++ x)
-            (drop-cons log i e inside ∙ ap (λ j. get_or log i e ∷ drop j log) (sym (add-one i))) in
+    sym (take-append-drop i log)
+    ∙ ap (λ (x : List Entry). take i log ++ x)
+    (drop-cons log i e inside ∙ ap (λ j. get_or log i e ∷ drop j log) (sym (add-one i))) in
     fits_behind new_file (take i log) (get_or log i e) (drop (i + 1) log) (subst Accepts whole h)

@@ -77,7 +77,7 @@ raised_with sizes top n (s, inside, below) = (
     | inl old ↦ Contains-append_left sizes (map (max top) sizes) n old
     | inr new ↦ let is : max top s ≡ n = omega (arith, below, new) in
         Contains-append_right sizes (map (max top) sizes) n
-            (subst (λ m. Contains (map (max top) sizes) m) is (mapped (max top) sizes s inside))
+        (subst (λ m. Contains (map (max top) sizes) m) is (mapped (max top) sizes s inside))
   ],
   λ h. elim (end_or_old sizes top n h) [
     | inl old ↦ Contains-append_left sizes (top ∷ []) n old

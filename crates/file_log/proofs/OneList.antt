@@ -27,4 +27,4 @@ plain c old (Write offset bytes acknowledged ∷ es) h a k =
 plain c old (Read offset len None ∷ es) h a k = plain (after_entry c (Read offset len None)) old es h a k.1
 plain c old (Read offset len (Some answer) ∷ es) h a k =
     plain (after_entry c (Read offset len (Some answer))) old es
-        (after_answer c old offset len answer h (range_found c old offset len answer h k.0)) a k.1
+    (after_answer c old offset len answer h (range_found c old offset len answer h k.0)) a k.1

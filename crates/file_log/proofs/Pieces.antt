@@ -17,7 +17,7 @@ byte_beside offset piece i p inside apart =
         | inl old ↦
             byte_inside offset (take (i + 1) piece) p from (omega (arith, old, more)) ∙
             ap Some (get_or-take (i + 1) piece (p - offset) 0 (omega (arith, old)) ∙ sym (get_or-take i piece (p - offset) 0 old))
-                ∙
+            ∙
             sym (byte_inside offset (take i piece) p from (omega (arith, old, less)))
         | inr past ↦ elim (cases_eq p (offset + i)) [
           | inl here ↦ absurd (apart here)
@@ -46,7 +46,7 @@ byte_more offset piece i p settles old middle new inside before step =
           let none = byte_behind offset (take i piece) p from (omega (arith, less, here)) in
           let place : p - offset ≡ i = omega (arith, here) in
           let some = byte_inside offset (take (i + 1) piece) p from (omega (arith, more, here))
-              ∙ ap Some (get_or-take (i + 1) piece (p - offset) 0 (omega (arith, place)) ∙ ap (λ k. get_or piece k 0) place) in
+          ∙ ap Some (get_or-take (i + 1) piece (p - offset) 0 (omega (arith, place)) ∙ ap (λ k. get_or piece k 0) place) in
           let was : middle ≡ old = before ∙ ap (λ b. taken_byte settles b old) none ∙ none_taken settles old in
           step ∙ ap (λ b. cond b (taken_byte settles (Some (get_or piece i 0)) middle) middle) (eq-eqb p (offset + i) here) ∙
           ap (λ (x : List ℕ). taken_byte settles (Some (get_or piece i 0)) x) was ∙ ap (λ b. taken_byte settles b old) (sym some)

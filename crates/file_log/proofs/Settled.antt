@@ -31,9 +31,9 @@ settled_over old offset new p =
         | inl inside ↦
             let place : offset + (p - offset) ≡ p = omega (arith, from) in
             rw (byte_inside offset new p (omega (arith, from)) inside)
-                (ap (λ v. v ∷ [])
-                (sym (inside_overwritten old offset new (p - offset) inside)
-                ∙ ap (λ x. get_or (overwritten old offset new) x 0) place))
+            (ap (λ v. v ∷ [])
+            (sym (inside_overwritten old offset new (p - offset) inside)
+            ∙ ap (λ x. get_or (overwritten old offset new) x 0) place))
         | inr behind ↦ rw (byte_behind offset new p (omega (arith, from)) (omega (arith, behind)))
             (ap (λ v. v ∷ []) (sym (behind_overwritten old offset new p (omega (arith, from, behind)))))
       ]
@@ -56,7 +56,7 @@ settled_again bytes offset answer p same =
         | inl inside ↦
             let place : offset + (p - offset) ≡ p = omega (arith, from) in
             rw (byte_inside offset answer p (omega (arith, from)) inside)
-                (ap (λ v. v ∷ []) (same (p - offset) inside ∙ ap (λ x. get_or bytes x 0) place))
+            (ap (λ v. v ∷ []) (same (p - offset) inside ∙ ap (λ x. get_or bytes x 0) place))
         | inr behind ↦ rw (byte_behind offset answer p (omega (arith, from)) (omega (arith, behind))) refl
       ]
     ]

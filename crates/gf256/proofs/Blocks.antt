@@ -31,7 +31,7 @@ block_stored f old now new at end lane e before store lanes = record {
 pub sum_lane : (at k : ℕ) (g : ℕ → ℕ) (old now a b total : List ℕ) → k < 64 →
     HasLanes total (λ k. bit_xor (get_or a k 0) (get_or b k 0))
     → HasLanes a (λ k. get_or now (at + k) 0) → get_or b k 0 ≡ g (at + k) → get_or now (at + k) 0 ≡ get_or old (at + k) 0 →
-        get_or total k 0 ≡ bit_xor (get_or old (at + k) 0) (g (at + k))
+    get_or total k 0 ≡ bit_xor (get_or old (at + k) 0) (g (at + k))
 sum_lane at k g old now a b total lt sums loads is_b same =
     sums.each k lt ∙ ap (λ (n : ℕ). bit_xor n (get_or b k 0)) (loads.each k lt ∙ same) ∙ ap (bit_xor (get_or old (at + k) 0)) is_b
 
@@ -41,5 +41,5 @@ pub all_reached : (f : ℕ → ℕ → ℕ) (src old new : List ℕ) (end : ℕ)
 all_reached f src old new end same all h =
     let long : length (zip2 f old src) ≡ length old = length-zip2 f old src same in
     same_number_lists new (zip2 f old src) (h.long ∙ sym long)
-        (λ k lt. h.inside k (omega (arith, h.long))
-        ∙ sym (get_or-zip2 f old src k 0 0 0 (omega (arith, h.long)) (omega (arith, h.long))))
+    (λ k lt. h.inside k (omega (arith, h.long))
+    ∙ sym (get_or-zip2 f old src k 0 0 0 (omega (arith, h.long)) (omega (arith, h.long))))

@@ -64,14 +64,14 @@ pub exponent_at : (a : ℕ) → 0 < a → a < 256 → two_to (get_or EXPONENTS a
 exponent_at zero pos lt = absurd (omega arith)
 exponent_at (suc a) pos lt =
     let there = eqb-true _ _
-        (at_each (λ a. nat_eq (get_or POWERS (get_or EXPONENTS (suc a) 0) 0) (suc a)) 255 a exponents (omega arith)) in
+    (at_each (λ a. nat_eq (get_or POWERS (get_or EXPONENTS (suc a) 0) 0) (suc a)) 255 a exponents (omega arith)) in
     rw (power_at _ (exponent_lt (suc a) lt)) at there
 
 -- the exponent of a power
 pub exponent_of_power : (n : ℕ) → n < 255 → get_or EXPONENTS (two_to n) 0 ≡ n
 exponent_of_power n lt =
     rw (power_at n lt) at
-        (eqb-true _ _ (at_each (λ n. nat_eq (get_or EXPONENTS (get_or POWERS n 0) 0) n) 255 n exponents_back lt))
+    (eqb-true _ _ (at_each (λ n. nat_eq (get_or EXPONENTS (get_or POWERS n 0) 0) n) 255 n exponents_back lt))
 
 positive : all_under (λ n. nat_lt 0 (get_or POWERS n 0)) 255 ≡ true
 positive = refl

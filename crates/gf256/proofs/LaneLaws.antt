@@ -26,8 +26,11 @@ pub HasLanes-splat : (f : ℕ → ℕ → ℕ) (xs : List ℕ) (y : ℕ) → len
     HasLanes (zip2 f xs (replicate 64 y)) (λ k. f (get_or xs k 0) y)
 HasLanes-splat f xs y a =
     let both = HasLanes-zip2 f xs (replicate 64 y) a (length-replicate 64 y) in
-    record { long = both.long; each =
-        λ k lt. both.each k lt ∙ ap (λ (s : ℕ). f (get_or xs k 0) s) (get_or-replicate 64 k y 0 lt) }
+    record {
+      long = both.long;
+      each =
+          λ k lt. both.each k lt ∙ ap (λ (s : ℕ). f (get_or xs k 0) s) (get_or-replicate 64 k y 0 lt);
+    }
 
 pub HasLanes-same : (v : List ℕ) (f g : ℕ → ℕ) → ((k : ℕ) → k < 64 → f k ≡ g k) → HasLanes v f → HasLanes v g
 HasLanes-same v f g same h = record { long = h.long; each = λ k lt. h.each k lt ∙ same k lt }
@@ -38,7 +41,7 @@ low_lanes xs a = HasLanes-same _ _ _ (λ k lt. and_mask (get_or xs k 0) 4) (HasL
 pub looked_up_ok : (at : List ℕ) → length at ≡ 64 → ((k : ℕ) → k < 64 → get_or at k 0 < 16) → SwzOk w8 16 64 0 at
 looked_up_ok at a small =
     SwzOk-from_below w8 16 4 64 0 at refl (omega arith)
-        (Each1-from_get_or (λ (j : ℕ). j < 16) at 0 (λ i lt. small i (omega arith)))
+    (Each1-from_get_or (λ (j : ℕ). j < 16) at 0 (λ i lt. small i (omega arith)))
 
 pub looked_up_lanes : (table at : List ℕ) → length at ≡ 64 → ((k : ℕ) → k < 64 → get_or at k 0 < 16) →
     HasLanes (swz_l w8 16 table 0 at) (λ k. get_or table (16 * (k / 16) + get_or at k 0) 0)
@@ -60,24 +63,24 @@ stored at old v long room = record {
 pub lane : (c k x : ℕ) (t : ProductTables) (l h bl bh : List ℕ) → k < 64 → x < 256 → HasProducts c t
     → get_or l k 0 ≡ x % 16 → get_or h k 0 ≡ x / 16
     → get_or bl k 0 ≡ get_or t.low (16 * (k / 16) + get_or l k 0) 0 →
-        get_or bh k 0 ≡ get_or t.high (16 * (k / 16) + get_or h k 0) 0
+    get_or bh k 0 ≡ get_or t.high (16 * (k / 16) + get_or h k 0) 0
     → bit_xor (get_or bl k 0) (get_or bh k 0) ≡ product c x
 lane c k x t l h bl bh lt byte tables l-is h-is is_bl is_bh =
     let l-at : (16 * (k / 16) + x % 16) % 16 ≡ x % 16 = omega arith in
     let h-at : (16 * (k / 16) + x / 16) % 16 ≡ x / 16 = omega arith in
     let bl-is : get_or bl k 0 ≡ product c (x % 16) =
-        is_bl ∙ ap (λ (n : ℕ). get_or t.low (16 * (k / 16) + n) 0) l-is ∙ tables.low.each (16 * (k / 16) + x % 16) (omega arith)
-        ∙ ap (product c) l-at in
+    is_bl ∙ ap (λ (n : ℕ). get_or t.low (16 * (k / 16) + n) 0) l-is ∙ tables.low.each (16 * (k / 16) + x % 16) (omega arith)
+    ∙ ap (product c) l-at in
     let bh-is : get_or bh k 0 ≡ product c (16 * (x / 16)) =
-        is_bh ∙ ap (λ (n : ℕ). get_or t.high (16 * (k / 16) + n) 0) h-is ∙ tables.high.each (16 * (k / 16) + x / 16) (omega arith)
-        ∙ ap (λ (n : ℕ). product c (16 * n)) h-at in
+    is_bh ∙ ap (λ (n : ℕ). get_or t.high (16 * (k / 16) + n) 0) h-is ∙ tables.high.each (16 * (k / 16) + x / 16) (omega arith)
+    ∙ ap (λ (n : ℕ). product c (16 * n)) h-at in
     rw (bl-is, bh-is) (of_halves c x)
 
 -- twice each lane: the comparison picks the lanes that are reduced
 pub doubled_lanes : (v : List ℕ) → length v ≡ 64 → ((k : ℕ) → k < 64 → get_or v k 0 < 256)
     → HasLanes (zip2 bit_xor (zip2 (λ a b. (a + b) % 256) v v)
-        (sel_l (map (top 7) (zip2 (λ a b. cond (nat_le a b) 255 0) (replicate 64 128) v)) (replicate 64 29) (replicate 64 0)))
-        (λ k. product 2 (get_or v k 0))
+    (sel_l (map (top 7) (zip2 (λ a b. cond (nat_le a b) 255 0) (replicate 64 128) v)) (replicate 64 29) (replicate 64 0)))
+    (λ k. product 2 (get_or v k 0))
 doubled_lanes v long small =
     let tops : List Bool = zip2 nat_le (replicate 64 128) v in
     let tops_long : length tops ≡ 64 = length-zip2 nat_le (replicate 64 128) v (sym long) in
@@ -89,12 +92,12 @@ doubled_lanes v long small =
       long = whole.long;
       each = λ k lt.
           let test : get_or tops k false ≡ nat_le 128 (get_or v k 0) =
-              get_or-zip2 nat_le (replicate 64 128) v k 0 0 false (omega arith) (omega arith)
-              ∙ ap (λ (n : ℕ). nat_le n (get_or v k 0)) (get_or-replicate 64 k 128 0 lt) in
+          get_or-zip2 nat_le (replicate 64 128) v k 0 0 false (omega arith) (omega arith)
+          ∙ ap (λ (n : ℕ). nat_le n (get_or v k 0)) (get_or-replicate 64 k 128 0 lt) in
           let pick : get_or picked k 0 ≡ cond (nat_le 128 (get_or v k 0)) 29 0 =
           get_or-sel_l tops (replicate 64 29) (replicate 64 0) k 0 (omega arith) (omega arith) (omega arith)
-              ∙ rw (test, get_or-replicate {A = ℕ} 64 k 29 0 lt, get_or-replicate {A = ℕ} 64 k 0 0 lt) refl in
+          ∙ rw (test, get_or-replicate {A = ℕ} 64 k 29 0 lt, get_or-replicate {A = ℕ} 64 k 0 0 lt) refl in
           whole.each k lt
-              ∙ rw (twice.each k lt, pick)
-                  (wrapping_double (get_or v k 0) (small k lt) ∙ sym (two_product (get_or v k 0) (small k lt)));
+          ∙ rw (twice.each k lt, pick)
+          (wrapping_double (get_or v k 0) (small k lt) ∙ sym (two_product (get_or v k 0) (small k lt)));
     })

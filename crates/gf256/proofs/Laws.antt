@@ -63,9 +63,12 @@ zero_or_power a lt = elim (cases_lt 0 a) [
 power_assoc : (i b c : ℕ) → b < 256 → product (product (two_to i) b) c ≡ product (two_to i) (product b c)
 power_assoc zero b c lt = rw (two_to_zero, one_product b lt) (sym (one_product (product b c) (product_lt b c lt)))
 power_assoc (suc i) b c lt =
-    rw (two_to_suc i, double_product (two_to i) b (two_to_lt i),
-        double_product (product (two_to i) b) c (product_lt (two_to i) b (two_to_lt i)),
-        double_product (two_to i) (product b c) (two_to_lt i))
+    rw (
+      two_to_suc i,
+      double_product (two_to i) b (two_to_lt i),
+      double_product (product (two_to i) b) c (product_lt (two_to i) b (two_to_lt i)),
+      double_product (two_to i) (product b c) (two_to_lt i),
+    )
     (ap double (power_assoc i b c lt))
 
 pub product_assoc : (a b c : ℕ) → a < 256 → b < 256 → product (product a b) c ≡ product a (product b c)
@@ -88,8 +91,12 @@ product_comm a b a_lt b_lt = elim (zero_or_power a a_lt) [
 -- the sum of products with one element is the product of the sum
 pub xor-product : (a b c : ℕ) → a < 256 → b < 256 → c < 256 → product (bit_xor a b) c ≡ bit_xor (product a c) (product b c)
 xor-product a b c a_lt b_lt c_lt =
-    rw (product_comm (bit_xor a b) c (xor_of_8 a b a_lt b_lt) c_lt, product-xor c a b, product_comm c a c_lt a_lt,
-        product_comm c b c_lt b_lt) refl
+    rw (
+      product_comm (bit_xor a b) c (xor_of_8 a b a_lt b_lt) c_lt,
+      product-xor c a b,
+      product_comm c a c_lt a_lt,
+      product_comm c b c_lt b_lt,
+    ) refl
 
 -- each element but 0 has an inverse, a power of 2
 pub inverse_power : (a : ℕ) → 0 < a → a < 256 → product a (two_to ((255 - get_or EXPONENTS a 0) % 255)) ≡ 1
@@ -97,7 +104,7 @@ inverse_power a pos lt =
     let e : get_or EXPONENTS a 0 + (255 - get_or EXPONENTS a 0) ≡ 255 = omega (arith, exponent_lt a lt) in
     rw (two_to_mod (255 - get_or EXPONENTS a 0))
     (ap (λ (b : ℕ). product b (two_to (255 - get_or EXPONENTS a 0))) (sym (exponent_at a pos lt))
-        ∙ two_to_add (get_or EXPONENTS a 0) (255 - get_or EXPONENTS a 0) ∙ ap two_to e ∙ whole_turn)
+    ∙ two_to_add (get_or EXPONENTS a 0) (255 - get_or EXPONENTS a 0) ∙ ap two_to e ∙ whole_turn)
 
 -- a product with an element is undone by its inverse
 pub inverse_undoes : (a b c : ℕ) → a < 256 → b < 256 → c < 256 → product a b ≡ 1 → product b (product a c) ≡ c
@@ -109,7 +116,7 @@ pub product_of_exponents : (a b : ℕ) → 0 < a → 0 < b → a < 256 → b < 2
     product a b ≡ two_to (get_or EXPONENTS a 0 + get_or EXPONENTS b 0)
 product_of_exponents a b a_pos b_pos a_lt b_lt =
     sym (sym (two_to_add (get_or EXPONENTS a 0) (get_or EXPONENTS b 0))
-        ∙ rw (exponent_at a a_pos a_lt, exponent_at b b_pos b_lt) refl)
+    ∙ rw (exponent_at a a_pos a_lt, exponent_at b b_pos b_lt) refl)
 
 -- twice an element, by 2 on the left
 pub two_product : (a : ℕ) → a < 256 → product 2 a ≡ double a

@@ -60,8 +60,14 @@ double_is a lt = elim (cases_lt a 128) [
 pub double-xor : (a b : ℕ) → a < 256 → b < 256 → double (bit_xor a b) ≡ bit_xor (double a) (double b)
 double-xor a b a_lt b_lt =
     let top : bit_xor a b / 128 ≡ bit_xor (a / 128) (b / 128) = xor_shr a b 7 in
-    rw (double_is (bit_xor a b) (xor_of_8 a b a_lt b_lt), double_is a a_lt, double_is b b_lt, xor_twice a b, top,
-        where_odd-xor (a / 128) (b / 128) 0x11d)
+    rw (
+      double_is (bit_xor a b) (xor_of_8 a b a_lt b_lt),
+      double_is a a_lt,
+      double_is b b_lt,
+      xor_twice a b,
+      top,
+      where_odd-xor (a / 128) (b / 128) 0x11d,
+    )
     (xor_swap (2 * a) (2 * b) (where_odd (a / 128) 0x11d) (where_odd (b / 128) 0x11d))
 
 double_zero : double 0 ≡ 0
@@ -82,7 +88,7 @@ unfolding product_bits
 product_bits_lt zero a b lt = omega arith
 product_bits_lt (suc n) a b lt =
     xor_of_8 (where_odd b a) (product_bits n (double a) (b / 2)) (where_odd_lt b a lt)
-        (product_bits_lt n (double a) (b / 2) (double_lt a lt))
+    (product_bits_lt n (double a) (b / 2) (double_lt a lt))
 
 -- a product is an element
 pub product_lt : (a b : ℕ) → a < 256 → product a b < 256
@@ -95,7 +101,7 @@ product_bits-double zero a b lt = sym double_zero
 product_bits-double (suc n) a b lt =
     rw (where_odd-double b a, product_bits-double n (double a) (b / 2) (double_lt a lt))
     (sym (double-xor (where_odd b a) (product_bits n (double a) (b / 2)) (where_odd_lt b a lt)
-        (product_bits_lt n (double a) (b / 2) (double_lt a lt))))
+    (product_bits_lt n (double a) (b / 2) (double_lt a lt))))
 
 pub double_product : (a b : ℕ) → a < 256 → product (double a) b ≡ double (product a b)
 unfolding product

@@ -39,7 +39,7 @@ no_reason None None e = (refl, refl)
 pub apart_added : (gs : List Grant) (g : Grant) → Apart gs → refusal gs g ≡ None → Apart (gs ++ (g ∷ []))
 apart_added gs g h e =
     apart_more gs g h (no_reason (find (conflicts g) gs) (grant_of gs g.client) e).0
-        (no_reason (find (conflicts g) gs) (grant_of gs g.client) e).1
+    (no_reason (find (conflicts g) gs) (grant_of gs g.client) e).1
 
 -- ---- the place of a number
 

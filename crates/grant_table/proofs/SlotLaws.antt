@@ -22,7 +22,7 @@ new_after : (last n : ℕ) → without_answer (admit_after last n) ≡ New → n
 unfolding admit_after
 new_after last n e =
     elim (cases_Bool ((n == last + 1) && nat_lt last GREATEST_SEQUENCE))
-        [ inl t ↦ grind (arith, nat_tests, t) | inr z ↦ absurd (cc (rw z at e)) ]
+    [ inl t ↦ grind (arith, nat_tests, t) | inr z ↦ absurd (cc (rw z at e)) ]
 
 -- a new request has the number behind the last
 new_is_next : (last n : ℕ) → admitted last n ≡ New → n ≡ last + 1
@@ -61,6 +61,6 @@ still s (r ∷ rs) e = still_by s r rs (λ t. still t rs) (admitted s.last r.seq
 pub alike : AnswerRepeatsAlike
 alike s r rs new none =
     let at : after_all (after s r) rs ≡ record { last = r.sequence; kept = r.answer } =
-        still (after s r) rs none ∙ ap (by_admit s r) new in
+    still (after s r) rs none ∙ ap (by_admit s r) new in
     let some : 0 < r.sequence = omega (arith, new_is_next s.last r.sequence new) in
     rw at (record { again = last_again r.sequence some; kept = refl })

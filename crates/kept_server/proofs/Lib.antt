@@ -1,3 +1,1 @@
-pub mod SameLaws
-pub mod RestoreLaws
-pub mod DifferenceLaws
+mod RestoreLaws

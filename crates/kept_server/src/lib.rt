@@ -4,10 +4,7 @@
 //! what is kept after the call of what was kept before. It is made of entries again by a [`Restoration`].
 #![tactic(auto)]
 
-mod differences;
-mod file_differences;
 mod restoration;
-mod sameness;
 mod server;
 
 pub use restoration::{Restoration, RestoreErr, restore};

@@ -56,7 +56,8 @@ get_args_found i v j bytes e =
     took f1 _ (v, j) u64_law fb fr (λ g g1 gf ge gb gr.
     took g1 _ (v, j) stateid_law gb gr (λ h h1 hf he hb hr.
     took h1 _ (v, j) u32_law hb hr (λ k k1 kf ke kb kr.
-    subst (λ (p : LayoutGetArgs × Rest). GetArgsFits p.0 × (i.left ≡ get_args_item p.0 ++ p.1.left)) (ok_is _ (v, j) kr) (
+    subst (λ (p : LayoutGetArgs × Rest). GetArgsFits p.0 × (i.left ≡ get_args_item p.0 ++ p.1.left))
+    (ok_is _ (v, j) kr) (
       record { iomode = cf; offset = df; «length» = ff; minlength = gf; stateid = hf; maxcount = kf },
       gathered (bool_item a ∷ layout_type_item ∷ u32_item c ∷ u64_item d ∷ u64_item f ∷ u64_item g ∷ stateid_item h ∷ u32_item k
           ∷ []) i.left k1.left
@@ -98,8 +99,8 @@ commit_args_found i v j bytes e =
     took f1 _ (v, j) optional_time_law fb fr (λ g g1 gf ge gb gr.
     took g1 _ (v, j) layout_type_law gb gr (λ h h1 hf he hb hr.
     took h1 _ (v, j) body_law hb hr (λ k k1 kf ke kb kr.
-    subst (λ (p : LayoutCommitArgs × Rest). CommitArgsFits p.0 × (i.left ≡ commit_args_item p.0 ++ p.1.left)) (ok_is _ (v, j) kr)
-        (
+    subst (λ (p : LayoutCommitArgs × Rest). CommitArgsFits p.0 × (i.left ≡ commit_args_item p.0 ++ p.1.left))
+    (ok_is _ (v, j) kr) (
       record { offset = af; «length» = bf; stateid = df; last_write_offset = ff; time = gf; body = kf },
       gathered (u64_item a ∷ u64_item b ∷ bool_item c ∷ stateid_item d ∷ optional_item u64_item f ∷ optional_item time_item g
           ∷ layout_type_item ∷ opaque_item k ∷ []) i.left k1.left
@@ -140,8 +141,8 @@ return_args_found i v j bytes e =
     took f1 _ (v, j) u64_law fb fr (λ g g1 gf ge gb gr.
     took g1 _ (v, j) stateid_law gb gr (λ h h1 hf he hb hr.
     took h1 _ (v, j) body_law hb hr (λ k k1 kf ke kb kr.
-    subst (λ (p : LayoutReturnArgs × Rest). ReturnArgsFits p.0 × (i.left ≡ return_args_item p.0 ++ p.1.left)) (ok_is _ (v, j) kr)
-        (
+    subst (λ (p : LayoutReturnArgs × Rest). ReturnArgsFits p.0 × (i.left ≡ return_args_item p.0 ++ p.1.left))
+    (ok_is _ (v, j) kr) (
       record { iomode = cf; offset = ff; «length» = gf; stateid = hf; body = kf },
       gathered (bool_item a ∷ layout_type_item ∷ u32_item c ∷ file_kind_item ∷ u64_item f ∷ u64_item g ∷ stateid_item h
           ∷ opaque_item k ∷ []) i.left k1.left
@@ -216,8 +217,8 @@ recall_args_found i v j bytes e =
     took f1 _ (v, j) u64_law fb fr (λ g g1 gf ge gb gr.
     took g1 _ (v, j) u64_law gb gr (λ h h1 hf he hb hr.
     took h1 _ (v, j) stateid_law hb hr (λ k k1 kf ke kb kr.
-    subst (λ (p : LayoutRecallArgs × Rest). RecallArgsFits p.0 × (i.left ≡ recall_args_item p.0 ++ p.1.left)) (ok_is _ (v, j) kr)
-        (
+    subst (λ (p : LayoutRecallArgs × Rest). RecallArgsFits p.0 × (i.left ≡ recall_args_item p.0 ++ p.1.left))
+    (ok_is _ (v, j) kr) (
       record { iomode = bf; file = ff; offset = gf; «length» = hf; stateid = kf },
       gathered (layout_type_item ∷ u32_item b ∷ bool_item c ∷ file_kind_item ∷ opaque_item f ∷ u64_item g ∷ u64_item h
           ∷ stateid_item k ∷ []) i.left k1.left
@@ -251,7 +252,8 @@ recall_found i v j bytes e =
     took b1 _ (v, j) u32_law bb br (λ c c1 cf ce cb cr.
     took c1 _ (v, j) recall_op_law cb cr (λ d d1 df de db dr.
     took d1 _ (v, j) recall_args_codec db dr (λ f f1 ff fe fb fr.
-    subst (λ (p : Recall × Rest). RecallFits p.0 × (i.left ≡ recall_item p.0 ++ p.1.left)) (ok_is _ (v, j) fr) (
+    subst (λ (p : Recall × Rest). RecallFits p.0 × (i.left ≡ recall_item p.0 ++ p.1.left))
+    (ok_is _ (v, j) fr) (
       record { client = af; number = bf; file = cf; args = ff },
       gathered (u32_item a ∷ u32_item b ∷ u32_item c ∷ recall_op_item ∷ recall_args_item f ∷ []) i.left f1.left
           (ae ∙ after _ _ _ (be ∙ after _ _ _ (ce ∙ after _ _ _ (de ∙ after _ _ _ (fe))))),
@@ -282,8 +284,8 @@ recall_answer_found i v j bytes e =
     took b1 _ (v, j) u32_law bb br (λ c c1 cf ce cb cr.
     took c1 _ (v, j) recall_op_law cb cr (λ d d1 df de db dr.
     took d1 _ (v, j) u32_law db dr (λ f f1 ff fe fb fr.
-    subst (λ (p : RecallAnswer × Rest). RecallAnswerFits p.0 × (i.left ≡ recall_answer_item p.0 ++ p.1.left)) (ok_is _ (v, j) fr)
-        (
+    subst (λ (p : RecallAnswer × Rest). RecallAnswerFits p.0 × (i.left ≡ recall_answer_item p.0 ++ p.1.left))
+    (ok_is _ (v, j) fr) (
       record { client = af; number = bf; file = cf; status = ff },
       gathered (u32_item a ∷ u32_item b ∷ u32_item c ∷ recall_op_item ∷ u32_item f ∷ []) i.left f1.left
           (ae ∙ after _ _ _ (be ∙ after _ _ _ (ce ∙ after _ _ _ (de ∙ after _ _ _ (fe))))),

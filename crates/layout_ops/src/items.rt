@@ -31,7 +31,7 @@ pub struct Time {
     pub nanoseconds: u32,
 }
 
-#[tactic(auto, unfolding(crate::specs::Reading::stateid_part, layout_types::specs::Grammar::u32_part, layout_types::specs::Grammar::fixed_part,))]
+#[tactic(auto, unfolding(crate::specs::Reading::stateid_part, layout_types::specs::Grammar::u32_part, layout_types::specs::Grammar::fixed_part))]
 pub(crate) fn stateid_from(reader: &mut Reader<'_>) -> Result<StateId, LayoutErr>
     ensures { GivesPart (stateid_part reader.old) result reader.new }
 {
@@ -74,7 +74,7 @@ fn put_other(writer: &mut Writer, field: &[u8; STATEID_OTHER_BYTES]) -> Result<(
     writer.fixed(field)
 }
 
-#[tactic(auto, unfolding(crate::specs::Reading::time_part, layout_types::specs::Grammar::i64_part, layout_types::specs::Grammar::u32_part,))]
+#[tactic(auto, unfolding(crate::specs::Reading::time_part, layout_types::specs::Grammar::i64_part, layout_types::specs::Grammar::u32_part))]
 fn time_from(reader: &mut Reader<'_>) -> Result<Time, LayoutErr>
     ensures { GivesPart (time_part reader.old) result reader.new }
 {
@@ -85,7 +85,7 @@ fn time_from(reader: &mut Reader<'_>) -> Result<Time, LayoutErr>
 }
 
 // An optional part is a bool, and where it is 1 the value.
-#[tactic(auto, unfolding(layout_types::specs::Grammar::optional_part, layout_types::specs::Grammar::bool_part, layout_types::specs::Grammar::u64_part,))]
+#[tactic(auto, unfolding(layout_types::specs::Grammar::optional_part, layout_types::specs::Grammar::bool_part, layout_types::specs::Grammar::u64_part))]
 pub(crate) fn optional_u64_from(reader: &mut Reader<'_>) -> Result<Option<u64>, LayoutErr>
     ensures { GivesPart (optional_part u64_part reader.old) result reader.new }
 {

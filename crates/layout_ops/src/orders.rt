@@ -115,7 +115,7 @@ impl OrderResult {
     }
 }
 
-#[tactic(auto, unfolding(crate::specs::Reading::order_kind_field, crate::specs::Grammar::u32_field, layout_types::specs::Grammar::enum_part,))]
+#[tactic(auto, unfolding(crate::specs::Reading::order_kind_field, crate::specs::Grammar::u32_field, layout_types::specs::Grammar::enum_part))]
 fn read_order_kind(reader: &mut Reader<'_>) -> Result<OrderKind, OpErr>
     ensures { Gives (order_kind_field reader.old) result reader.new }
 {
@@ -127,7 +127,7 @@ fn read_order_kind(reader: &mut Reader<'_>) -> Result<OrderKind, OpErr>
     }
 }
 
-#[tactic(auto, unfolding(crate::specs::Reading::order_result_field, crate::specs::Grammar::u32_field, layout_types::specs::Grammar::enum_part,))]
+#[tactic(auto, unfolding(crate::specs::Reading::order_result_field, crate::specs::Grammar::u32_field, layout_types::specs::Grammar::enum_part))]
 fn read_order_result(reader: &mut Reader<'_>) -> Result<OrderResult, OpErr>
     ensures { Gives (order_result_field reader.old) result reader.new }
 {

@@ -95,7 +95,7 @@ new_files : (old : State) (n : ℕ) (u g : FileState) → AreEntries old.files.e
     file_at (files_in old.files.entries) n ≡ None →
     u.kept.number ≡ n → g.kept.number ≡ n →
     put_file (add_file (files_in old.files.entries) (file_of u)) u.kept.number (file_of g) ≡ files_in
-        (insert_entry nat_cmp old.files.entries n g)
+    (insert_entry nat_cmp old.files.entries n g)
 new_files old n u g good none e h =
     put_added (files_in old.files.entries) (file_of u) (file_of g) (rw e none) (h ∙ sym e)
     ∙ add_file-files old.files.entries n g good (no_entry old.files.entries n good none) h
@@ -104,11 +104,11 @@ new_files old n u g good none e h =
 pub made_at : (old : State) (files : BTreeMap ℕ FileState) (new : State) (m : Effects) (f : NewFile) (ds : List ℕ)
     (u g : FileState) (out : Step) →
     AreEntries old.files.entries → refusal (server_of old) f.number f.map f.zoned ≡ None →
-        drives_for f.zoned old.drives f.map ds ≡ ds →
+    drives_for f.zoned old.drives f.map ds ≡ ds →
     file_of u ≡ unmade (server_of old) f.number f.map f.tag f.zoned ds → g.kept.number ≡ u.kept.number →
     files.entries ≡ insert_entry nat_cmp old.files.entries f.number g →
     Steps making u
-        (record { nonce = old.next_nonce; object = old.next_object + length ds; sent = []; notes = []; mended = [] }) g m →
+    (record { nonce = old.next_nonce; object = old.next_object + length ds; sent = []; notes = []; mended = [] }) g m →
     Settles (record old { files = files }) m new out → Creates f old new out
 unfolding create_file
 made_at old files new m f ds u g out good none chosen same left put_in steps fin =
@@ -116,12 +116,12 @@ made_at old files new m f ds u g out good none chosen same left put_in steps fin
     let w : Server = with_file s (file_of u) in
     let number : u.kept.number ≡ f.number = ap (λ (x : File). x.kept.number) same in
     let many : length ds ≡ length u.kept.components =
-        sym (ap (λ (x : File). length x.kept.components) same ∙ length_components ds old.next_object) in
+    sym (ap (λ (x : File). length x.kept.components) same ∙ length_components ds old.next_object) in
     let go : at g m old.drives [] ≡ making (at_file w [] (file_of u)) =
     steps old.drives []
-        ∙ ap (λ (k : ℕ). making
-        (at u (record { nonce = old.next_nonce; object = old.next_object + k; sent = []; notes = []; mended = [] }) old.drives
-        [])) many in
+    ∙ ap (λ (k : ℕ). making
+    (at u (record { nonce = old.next_nonce; object = old.next_object + k; sent = []; notes = []; mended = [] }) old.drives
+    [])) many in
     let put : files_in files.entries ≡ put_file (add_file s.files (file_of u)) u.kept.number (file_of g) =
     ap files_in put_in ∙ sym (new_files old f.number u g good (not_there s f.number f.map f.zoned none) number (left ∙ number)) in
     let did : Did out (server_of new) (makes_file s (file_of u)) =

@@ -49,7 +49,7 @@ still_drives ds drive r = offline_rises 0 ds drive r
 pub declared_at : (old : State) (drives : List Drive) (files : BTreeMap ℕ FileState) (new : State) (m : Effects)
     (loads : List DriveLoad) (drive : ℕ) (out : Step) →
     IsGood old → drives ≡ offline old.drives drive → AreLoadsOf loads drives →
-        GoesRound (AreLoadsOf loads) (λ g. declares g drive) old.files.entries (begins (server_of old)) files.entries m →
+    GoesRound (AreLoadsOf loads) (λ g. declares g drive) old.files.entries (begins (server_of old)) files.entries m →
     Settles (record old { drives = drives; files = files }) m new out →
     ((chosen : List ℕ) × Did out (server_of new) (declare (server_of old) chosen drive)) × IsReady new
 unfolding declare
@@ -57,18 +57,22 @@ declared_at old drives files new m loads drive out good off loaded did fin =
     let s : Server = server_of old in
     let h = did.round drives loaded in
     let e : record { files = files_in files.entries; effects = m; chosen = [] } ≡ declares_each drive
-        (offline old.drives drive) s.files (begins s) h.0 =
+    (offline old.drives drive) s.files (begins s) h.0 =
     h.1 [] ∙ declared_each drive drives s.files (begins s) (h.0 ++ [])
-        ∙ ap (λ (cs : List ℕ). declares_each drive drives s.files (begins s) cs) (append-nil h.0)
+    ∙ ap (λ (cs : List ℕ). declares_each drive drives s.files (begins s) cs) (append-nil h.0)
     ∙ ap (λ (ds : List Drive). declares_each drive ds s.files (begins s) h.0) off in (
       (
         h.0,
         subst (λ (r : Round). Did out (server_of new) (step_round (record s { drives = offline old.drives drive }) r)) e
             (subst (λ (ds : List Drive). Did out (server_of new)
-                (step_round (record s { drives = ds }) (record { files = files_in files.entries; effects = m; chosen = [] }))) off
+            (step_round (record s { drives = ds }) (record { files = files_in files.entries; effects = m; chosen = [] }))) off
             (record { state = ap server_of fin.state; sends = fin.sends; notes = fin.notes; mended = fin.mended })),
       ),
       subst (λ (z : State). IsReady z) (sym fin.state)
-          (record { files = did.entries; grants = good.grants; drives =
-              subst (λ (ds : List Drive). AreDrives ds) (sym off) (still_drives old.drives drive good.drives) }),
+          (record {
+            files = did.entries;
+            grants = good.grants;
+            drives =
+                subst (λ (ds : List Drive). AreDrives ds) (sym off) (still_drives old.drives drive good.drives);
+          }),
     )

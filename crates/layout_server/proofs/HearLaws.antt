@@ -66,7 +66,7 @@ heard_first : (s : Server) (chosen : List ℕ) (drive : ℕ) (r : Reply) (n : �
 unfolding heard_at
 heard_first s chosen drive r n f t e =
     first_there (on_reply (at_file s chosen (file_of f)) drive r) (heard_at s chosen drive r (files_in t))
-        (hears_where (at_file s chosen (file_of f)) drive r ∙ e)
+    (hears_where (at_file s chosen (file_of f)) drive r ∙ e)
 
 -- any other leaves it to those behind
 heard_later : (s : Server) (chosen : List ℕ) (drive : ℕ) (r : Reply) (n : ℕ) (f : FileState) (t : Table) →
@@ -75,7 +75,7 @@ heard_later : (s : Server) (chosen : List ℕ) (drive : ℕ) (r : Reply) (n : �
 unfolding heard_at
 heard_later s chosen drive r n f t e =
     later_there (on_reply (at_file s chosen (file_of f)) drive r) (heard_at s chosen drive r (files_in t))
-        (hears_where (at_file s chosen (file_of f)) drive r ∙ e)
+    (hears_where (at_file s chosen (file_of f)) drive r ∙ e)
 
 -- where nothing heard it, no job awaits it
 pub none_awaits : (g : Going) (drive : ℕ) (r : Reply) → on_reply g drive r ≡ None → awaits drive r g.file.job ≡ true → ⊥
@@ -144,7 +144,7 @@ heard_by_first s chosen drive r (e ∷ es) n f sorted found here none =
           let later : entry_at es n ≡ Some f = rw not_it at found in
           heard_later s chosen drive r e.0 e.1 es (quiet_here e es drive r (none e.0 (is_behind e.0 n es f order.0 later)))
           ∙ heard_by_first s chosen drive r es n f order.1 later here
-              (λ m l. quiet_behind e es r.nonce drive m order.0 (none m l))
+          (λ m l. quiet_behind e es r.nonce drive m order.0 (none m l))
     ]
 
 heard_by_none : (s : Server) (chosen : List ℕ) (drive : ℕ) (r : Reply) (t : Table) → IsStrictlySortedBy nat_cmp (keys_of t) →
@@ -193,7 +193,7 @@ heard_there false loads drive r f g was is w h = absurd (none_awaits (at f was [
 pub heard_in_table : (loads : List DriveLoad) (drive : ℕ) (r : Reply) (n : ℕ) (old new : Table) (was is : Effects) (heard : Bool)
     (f g : FileState) →
     entry_at old n ≡ Some f → new ≡ set_value (is_at (nat_cmp n)) old g → HearsReply heard loads drive r f was g is →
-        LeavesFile f g →
+    LeavesFile f g →
     HeardIn loads drive r n old was new is
 heard_in_table loads drive r n old new was is heard f g found put h l = λ e at_e w.
     let same : f ≡ e = cc (sym found ∙ at_e) in (
@@ -211,11 +211,11 @@ pub heard_step : (old : State) (files : BTreeMap ℕ FileState) (new : State) (m
     (drive : ℕ) (r : Reply) (f g : FileState) (out : Step) →
     AreEntries old.files.entries → entry_at old.files.entries n ≡ Some f →
     ((s : Server) (chosen : List ℕ) →
-        heard_at s chosen drive r (files_in old.files.entries) ≡ on_reply (at_file s chosen (file_of f)) drive r) →
+    heard_at s chosen drive r (files_in old.files.entries) ≡ on_reply (at_file s chosen (file_of f)) drive r) →
     files.entries ≡ set_value (is_at (nat_cmp n)) old.files.entries g → AreLoadsOf loads old.drives →
-        HearsReply true loads drive r f (begins (server_of old)) g m → LeavesFile f g →
+    HearsReply true loads drive r f (begins (server_of old)) g m → LeavesFile f g →
     Settles (record old { files = files }) m new out →
-        (chosen : List ℕ) × Did out (server_of new) (on_drive_reply (server_of old) chosen drive r)
+    (chosen : List ℕ) × Did out (server_of new) (on_drive_reply (server_of old) chosen drive r)
 unfolding on_drive_reply
 heard_step old files new m n loads drive r f g out good found at_it put_in loaded hears leaves fin =
     let s : Server = server_of old in
@@ -223,8 +223,8 @@ heard_step old files new m n loads drive r f g out good found at_it put_in loade
     let h = hears old.drives loaded in
     let chosen : List ℕ = h.0 in
     let heard : heard_at s chosen drive r s.files ≡ Some (at g m old.drives []) =
-    at_it s chosen ∙ ap (λ (cs : List ℕ). on_reply (at f (begins s) old.drives cs) drive r) (sym (append-nil chosen)) ∙ h.1 [] in
-        (
+    at_it s chosen ∙ ap (λ (cs : List ℕ). on_reply (at f (begins s) old.drives cs) drive r) (sym (append-nil chosen))
+    ∙ h.1 [] in (
       chosen,
       subst (λ (x : Option Going). Did out (server_of new) (by_heard s x)) (sym heard)
           (subst (λ (k : ℕ). Did out (server_of new) (step_at s k (at g m old.drives []))) (sym number)
@@ -235,7 +235,7 @@ heard_step old files new m n loads drive r f g out good found at_it put_in loade
 pub heard_whole : (old : State) (files : BTreeMap ℕ FileState) (new : State) (m : Effects) (n : ℕ) (loads : List DriveLoad)
     (drive : ℕ) (r : Reply) (out : Step) →
     IsGoodBut n old → AwaitedAt drive r n old.files.entries → AreLoadsOf loads old.drives →
-        HeardIn loads drive r n old.files.entries (begins (server_of old)) files.entries m →
+    HeardIn loads drive r n old.files.entries (begins (server_of old)) files.entries m →
     Settles (record old { files = files }) m new out →
     ((chosen : List ℕ) × Did out (server_of new) (on_drive_reply (server_of old) chosen drive r)) × IsGoodBut n new
 heard_whole old files new m n loads drive r out good awaited loaded heard fin =
@@ -252,6 +252,8 @@ pub heard_none : (s : Server) (drive : ℕ) (r : Reply) (t : Table) (out : Step)
     Did out s (still s) →
     (chosen : List ℕ) × Did out s (on_drive_reply s chosen drive r)
 unfolding on_drive_reply
-heard_none s drive r t out e nowhere did =
-    ([], subst (λ (x : Option Going). Did out s (by_heard s x))
-        (sym (ap (λ (fs : List File). heard_at s [] drive r fs) e ∙ nowhere s [])) did)
+heard_none s drive r t out e nowhere did = (
+  [],
+  subst (λ (x : Option Going). Did out s (by_heard s x))
+      (sym (ap (λ (fs : List File). heard_at s [] drive r fs) e ∙ nowhere s [])) did,
+)

@@ -59,8 +59,12 @@ pub crashed_at : (old : State) (files : BTreeMap ℕ FileState) (m m' : Effects)
 crashed_at old files m m' good did =
     let s : Server = server_of old in
     let h = did.round s.drives tt in
-    let e : record { files = files_in files.entries; effects = m'; chosen = [] } ≡ record { files =
-        map crashed_file s.files; effects = m; chosen = h.0 ++ [] } =
+    let e : record { files = files_in files.entries; effects = m'; chosen = [] } ≡ record {
+      files =
+          map crashed_file s.files;
+      effects = m;
+      chosen = h.0 ++ [];
+    } =
     h.1 [] ∙ crashed_each s.drives s.files m (h.0 ++ []) in (
       ap (λ (r : Round). record s { files = r.files }) e,
       record { files = did.entries; grants = good.grants; drives = good.drives },
@@ -76,10 +80,10 @@ opened_at old files new m out good room did fin =
     let s : Server = server_of old in
     let h = did.round s.drives tt in
     let e : record { files = files_in files.entries; effects = m; chosen = [] } ≡ record
-        (opens_each s.format s.drives s.files (begins s)) { chosen = h.0 ++ [] } =
+    (opens_each s.format s.drives s.files (begins s)) { chosen = h.0 ++ [] } =
     h.1 [] ∙ opened_each s.format s.drives s.files (begins s) (h.0 ++ []) in
     let same : step_round s (record { files = files_in files.entries; effects = m; chosen = [] }) ≡ step_round s
-        (opens_each s.format s.drives s.files (begins s)) =
+    (opens_each s.format s.drives s.files (begins s)) =
     ap (step_round s) e in (
       rw room (subst (λ z. Did out (server_of new) z) same
           (record { state = ap server_of fin.state; sends = fin.sends; notes = fin.notes; mended = fin.mended })),

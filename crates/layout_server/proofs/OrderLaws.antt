@@ -47,12 +47,12 @@ begins_begun s chosen kind f None = elim (cases_Bool (f.kept.tag == GREATEST_TAG
 pub started_at : (old : State) (files : BTreeMap ℕ FileState) (new : State) (m : Effects) (n : ℕ) (kind : JobKind)
     (loads : List DriveLoad) (r : OrderResult) (f g : FileState) (out : Step) →
     AreEntries old.files.entries → files.entries ≡ set_value (is_at (nat_cmp n)) old.files.entries g →
-        entry_at old.files.entries n ≡ Some f → AreLoadsOf loads old.drives →
+    entry_at old.files.entries n ≡ Some f → AreLoadsOf loads old.drives →
     Begins (begun kind old.format f.job) loads f (begins (server_of old)) r g m →
-        Settles (record old { files = files }) m new out →
+    Settles (record old { files = files }) m new out →
     (chosen : List ℕ) ×
-        Obeys (record { step = out; result = r }) (server_of new)
-            (starts (server_of old) chosen kind (file_at (server_of old).files n))
+    Obeys (record { step = out; result = r }) (server_of new)
+    (starts (server_of old) chosen kind (file_at (server_of old).files n))
 started_at old files new m n kind loads r f g out good put_in found loaded begun_at fin =
     let s : Server = server_of old in
     let h = begun_at old.drives loaded in
@@ -66,7 +66,7 @@ started_at old files new m n kind loads r f g out good put_in found loaded begun
       subst (λ (x : Option File). Obeys o (server_of new) (starts s chosen kind x))
           (sym (file_there old.files.entries n f good found))
           (subst (λ (x : Ordered). Obeys o (server_of new) x)
-              (ap (λ (k : ℕ). by_begun s k b) (sym number) ∙ sym (begins_begun s chosen kind (file_of f) f.job))
+          (ap (λ (k : ℕ). by_begun s k b) (sym number) ∙ sym (begins_begun s chosen kind (file_of f) f.job))
           (record {
             step = settled_at old files new m n g [] b.going out good put_in (ap (λ (x : Begun). x.going) e) fin;
             result = ap (λ (x : Begun). x.result) e;
@@ -78,13 +78,13 @@ pub unstarted_at : (old : State) (files : BTreeMap ℕ FileState) (n : ℕ) (kin
     AreEntries old.files.entries → entry_at old.files.entries n ≡ None →
     files.entries ≡ old.files.entries → ((s : State) → Obeys o (server_of s) (unknown (server_of s))) →
     (chosen : List ℕ) ×
-        Obeys o (server_of (record old { files = files })) (starts (server_of old) chosen kind (file_at (server_of old).files n))
+    Obeys o (server_of (record old { files = files })) (starts (server_of old) chosen kind (file_at (server_of old).files n))
 unstarted_at old files n kind o good none same did = (
   [],
   subst (λ (x : Option File). Obeys o (server_of (record old { files = files })) (starts (server_of old) [] kind x))
       (sym (no_file_there old.files.entries n good none))
       (subst (λ (t : Table). Obeys o (record (server_of old) { files = files_in t }) (unknown (server_of old))) (sym same)
-          (did old)),
+      (did old)),
 )
 
 -- what was done is the order of the same server
@@ -98,9 +98,9 @@ obeys_between o f was old is new e h did =
 pub recalled_at : (old : State) (n : ℕ) (f : FileState) (o : Obeyed) (new : Server) → AreEntries old.files.entries →
     entry_at old.files.entries n ≡ Some f →
     new ≡ record (server_of old) { next_recall = old.next_recall + length f.kept.grants } →
-        o.step.sends ≡ all_sent (recalls_from old.next_recall f.kept.grants) →
+    o.step.sends ≡ all_sent (recalls_from old.next_recall f.kept.grants) →
     (o.step.notes ≡ []) × (o.step.mended ≡ []) → o.result ≡ result.Started → (chosen : List ℕ) →
-        Obeys o new (ordered (server_of old) chosen order.Recall n)
+    Obeys o new (ordered (server_of old) chosen order.Recall n)
 unfolding ordered
 recalled_at old n f o new good found state sends notes result chosen =
     subst (λ (x : Option File). Obeys o new (recalls_on (server_of old) x)) (sym (file_there old.files.entries n f good found))
@@ -108,8 +108,8 @@ recalled_at old n f o new good found state sends notes result chosen =
 
 pub not_recalled : (old : State) (n : ℕ) (o : Obeyed) → AreEntries old.files.entries → entry_at old.files.entries n ≡ None →
     Obeys o (server_of old) (unknown (server_of old)) → (chosen : List ℕ) →
-        Obeys o (server_of old) (ordered (server_of old) chosen order.Recall n)
+    Obeys o (server_of old) (ordered (server_of old) chosen order.Recall n)
 unfolding ordered
 not_recalled old n o good none did chosen =
     subst (λ (x : Option File). Obeys o (server_of old) (recalls_on (server_of old) x))
-        (sym (no_file_there old.files.entries n good none)) did
+    (sym (no_file_there old.files.entries n good none)) did

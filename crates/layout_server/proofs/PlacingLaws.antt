@@ -130,7 +130,7 @@ are_online ls ds (n ∷ ns) e o d =
     let found : is_some (find (λ d. d.number == n) (online ds)) ≡ true = online_found ls ds n e (first_true _ _ o) in
     let other : among n ns ≡ false = none_among n ns (λ j l. d 0 (suc j) (omega arith) (omega (arith, l))) in
     let behind : are_of (online ds) ns ≡ true =
-        are_online ls ds ns e (second_true _ _ o) (λ i j l m. d (suc i) (suc j) (omega (arith, l)) (omega (arith, m))) in
+    are_online ls ds ns e (second_true _ _ o) (λ i j l m. d (suc i) (suc j) (omega (arith, l)) (omega (arith, m))) in
     rw (found, other, behind) refl
 
 -- what the placer names is taken

@@ -60,8 +60,8 @@ pub record SoFar (fits : List Drive → Type 0) (step : Going → Going) (all : 
     (is : Effects) : Type 0 where
   pub round : (ds : List Drive) → fits ds → (chosen : List ℕ)
       × ((rest : List ℕ) →
-          with_files (files_in done) (each_file step ds (files_in left) is rest) ≡ each_file step ds (files_in all) was
-              (chosen ++ rest))
+      with_files (files_in done) (each_file step ds (files_in left) is rest) ≡ each_file step ds (files_in all) was
+      (chosen ++ rest))
   pub entries : AreEntries done
   pub others : AreEntries left
   pub below : AreAllBelow done (keys_of left)
@@ -92,7 +92,7 @@ one_more step ds done left n f g was is chosen rest e =
     let later : Round = each_file step ds (files_in left) is rest in
     let files : files_in (done ++ (n, g) ∷ []) ++ later.files ≡ files_in done ++ (file_of g ∷ later.files) =
     ap (λ (fs : List File). fs ++ later.files) (map-append (λ (e : ℕ × FileState). file_of e.1) done ((n, g) ∷ []))
-        ∙ append_assoc (files_in done) (file_of g ∷ []) later.files in
+    ∙ append_assoc (files_in done) (file_of g ∷ []) later.files in
     ap (λ (fs : List File). record later { files = fs }) files
     ∙ ap (λ (z : Going). with_files (files_in done) (then_files z (each_file step ds (files_in left) z.effects z.chosen))) e
 
@@ -127,8 +127,10 @@ at_last fits step all was done left is e so =
     let last : SoFar fits step all was done [] is = subst (λ (t : Table). SoFar fits step all was done t is) e so in
     record {
       round = λ ds d.
-          let h = last.round ds d in
-          (h.0, λ rest. ap (λ (fs : List File). record { files = fs; effects = is; chosen = rest })
-              (sym (append-nil (files_in done))) ∙ h.1 rest);
+          let h = last.round ds d in (
+            h.0,
+            λ rest. ap (λ (fs : List File). record { files = fs; effects = is; chosen = rest })
+                (sym (append-nil (files_in done))) ∙ h.1 rest,
+          );
       entries = so.entries;
     }

@@ -95,7 +95,7 @@ apart_from least (l ∷ ls) [] e r = absurd (cc e)
 apart_from least (l ∷ ls) (d ∷ ds) e r =
     let t = tail_of l ls d ds e in
     apart_before l l.zone (zone_loads ls) (none_below (d.number + 1) l.drive ls ds t.2 r.2 (omega (arith, t.0)))
-        (apart_from (d.number + 1) ls ds t.2 r.2)
+    (apart_from (d.number + 1) ls ds t.2 r.2)
 
 pub can_spread : (ask : ZoneAsk) (ls : List DriveLoad) (ds : List Drive) → AreLoadsOf ls ds → All FitsZoneLoad (zone_loads ls) →
     FitsAsk ask → AreDrives ds →
@@ -112,11 +112,11 @@ can_spread ask ls ds e fits asked r room = record {
 pub fits_ask : (m : RawMap) → IsChecked m → FitsAsk (ask_of m)
 fits_ask m c =
     let lost : (parities m + 1) * replicas m ≤ group_width m * replicas m =
-        mul-le (parities m + 1) (replicas m) (group_width m) (replicas m) (omega (arith, c.some_data)) (omega arith) in
+    mul-le (parities m + 1) (replicas m) (group_width m) (replicas m) (omega (arith, c.some_data)) (omega arith) in
     let wide : group_width m * replicas m ≤ positions m * replicas m =
     mul-le (group_width m) (replicas m) (positions m) (replicas m)
     (omega (arith, whole_groups m c, mul-le 1 (group_width m) (groups m) (group_width m) (some_groups m c) (omega arith)))
-        (omega arith) in
+    (omega arith) in
     record {
       groups = omega (arith, div-le_self (positions m) (group_width m), few_positions m c);
       size = omega (arith, wide, whole_positions m c, c.few_components);
@@ -135,7 +135,7 @@ pub spread_if : (r : Result (List ℕ) Memory) (m : RawMap) (ls : List DriveLoad
     IfOk r (λ chosen. drives_for true ds m chosen ≡ chosen)
 spread_if (Ok chosen) m ls ds e p =
     let spread : spreads (ask_of m) (in_zones (online ds)) chosen ≡ true =
-        subst (λ (ps : List InZone). spreads (ask_of m) ps chosen ≡ true) (online_alike ls ds e) (p chosen refl) in
+    subst (λ (ps : List InZone). spreads (ask_of m) ps chosen ≡ true) (online_alike ls ds e) (p chosen refl) in
     rw spread refl
 spread_if (Err n) m ls ds e p = tt
 
@@ -203,7 +203,7 @@ in_none : (least : ℕ) (ds : List Drive) (n : ℕ) → RiseFrom least ds → n 
 in_none least [] n r low = refl
 in_none least (d ∷ ds) n r low =
     rw (ne_eqb d.number n (λ same. absurd (omega (arith, same, low, r.0))))
-        (in_none (d.number + 1) ds n r.2 (omega (arith, low, r.0)))
+    (in_none (d.number + 1) ds n r.2 (omega (arith, low, r.0)))
 
 pub known_inside : (ds : List Drive) (n : ℕ) → is_known n ds ≡ true → place_in ds n < length ds
 unfolding place_in
@@ -256,7 +256,7 @@ pub stays_at : (ds : List Drive) (n z : ℕ) (d : Drive) → AreDrives ds → sl
 stays_at ds n z d r g some =
     put_at 0 ds n z d r g ∙ ap (λ (o : Option ℕ). slice_set ds (place_in ds n) (record d { zone = o })) (kept_zone z d.zone some)
     ∙ ap (λ (e : Drive). slice_set ds (place_in ds n) e) (sym (get_or_from_slice_get ds (place_in ds n) d d g))
-        ∙ set-get_or ds (place_in ds n) d
+    ∙ set-get_or ds (place_in ds n) d
 
 pub goes_at : (ds : List Drive) (n z : ℕ) (d : Drive) → AreDrives ds → slice_get ds (place_in ds n) ≡ Some d →
     is_some d.zone ≡ false →

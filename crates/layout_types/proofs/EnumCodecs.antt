@@ -33,7 +33,7 @@ algorithm_back n fits = rw (lt-ltb 0 n fits.0, le-leb n 4 fits.1) refl
 pub algorithm_law : IsCodec (enum_part algorithm_of) u32_item IsAlgorithm
 algorithm_law =
     enum_law algorithm_of (λ n. n) IsAlgorithm
-        (record { back = algorithm_back; small = λ n fits. omega (arith, fits.1); only = algorithm_only })
+    (record { back = algorithm_back; small = λ n fits. omega (arith, fits.1); only = algorithm_only })
 
 some_is : {V : Type 0} (n m : ℕ) (x v : V) (o : Option V) → cond (eqb n m) (Some x) o ≡ Some v →
     ((n ≡ m) × (x ≡ v)) ⊎ (o ≡ Some v)
@@ -72,7 +72,7 @@ version_small version.Version2 = omega arith
 pub version_law : IsCodec (enum_part version_of) (λ v. u32_item (version_number v)) (λ v. ⊤)
 version_law =
     enum_law version_of version_number (λ v. ⊤)
-        (record { back = λ v fits. version_back v; small = λ v fits. version_small v; only = version_only })
+    (record { back = λ v fits. version_back v; small = λ v fits. version_small v; only = version_only })
 
 security_only : (n : ℕ) (v : KeySecurity) → security_of n ≡ Some v → (security_number v ≡ n) × ⊤
 security_only n v e =
@@ -97,7 +97,7 @@ security_small security.Ssv = omega arith
 pub security_law : IsCodec (enum_part security_of) (λ v. u32_item (security_number v)) (λ v. ⊤)
 security_law =
     enum_law security_of security_number (λ v. ⊤)
-        (record { back = λ v fits. security_back v; small = λ v fits. security_small v; only = security_only })
+    (record { back = λ v fits. security_back v; small = λ v fits. security_small v; only = security_only })
 
 errno_only : (n : ℕ) (v : Errno) → errno_of n ≡ Some v → (errno_number v ≡ n) × ⊤
 errno_only n v e =

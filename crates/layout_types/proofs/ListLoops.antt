@@ -27,7 +27,7 @@ unfolding members
 goes_on part front count n i whole v behind lt read so_far =
     let k : count - n ≡ suc (count - (n + 1)) = omega arith in
     let one : with_front front (members part (count - n) i) ≡ with_front (front ++ v ∷ [])
-        (members part (count - (n + 1)) behind) = rw (k, read) (regroup front v (members part (count - (n + 1)) behind)) in
+    (members part (count - (n + 1)) behind) = rw (k, read) (regroup front v (members part (count - (n + 1)) behind)) in
     sym one ∙ so_far
 
 pub ends : {V : Type 0} (part : Rest → Result (V × Rest) LayoutErr) (front : List V) (count n : ℕ) (i whole : Rest)
@@ -64,5 +64,5 @@ unfolding members
 is_done {V = V} part front count n i whole le so_far =
     let k : count - n ≡ 0 = omega arith in
     let one : with_front front (members part (count - n) i) ≡ Ok (front, i) =
-        rw k (ap (λ (vs : List V). Ok (vs, i)) (append-nil front)) in
+    rw k (ap (λ (vs : List V). Ok (vs, i)) (append-nil front)) in
     sym so_far ∙ one

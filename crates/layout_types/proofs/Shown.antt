@@ -30,7 +30,7 @@ one_after_another old x (y ∷ zs) = one_after_another (old ++ x) y zs ∙ appen
 pub shows_found : {V : Type 0} (part : Rest → Result (V × Rest) LayoutErr) (spelling : V → List ℕ) (Fits : V → Type 0)
     (lines : List ℕ → V → List ℕ) → IsCodec part spelling Fits → (bytes : List ℕ) → IsBytes bytes →
     (r : Result (List ℕ) LayoutErr) → GivesOrMemory (text_read part lines bytes) r →
-        IfOk r (λ text. ShowsAs Fits spelling lines bytes text)
+    IfOk r (λ text. ShowsAs Fits spelling lines bytes text)
 shows_found part spelling Fits lines codec bytes fits (Ok text) g =
     elim g [
       | inl memory ↦ absurd cc
@@ -50,11 +50,11 @@ unfolding members_lines
 shown_next {V = V} lines path vs n v out new whole lt member more so_far =
     let rest : drop (suc n) vs ≡ drop (n + 1) vs = ap (λ (k : ℕ). drop k vs) (sym (add-one n)) in
     let split : drop n vs ≡ v ∷ drop (n + 1) vs =
-        drop-cons vs n v lt ∙ ap (λ (y : V). y ∷ drop (suc n) vs) (sym member) ∙ ap (λ (t : List V). v ∷ t) rest in
+    drop-cons vs n v lt ∙ ap (λ (y : V). y ∷ drop (suc n) vs) (sym member) ∙ ap (λ (t : List V). v ∷ t) rest in
     let back : out ++ members_lines lines path n (v ∷ drop (n + 1) vs) ≡ whole =
-        ap (λ (t : List V). out ++ members_lines lines path n t) (sym split) ∙ so_far in
+    ap (λ (t : List V). out ++ members_lines lines path n t) (sym split) ∙ so_far in
     ap (λ (t : List ℕ). t ++ members_lines lines path (n + 1) (drop (n + 1) vs)) more
-        ∙ append_assoc out (lines (member_front path n) v) (members_lines lines path (n + 1) (drop (n + 1) vs)) ∙ back
+    ∙ append_assoc out (lines (member_front path n) v) (members_lines lines path (n + 1) (drop (n + 1) vs)) ∙ back
 
 pub shown_all : {V : Type 0} (lines : List ℕ → V → List ℕ) (path : List ℕ) (vs : List V) (n : ℕ) (out whole : List ℕ) →
     length vs ≤ n → out ++ members_lines lines path n (drop n vs) ≡ whole → out ≡ whole

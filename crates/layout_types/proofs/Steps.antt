@@ -70,7 +70,7 @@ pub record Took {V : Type 0} (spelling : V → List ℕ) (Fits : V → Type 0) (
 pub step : {V W : Type 0} (part : Rest → Result (V × Rest) LayoutErr) (spelling : V → List ℕ) (Fits : V → Type 0) (i : Rest)
     (more : V × Rest → Result W LayoutErr) (y : W) →
     IsCodec part spelling Fits → IsBytes i.left → (part i >>= more) ≡ Ok y →
-        (x : V × Rest) × Took spelling Fits i x × (more x ≡ Ok y)
+    (x : V × Rest) × Took spelling Fits i x × (more x ≡ Ok y)
 step part spelling Fits i more y codec bytes e =
     let b = bind_ok (part i) more y e in
     let f = codec.found i b.0.0 b.0.1 bytes b.1 in
@@ -106,7 +106,7 @@ Ends read v more = (end : ℕ) × (read ≡ Ok (v, record { left = more; at = en
 pub in_parts : {V : Type 0} (reading : Rest → Result (V × Rest) LayoutErr) (items : List (List ℕ)) (at : ℕ) (v : V)
     (more : List ℕ) →
     Ends (reading (record { left = joined_before items more; at = at })) v more →
-        Ends (reading (record { left = joined items ++ more; at = at })) v more
+    Ends (reading (record { left = joined items ++ more; at = at })) v more
 in_parts reading items at v more h =
     (h.0, ap (λ (t : List ℕ). reading (record { left = t; at = at })) (regrouped items more) ∙ h.1)
 
@@ -114,7 +114,7 @@ in_parts reading items at v more h =
 pub first : {V W : Type 0} {part : Rest → Result (V × Rest) LayoutErr} {spelling : V → List ℕ} {Fits : V → Type 0} (rest : List ℕ)
     (at : ℕ) (others : V × Rest → Result (W × Rest) LayoutErr) (w : W) (more : List ℕ) →
     IsCodec part spelling Fits → (v : V) → Fits v → ((p : ℕ) → Ends (others (v, record { left = rest; at = p })) w more) →
-        Ends (part (record { left = spelling v ++ rest; at = at }) >>= others) w more
+    Ends (part (record { left = spelling v ++ rest; at = at }) >>= others) w more
 first rest at others w more codec v fits h =
     let a = codec.again v rest at fits in
     let b = h a.0 in
@@ -124,8 +124,8 @@ first rest at others w more codec v fits h =
 pub last : {V W : Type 0} {part : Rest → Result (V × Rest) LayoutErr} {spelling : V → List ℕ} {Fits : V → Type 0} (at : ℕ)
     (others : V × Rest → Result (W × Rest) LayoutErr) (w : W) (more : List ℕ) →
     IsCodec part spelling Fits → (v : V) → Fits v →
-        ((p : ℕ) → others (v, record { left = more; at = p }) ≡ Ok (w, record { left = more; at = p })) →
-        Ends (part (record { left = spelling v ++ more; at = at }) >>= others) w more
+    ((p : ℕ) → others (v, record { left = more; at = p }) ≡ Ok (w, record { left = more; at = p })) →
+    Ends (part (record { left = spelling v ++ more; at = at }) >>= others) w more
 last at others w more codec v fits h = first more at others w more codec v fits (λ p. (p, h p))
 
 -- ---- enumerations
@@ -163,7 +163,7 @@ unfolding optional_part
 optional_again part spelling Fits codec None more at fits = last _ _ _ _ bool_law false tt (λ p. refl)
 optional_again part spelling Fits codec (Some v) more at fits =
     in_parts (optional_part part) (bool_item true ∷ spelling v ∷ []) at (Some v) more
-        (first _ _ _ _ _ bool_law true tt (λ p. last _ _ _ _ codec v fits (λ q. refl)))
+    (first _ _ _ _ _ bool_law true tt (λ p. last _ _ _ _ codec v fits (λ q. refl)))
 
 optional_found : {V : Type 0} (part : Rest → Result (V × Rest) LayoutErr) (spelling : V → List ℕ) (Fits : V → Type 0) →
     IsCodec part spelling Fits → (i : Rest) (o : Option V) (j : Rest) → IsBytes i.left → optional_part part i ≡ Ok (o, j) →
@@ -176,14 +176,16 @@ optional_found {V = V} part spelling Fits codec i o j bytes e =
           let b = step part spelling Fits a.0.1 _ (o, j) codec a.1.bytes p.1 in
           let both = ok_is _ (o, j) b.2 in
           let front : i.left ≡ bool_item true ++ a.0.1.left = rw p.0 at a.1.front in
-          subst (λ (x : Option V × Rest). OptionalFits Fits x.0 × (i.left ≡ optional_item spelling x.0 ++ x.1.left)) both
-          (b.1.fits, gathered (bool_item true ∷ spelling b.0.0 ∷ []) i.left b.0.1.left
-              (front ∙ after (bool_item true) _ _ b.1.front))
+          subst (λ (x : Option V × Rest). OptionalFits Fits x.0 × (i.left ≡ optional_item spelling x.0 ++ x.1.left)) both (
+            b.1.fits,
+            gathered (bool_item true ∷ spelling b.0.0 ∷ []) i.left b.0.1.left
+                (front ∙ after (bool_item true) _ _ b.1.front),
+          )
       | inr p ↦
           let both = ok_is _ (o, j) p.1 in
           let front : i.left ≡ bool_item false ++ a.0.1.left = rw p.0 at a.1.front in
           subst (λ (x : Option V × Rest). OptionalFits Fits x.0 × (i.left ≡ optional_item spelling x.0 ++ x.1.left)) both
-              (tt, front)
+          (tt, front)
     ]
 
 pub optional_law : {V : Type 0} {part : Rest → Result (V × Rest) LayoutErr} {spelling : V → List ℕ} {Fits : V → Type 0} →
@@ -202,7 +204,7 @@ members_again part spelling Fits codec (v ∷ vs) more at fits =
     let a = codec.again v (flat_map spelling vs ++ more) at fits.0 in
     let b = members_again part spelling Fits codec vs more a.0 fits.1 in
     let regroup : flat_map spelling (v ∷ vs) ++ more ≡ spelling v ++ (flat_map spelling vs ++ more) =
-        ap (λ (t : List ℕ). t ++ more) (flat_map-cons spelling v vs) ∙ append_assoc (spelling v) (flat_map spelling vs) more in
+    ap (λ (t : List ℕ). t ++ more) (flat_map-cons spelling v vs) ∙ append_assoc (spelling v) (flat_map spelling vs) more in
     (b.0, ap (λ (t : List ℕ). members part (suc (length vs)) (record { left = t; at = at })) regroup ∙ rw (a.1, b.1) refl)
 
 members_found : {V : Type 0} (part : Rest → Result (V × Rest) LayoutErr) (spelling : V → List ℕ) (Fits : V → Type 0) →
@@ -212,17 +214,17 @@ unfolding members
 members_found {V = V} part spelling Fits codec zero i vs j bytes e =
     let both = ok_is ([], i) (vs, j) e in
     subst (λ (x : List V × Rest). (length x.0 ≡ 0) × AllByRecursion Fits x.0 × (i.left ≡ flat_map spelling x.0 ++ x.1.left)) both
-        (refl, tt, refl)
+    (refl, tt, refl)
 members_found {V = V} part spelling Fits codec (suc n) i vs j bytes e =
     let a = step part spelling Fits i _ (vs, j) codec bytes e in
     let b = bind_ok _ _ (vs, j) a.2 in
     let f = members_found part spelling Fits codec n a.0.1 b.0.0 b.0.1 a.1.bytes b.1 in
     let both = ok_is _ (vs, j) b.2 in
     let front : i.left ≡ flat_map spelling (a.0.0 ∷ b.0.0) ++ b.0.1.left =
-        a.1.front ∙ after (spelling a.0.0) _ _ f.2 ∙ sym (append_assoc (spelling a.0.0) (flat_map spelling b.0.0) b.0.1.left)
-        ∙ ap (λ (t : List ℕ). t ++ b.0.1.left) (sym (flat_map-cons spelling a.0.0 b.0.0)) in
+    a.1.front ∙ after (spelling a.0.0) _ _ f.2 ∙ sym (append_assoc (spelling a.0.0) (flat_map spelling b.0.0) b.0.1.left)
+    ∙ ap (λ (t : List ℕ). t ++ b.0.1.left) (sym (flat_map-cons spelling a.0.0 b.0.0)) in
     subst (λ (x : List V × Rest). (length x.0 ≡ suc n) × AllByRecursion Fits x.0 × (i.left ≡ flat_map spelling x.0 ++ x.1.left))
-        both (ap suc f.0, (a.1.fits, f.1), front)
+    both (ap suc f.0, (a.1.fits, f.1), front)
 
 list_again : {V : Type 0} (part : Rest → Result (V × Rest) LayoutErr) (spelling : V → List ℕ) (Fits : V → Type 0) →
     IsCodec part spelling Fits → (vs : List V) (more : List ℕ) (at : ℕ) → ListFits Fits vs →
@@ -230,7 +232,7 @@ list_again : {V : Type 0} (part : Rest → Result (V × Rest) LayoutErr) (spelli
 unfolding list_part list_item
 list_again part spelling Fits codec vs more at fits =
     in_parts (list_part part) (u32_item (length vs) ∷ flat_map spelling vs ∷ []) at vs more
-        (first _ _ _ _ _ count_law (length vs) fits.0 (λ p. members_again part spelling Fits codec vs more p fits.1))
+    (first _ _ _ _ _ count_law (length vs) fits.0 (λ p. members_again part spelling Fits codec vs more p fits.1))
 
 list_found : {V : Type 0} (part : Rest → Result (V × Rest) LayoutErr) (spelling : V → List ℕ) (Fits : V → Type 0) →
     IsCodec part spelling Fits → (i : Rest) (vs : List V) (j : Rest) → IsBytes i.left → list_part part i ≡ Ok (vs, j) →
@@ -239,9 +241,10 @@ unfolding list_part list_item
 list_found part spelling Fits codec i vs j bytes e =
     let a = step _ _ _ i _ (vs, j) count_law bytes e in
     let f = members_found part spelling Fits codec a.0.0 a.0.1 vs j a.1.bytes a.2 in
-    let count : i.left ≡ u32_item (length vs) ++ a.0.1.left = rw (← f.0) at a.1.front in
-    ((rw f.0 a.1.fits, f.1),
-        gathered (u32_item (length vs) ∷ flat_map spelling vs ∷ []) i.left j.left (count ∙ after (u32_item (length vs)) _ _ f.2))
+    let count : i.left ≡ u32_item (length vs) ++ a.0.1.left = rw (← f.0) at a.1.front in (
+      (rw f.0 a.1.fits, f.1),
+      gathered (u32_item (length vs) ∷ flat_map spelling vs ∷ []) i.left j.left (count ∙ after (u32_item (length vs)) _ _ f.2),
+    )
 
 pub list_law : {V : Type 0} {part : Rest → Result (V × Rest) LayoutErr} {spelling : V → List ℕ} {Fits : V → Type 0} →
     IsCodec part spelling Fits → IsCodec (list_part part) (list_item spelling) (ListFits Fits)
@@ -290,7 +293,7 @@ unfolding whole end_of
 all_again part spelling Fits codec v fits =
     let a = codec.again v [] 0 fits in
     let same : part (record { left = spelling v; at = 0 }) ≡ Ok (v, record { left = []; at = a.0 }) =
-        ap (λ (t : List ℕ). part (record { left = t; at = 0 })) (sym (append-nil (spelling v))) ∙ a.1 in
+    ap (λ (t : List ℕ). part (record { left = t; at = 0 })) (sym (append-nil (spelling v))) ∙ a.1 in
     rw same refl
 
 pub all_only : {V : Type 0} (part : Rest → Result (V × Rest) LayoutErr) (spelling : V → List ℕ) (Fits : V → Type 0) →
@@ -312,8 +315,8 @@ all_alone part spelling Fits codec bytes fits (Ok v) g = λ w more fits_w e.
     let a = codec.again v more 0 f.0 in
     let b = codec.again w [] 0 fits_w in
     let one : part (record { left = spelling v ++ more; at = 0 }) ≡ Ok (w, record { left = []; at = b.0 }) =
-        ap (λ (t : List ℕ). part (record { left = t; at = 0 }))
-            (ap (λ (t : List ℕ). t ++ more) (sym f.1) ∙ sym e ∙ sym (append-nil (spelling w))) ∙ b.1 in
+    ap (λ (t : List ℕ). part (record { left = t; at = 0 }))
+    (ap (λ (t : List ℕ). t ++ more) (sym f.1) ∙ sym e ∙ sym (append-nil (spelling w))) ∙ b.1 in
     let both = ok_is (v, record { left = more; at = a.0 }) (w, record { left = []; at = b.0 }) (sym a.1 ∙ one) in
     ap (λ (p : _ × Rest). p.1.left) both
 all_alone part spelling Fits codec bytes fits (Err e) g = tt

@@ -29,7 +29,7 @@ use Rattle.layout_world.proofs.Going.{comes}
 pub quiets_err : (w : World) (e : Event) (before : List Line) (watch : WatchState) (first : ℕ) (client : Option ℕ) (plan : Plan)
     (p : Parties) (now : WatchState)
     (after : List Line) (x : WorldErr) → Comes w e before watch plan p now after (Err x) →
-        Quiets w e before watch first client p now after (Err x)
+    Quiets w e before watch first client p now after (Err x)
 quiets_err w e before watch first client plan p now after KeptFull c = c
 quiets_err w e before watch first client plan p now after Memory c = c
 quiets_err w e before watch first client plan p now after NoName c = absurd c
@@ -58,7 +58,7 @@ finishes_err w e before watch plan p now after (NoMessage k) c = absurd c
 pub finishes_quiet : (w : World) (e : Event) (before : List Line) (watch : WatchState) (first : ℕ) (client : Option ℕ)
     (p : Parties) (now : WatchState)
     (after : List Line) (x : WorldErr) → Quiets w e before watch first client p now after (Err x) →
-        Finishes w e before watch p now after (Err x)
+    Finishes w e before watch p now after (Err x)
 finishes_quiet w e before watch first client p now after KeptFull c = c
 finishes_quiet w e before watch first client p now after Memory c = c
 finishes_quiet w e before watch first client p now after NoName c = absurd c
@@ -83,7 +83,7 @@ finishes_over w e before watch plan p now after (Err x) over c = finishes_err w 
 
 pub due_first : PendingIsShown →
     (w : World) (e : Event) (before : List Line) (watch : WatchState) (first : ℕ) (client : Option ℕ) (p : Parties)
-        (now : WatchState)
+    (now : WatchState)
     (next : ℕ) (lines : List Line) (d : Delivering w e before watch first client p now next lines) (number : ℕ)
     → PendingIs next p.network.messages (Some number)
     → due (behind (Prompt first client)) (world_after w d.far.moves) ≡ Some (Delivers number)
@@ -94,7 +94,7 @@ due_first law w e before watch first client p now next lines d number h =
 
 pub due_quiet : PendingIsShown →
     (w : World) (e : Event) (before : List Line) (watch : WatchState) (first : ℕ) (client : Option ℕ) (p : Parties)
-        (now : WatchState)
+    (now : WatchState)
     (lines : List Line) (d : Delivering w e before watch first client p now (length p.network.messages) lines)
     → due (behind (Prompt first client)) (world_after w d.far.moves) ≡ quiet_of (world_after w d.far.moves) client
 due_quiet law w e before watch first client p now lines d =
@@ -139,7 +139,7 @@ quiet_comes : (w : World) (e : Event) (before : List Line) (watch : WatchState) 
     (d : Delivering w e before watch first client p now (length p.network.messages) lines) (action : Action)
     → due (behind (Prompt first client)) (world_after w d.far.moves) ≡ Some action
     → Moves action p q now next lines after r →
-        Comes w e before watch (went_on (behind (Prompt first client)) action) q next after r
+    Comes w e before watch (went_on (behind (Prompt first client)) action) q next after r
 quiet_comes w e before watch first client p q now next lines after r d action n m =
     comes w e before watch (behind (Prompt first client)) p now lines d.far action q next after r n
     (m (world_after w d.far.moves) d.far.shows)

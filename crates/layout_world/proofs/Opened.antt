@@ -88,7 +88,7 @@ shown_count p w s = ap length s.network.messages ∙ length-map w.network.messag
 
 pub sent_then : (e : Event) (old mid new : Parties) (act : Act) (r : Result (Unit {0}) WorldErr)
     → ActsWith (λ v chosen. begins v chosen e) (ends_in (Opens e)) old mid act →
-        OnOk r (Grows mid.network.messages new.network.messages)
+    OnOk r (Grows mid.network.messages new.network.messages)
     → OnOk r ((w : World) → Shows old w → length old.network.messages ≤ length new.network.messages)
 sent_then e old mid new act (Err x) does g = tt
 sent_then e old mid new act (Ok u) does g = λ w s.
@@ -99,7 +99,7 @@ sent_then e old mid new act (Ok u) does g = λ w s.
     let n : length (begins w did.chosen e).world.network.messages ≡ length w.network.messages =
     (acts_count w did.chosen (Opens e)).messages in
     let m : length new.network.messages ≡ length mid.network.messages + length g.0 =
-        ap length g.1 ∙ length-append mid.network.messages g.0 in
+    ap length g.1 ∙ length-append mid.network.messages g.0 in
     omega (arith, a, b, n, m)
 
 -- ---- an event that was carried out, or for which there was no memory behind its lines

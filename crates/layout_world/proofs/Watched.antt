@@ -63,7 +63,7 @@ watched tell goes_on follows w w' e before after n old new g shows seen moments 
     subst (λ (v : World). ShowsNetwork n v.network) g.carries.world_is shows in
     let told : Tells (h ++ lines) n.messages =
     subst (λ (ls : List Line). Tells (h ++ ls) n.messages) (sym g.carries.lines_are ∙ same)
-        (tell w h e g.carries.moves n st then_) in
+    (tell w h e g.carries.moves n st then_) in
     let read : Watches (h ++ lines) new =
     goes_on h lines n.messages old new k.told told (subst (λ (ls : List Line). HasSeen n.messages ls old new) own seen) in
     let event : line.Event e ∷ lines_of w g.carries.moves ≡ lines = sym g.carries.lines_are ∙ same in

@@ -25,18 +25,25 @@ putting-last : (xs : List Talk) (t : Talk) (bytes : List ℕ) →
     after_putting bytes (xs ++ t ∷ []) ≡ xs ++ record t { put = t.put ++ bytes } ∷ []
 putting-last xs t bytes =
     ap (λ (u : Talk). with_newest (xs ++ t ∷ []) (record u { put = u.put ++ bytes })) (newest-last xs t)
-        ∙ with_newest-last xs t (record t { put = t.put ++ bytes })
+    ∙ with_newest-last xs t (record t { put = t.put ++ bytes })
 
 taking-last : (xs : List Talk) (t : Talk) (n : ℕ) → after_taking n (xs ++ t ∷ []) ≡ xs ++ record t { left = drop n t.left } ∷ []
 taking-last xs t n =
     ap (λ (u : Talk). with_newest (xs ++ t ∷ []) (record u { left = drop n u.left })) (newest-last xs t)
-        ∙ with_newest-last xs t (record t { left = drop n t.left })
+    ∙ with_newest-last xs t (record t { left = drop n t.left })
 
 -- the connections of which the newest asks
 abbrev asked_as : Node → Traffic → List Talk → Option Traffic
 asked_as to a talks =
-    Some (record { to_accept = a.to_accept; accepted = a.accepted; to_ask = drop 1 a.to_ask; asked = talks; nodes =
-    a.nodes ++ to ∷ []; notes = a.notes })
+    Some (record {
+      to_accept = a.to_accept;
+      accepted = a.accepted;
+      to_ask = drop 1 a.to_ask;
+      asked = talks;
+      nodes =
+          a.nodes ++ to ∷ [];
+      notes = a.notes;
+    })
 
 -- ---- sending
 
@@ -65,9 +72,9 @@ received-then o m n got buf k w r = record {
     more : (a : Traffic) (to : Node) (t : Talk) → LeftOf a to t m got → LeftOf a to t n (got ++ take k buf)
     more a to t l =
         let next : Receives (Some (with_asked to (record t { left = l.0 }) a)) n (Ok k) buf =
-            subst (λ (x : Option Traffic). Receives x n (Ok k) buf) l.2 r in
+        subst (λ (x : Option Traffic). Receives x n (Ok k) buf) l.2 r in
         let comes : Comes (record t { left = l.0 }) k buf =
-            subst (λ (u : Talk). Comes u k buf) (newest-last a.asked (record t { left = l.0 })) next.1 in (
+        subst (λ (u : Talk). Comes u k buf) (newest-last a.asked (record t { left = l.0 })) next.1 in (
           drop k l.0,
           l.1 ∙ ap (λ (x : List ℕ). got ++ x) (sym (take-append-drop k l.0))
               ∙ ap (λ (x : List ℕ). got ++ (x ++ drop k l.0)) (sym comes.1) ∙ sym (append_assoc got (take k buf) (drop k l.0)),
@@ -93,15 +100,15 @@ pub first-of : (got piece rest : List ℕ) (b : Begun) (r : List ℕ) (rs : List
 first-of got piece rest b r rs h e =
     ap (λ (s : Split). first_or s.records s.begun) (split-append fresh (got ++ piece) rest)
     ∙ first-carried (split fresh (got ++ piece)).records (split fresh (got ++ piece)).begun rest r rs
-        (ap (λ (s : Split). s.records) (with_piece got piece b h) ∙ e)
+    (ap (λ (s : Split). s.records) (with_piece got piece b h) ∙ e)
 
 pub long-of : (got piece rest : List ℕ) (b : Begun) → HasRead got [] b → (split b piece).records ≡ [] →
     (split b piece).begun ≡ None → first_record ((got ++ piece) ++ rest) ≡ Err TooLong
 long-of got piece rest b h e g =
     ap (λ (s : Split). first_or s.records s.begun) (split-append fresh (got ++ piece) rest)
     ∙ long-carried (split fresh (got ++ piece)).records (split fresh (got ++ piece)).begun rest
-        (ap (λ (s : Split). s.records) (with_piece got piece b h) ∙ e)
-            (ap (λ (s : Split). s.begun) (with_piece got piece b h) ∙ g)
+    (ap (λ (s : Split). s.records) (with_piece got piece b h) ∙ e)
+    (ap (λ (s : Split). s.begun) (with_piece got piece b h) ∙ g)
 
 -- a piece that came gives the answer
 pub receives-first : (o n : Option Traffic) (got piece : List ℕ) (b : Begun) (r : List ℕ) → WasReceived o n (got ++ piece) →
@@ -136,9 +143,9 @@ receives-end o m n got buf b w r room h = record {
     over : (a : Traffic) (to : Node) (t : Talk) → LeftOf a to t m got → first_record t.left ≡ Err Ended
     over a to t l =
         let next : Receives (Some (with_asked to (record t { left = l.0 }) a)) n (Ok 0) buf =
-            subst (λ (x : Option Traffic). Receives x n (Ok 0) buf) l.2 r in
+        subst (λ (x : Option Traffic). Receives x n (Ok 0) buf) l.2 r in
         let comes : Comes (record t { left = l.0 }) 0 buf =
-            subst (λ (u : Talk). Comes u 0 buf) (newest-last a.asked (record t { left = l.0 })) next.1 in
+        subst (λ (u : Talk). Comes u 0 buf) (newest-last a.asked (record t { left = l.0 })) next.1 in
         let whole : t.left ≡ got = l.1 ∙ ap (λ (x : List ℕ). got ++ x) (comes.2 refl room) ∙ append-nil got in
         ap first_record whole ∙ ap (λ (s : Split). first_or s.records s.begun) h
 
@@ -147,13 +154,13 @@ receives-end o m n got buf b w r room h = record {
 pub exchanged : (to : Node) (message bytes : List ℕ) (o m s n : Option Traffic) (u : Unit {0})
     (result : Result (List ℕ) ExchangeErr)
     → bytes ≡ framed message → Connects to o m (Ok u) → WasSent m s bytes → ReceivesFirst s n result →
-        Exchanges to message o n result
+    Exchanges to message o n result
 exchanged to message bytes None m s n u result e c w r = r.none (w.none c)
 exchanged to message bytes (Some a) m s n u result e c w r =
     asked result
-        (r.some a to (record { left = next_stream a.to_ask; put = framed message })
-        (w.some a to (begin (next_stream a.to_ask)) c
-        ∙ ap (λ (p : List ℕ). Some (with_asked to (record { left = next_stream a.to_ask; put = p }) a)) e))
+    (r.some a to (record { left = next_stream a.to_ask; put = framed message })
+    (w.some a to (begin (next_stream a.to_ask)) c
+    ∙ ap (λ (p : List ℕ). Some (with_asked to (record { left = next_stream a.to_ask; put = p }) a)) e))
   where
     asked : (result : Result (List ℕ) ExchangeErr) →
         ((got : List ℕ) × LeftOf a to (record { left = next_stream a.to_ask; put = framed message }) n got) ×
@@ -162,17 +169,35 @@ exchanged to message bytes (Some a) m s n u result e c w r =
     asked (Err Ended) p = (record { got = p.0.0; left = p.0.1.0; stream = p.0.1.1; told = p.0.1.2 }, p.1)
     asked (Err TooLong) p = (record { got = p.0.0; left = p.0.1.0; stream = p.0.1.1; told = p.0.1.2 }, p.1)
     asked (Err LinkFault) p =
-        inr (inr (framed message, [], sym (append-nil (framed message)),
-        record { got = p.0.0; left = p.0.1.0; stream = p.0.1.1; told = p.0.1.2 }))
+        inr (inr (
+          framed message,
+          [],
+          sym (append-nil (framed message)),
+          record { got = p.0.0; left = p.0.1.0; stream = p.0.1.1; told = p.0.1.2 },
+        ))
     asked (Err Memory) p =
-        inr (inr (framed message, [], sym (append-nil (framed message)),
-        record { got = p.0.0; left = p.0.1.0; stream = p.0.1.1; told = p.0.1.2 }))
+        inr (inr (
+          framed message,
+          [],
+          sym (append-nil (framed message)),
+          record { got = p.0.0; left = p.0.1.0; stream = p.0.1.1; told = p.0.1.2 },
+        ))
 
 pub cut_in_sending : (to : Node) (message bytes : List ℕ) (o m n : Option Traffic) (u : Unit {0}) → bytes ≡ framed message →
     Connects to o m (Ok u)
     → ((sent more : List ℕ) × (bytes ≡ sent ++ more) × WasSent m n sent) → Exchanges to message o n (Err LinkFault)
 cut_in_sending to message bytes None m n u e c w = w.3.none c
 cut_in_sending to message bytes (Some a) m n u e c w =
-    inr (inr (w.0, w.1, sym e
-        ∙ w.2, record { got = []; left = next_stream a.to_ask; stream = refl; told =
-        w.3.some a to (begin (next_stream a.to_ask)) c }))
+    inr (inr (
+      w.0,
+      w.1,
+      sym e
+          ∙ w.2,
+      record {
+        got = [];
+        left = next_stream a.to_ask;
+        stream = refl;
+        told =
+            w.3.some a to (begin (next_stream a.to_ask)) c;
+      },
+    ))

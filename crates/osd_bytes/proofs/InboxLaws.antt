@@ -26,7 +26,7 @@ taking-last : (talks : List Talk) (t : Talk) (n : ℕ) →
     after_taking n (talks ++ t ∷ []) ≡ talks ++ record t { left = drop n t.left } ∷ []
 taking-last talks t n =
     ap (λ (u : Talk). with_newest (talks ++ t ∷ []) (record u { left = drop n u.left })) (newest-last talks t)
-        ∙ with_newest-last talks t (record t { left = drop n t.left })
+    ∙ with_newest-last talks t (record t { left = drop n t.left })
 
 pub taken-nil : (o : Option Traffic) → WasTaken o o []
 taken-nil o = record { none = λ e. e; some = λ a talks t e. (t.left, refl, e) }
@@ -51,7 +51,7 @@ pub taken-end : (o n : Option Traffic) (buf : List ℕ) → 0 < length buf → T
 taken-end None n buf room r = rw r tt
 taken-end (Some a) n buf room r =
     rw r.2 (ap (λ (t : Talk). t.left)
-        (newest-with a.accepted (record (newest a.accepted) { left = drop 0 (newest a.accepted).left }) r.0) ∙ r.1.2 refl room)
+    (newest-with a.accepted (record (newest a.accepted) { left = drop 0 (newest a.accepted).left }) r.0) ∙ r.1.2 refl room)
 
 -- ---- what is put
 
@@ -59,7 +59,7 @@ putting-last : (talks : List Talk) (t : Talk) (bytes : List ℕ) →
     after_putting bytes (talks ++ t ∷ []) ≡ talks ++ record t { put = t.put ++ bytes } ∷ []
 putting-last talks t bytes =
     ap (λ (u : Talk). with_newest (talks ++ t ∷ []) (record u { put = u.put ++ bytes })) (newest-last talks t)
-        ∙ with_newest-last talks t (record t { put = t.put ++ bytes })
+    ∙ with_newest-last talks t (record t { put = t.put ++ bytes })
 
 pub put-then : (o m n : Option Traffic) (sent bytes : List ℕ) (k : ℕ) → WasPut o m sent → Puts m n (Ok k) bytes →
     WasPut o n (sent ++ take k bytes)
@@ -68,6 +68,6 @@ put-then o m n sent bytes k w r = record {
   some = λ a talks t e.
       (subst (λ (x : Option Traffic). Puts x n (Ok k) bytes) (w.some a talks t e) r).1
       ∙ ap (λ (ts : List Talk). Some (record a { accepted = ts }))
-          (putting-last talks (record t { put = t.put ++ sent }) (take k bytes))
+      (putting-last talks (record t { put = t.put ++ sent }) (take k bytes))
       ∙ ap (λ (p : List ℕ). Some (with_newest_talk a talks (record t { put = p }))) (append_assoc t.put sent (take k bytes));
 }

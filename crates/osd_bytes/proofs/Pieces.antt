@@ -10,9 +10,10 @@ use Rattle.osd_bytes.specs.declared.lines.TheConstants.{MAX_LINE}
 quiet_upto : (xs : List ℕ) (n : ℕ) → Nowhere (Passes (is_byte 10) xs) 0 n → n ≤ length xs → NoNewline (take n xs)
 quiet_upto xs zero none le = tt
 quiet_upto [] (suc n) none le = tt
-quiet_upto (x ∷ xs) (suc n) none le =
-    (false_from_ne_true _ (none 0 (omega arith) (omega arith)),
-        quiet_upto xs n (λ k low high. none (suc k) (omega arith) (omega arith)) (omega arith))
+quiet_upto (x ∷ xs) (suc n) none le = (
+  false_from_ne_true _ (none 0 (omega arith) (omega arith)),
+  quiet_upto xs n (λ k low high. none (suc k) (omega arith) (omega arith)) (omega arith),
+)
 
 -- what a newline among the first bytes ends
 pub takes_newline : (line line' ahead front ahead' : List ℕ) (taken most k : ℕ) → front ≡ take most ahead →
@@ -22,7 +23,7 @@ pub takes_newline : (line line' ahead front ahead' : List ℕ) (taken most k : �
 takes_newline line line' ahead front ahead' taken most k is found grown left room =
     let first = found.0 in
     let whole : ahead ≡ front ++ drop most ahead =
-        sym (take-append-drop most ahead) ∙ ap (λ (t : List ℕ). t ++ drop most ahead) (sym is) in
+    sym (take-append-drop most ahead) ∙ ap (λ (t : List ℕ). t ++ drop most ahead) (sym is) in
     let through : take (k + 1) ahead ≡ take k front ++ 10 ∷ [] =
     ap (take (k + 1)) whole
     ∙ take-append-le (k + 1) front (drop most ahead) (omega (arith, first.high))
@@ -32,7 +33,7 @@ takes_newline line line' ahead front ahead' taken most k is found grown left roo
     let came : length (take k front ++ 10 ∷ []) ≡ k + 1 = length-append (take k front) (10 ∷ []) ∙ ap (λ (n : ℕ). n + 1) short in
     let long : length (line' ++ 10 ∷ []) ≡ length line + k + 1 =
     length-append line' (10 ∷ [])
-        ∙ ap (λ (n : ℕ). n + 1) (ap length grown ∙ length-append line (take k front) ∙ ap (λ (n : ℕ). length line + n) short) in
+    ∙ ap (λ (n : ℕ). n + 1) (ap length grown ∙ length-append line (take k front) ∙ ap (λ (n : ℕ). length line + n) short) in
     let within : length front ≤ most = omega (arith, ap length is, length-take most ahead) in
     record {
       piece = take k front;
@@ -52,9 +53,9 @@ pub takes_all : (line line' ahead front ahead' : List ℕ) (taken most : ℕ) �
     → TakesPiece line line' ahead ahead' taken (taken + length front) false
 takes_all line line' ahead front ahead' taken most is none grown left room some more =
     let whole : ahead ≡ front ++ drop most ahead =
-        sym (take-append-drop most ahead) ∙ ap (λ (t : List ℕ). t ++ drop most ahead) (sym is) in
+    sym (take-append-drop most ahead) ∙ ap (λ (t : List ℕ). t ++ drop most ahead) (sym is) in
     let behind : drop (length front) ahead ≡ drop most ahead =
-        ap (drop (length front)) whole ∙ drop-append_seam front (drop most ahead) in
+    ap (drop (length front)) whole ∙ drop-append_seam front (drop most ahead) in
     let count : length front ≡ min most (length ahead) = ap length is ∙ length-take most ahead in
     let long : length line' ≡ length line + length front = ap length grown ∙ length-append line front in
     record {

@@ -30,7 +30,7 @@ in_front-carried r rs (Some c) ys = refl
 step-append : (s : Step) (xs ys : List ℕ) →
     ((c : Begun) → split c (xs ++ ys) ≡ carried (split c xs).records (split c xs).begun ys)
     → then_split s (λ c. split c (xs ++ ys)) ≡ carried (then_split s (λ c. split c xs)).records
-        (then_split s (λ c. split c xs)).begun ys
+    (then_split s (λ c. split c xs)).begun ys
 step-append (Goes c) xs ys h = h c
 step-append (Gives r) xs ys h = ap (in_front r) (h fresh) ∙ in_front-carried r (split fresh xs).records (split fresh xs).begun ys
 step-append Breaks xs ys h = refl
@@ -57,41 +57,45 @@ read_on came piece given records b c h e =
 abbrev pub ended : Bool → List ℕ → ℕ → Split
 ended last payload n =
     then_split (closed (record { payload = payload; fragments = n; header = []; last = last; left = 0 }))
-        (λ c. record { records = []; begun = Some c })
+    (λ c. record { records = []; begun = Some c })
 
 payload_read : (last : Bool) (p : List ℕ) (n : ℕ) (x : ℕ) (xs : List ℕ)
     → split (record { payload = p; fragments = n; header = []; last = last; left = suc (length xs) }) (x ∷ xs) ≡ ended last
-        (p ++ x ∷ xs) n
+    (p ++ x ∷ xs) n
 unfolding split after
 payload_read last p n x [] = refl
 payload_read last p n x (y ∷ ys) =
     let less : suc (suc (length ys)) - 1 ≡ suc (length ys) = omega arith in
     rw (eqb-suc-zero (suc (length ys)), less, eqb-suc-zero (length ys))
-        (payload_read last (p ++ x ∷ []) n y ys ∙ ap (λ (q : List ℕ). ended last q n) (append_assoc p (x ∷ []) (y ∷ ys)))
+    (payload_read last (p ++ x ∷ []) n y ys ∙ ap (λ (q : List ℕ). ended last q n) (append_assoc p (x ∷ []) (y ∷ ys)))
 
 abbrev waiting : List ℕ → ℕ → Begun
 waiting p n = record { payload = p; fragments = n; header = []; last = false; left = 0 }
 
 header_read : (p : List ℕ) (n number : ℕ) (xs : List ℕ)
     → split (waiting p n) (to_be_bytes w32 number ++ xs) ≡ then_split
-        (opened (waiting p n) (from_be_bytes w32 (to_be_bytes w32 number))) (λ e. split e xs)
+    (opened (waiting p n) (from_be_bytes w32 (to_be_bytes w32 number))) (λ e. split e xs)
 unfolding split after
 header_read p n number xs = refl
 
 opened_read : (last : Bool) (p : List ℕ) (n size : ℕ) → n < MAX_FRAGMENTS → length p + size ≤ MAX_RECORD
     → opened (waiting p n) ((if last then 2 ^ 31 else 0) + size) ≡ closed
-        (record { payload = p; fragments = n + 1; header = []; last = last; left = size })
+    (record { payload = p; fragments = n + 1; header = []; last = last; left = size })
 opened_read true p n size few short =
     let less : (2 ^ 31 + size) - 2 ^ 31 ≡ size = omega arith in
-    rw (lt-leb MAX_FRAGMENTS n few, le-leb (2 ^ 31) (2 ^ 31 + size) (omega arith), less,
-        le-ltb MAX_RECORD (length p + size) short) refl
+    rw (
+      lt-leb MAX_FRAGMENTS n few,
+      le-leb (2 ^ 31) (2 ^ 31 + size) (omega arith),
+      less,
+      le-ltb MAX_RECORD (length p + size) short,
+    ) refl
 opened_read false p n size few short =
     let same : 0 + size ≡ size = omega arith in
     rw (same, lt-leb MAX_FRAGMENTS n few, lt-leb (2 ^ 31) size (omega arith), le-ltb MAX_RECORD (length p + size) short) refl
 
 closed_read : (last : Bool) (p xs : List ℕ) (n : ℕ)
     → then_split (closed (record { payload = p; fragments = n; header = []; last = last; left = length xs }))
-        (λ e. split e xs) ≡ ended last (p ++ xs) n
+    (λ e. split e xs) ≡ ended last (p ++ xs) n
 unfolding split after
 closed_read true p [] n = rw append-nil refl
 closed_read false p [] n = rw append-nil refl
@@ -103,7 +107,7 @@ fragment_read : (last : Bool) (p xs : List ℕ) (n : ℕ) → n < MAX_FRAGMENTS 
 fragment_read last p xs n few short =
     header_read p n _ xs
     ∙ ap (λ (k : ℕ). then_split (opened (waiting p n) k) (λ e. split e xs))
-        (from_be_bytes-to_be_bytes_4 _ (in_header last (length xs) (omega (arith, short))))
+    (from_be_bytes-to_be_bytes_4 _ (in_header last (length xs) (omega (arith, short))))
     ∙ ap (λ (s : Step). then_split s (λ e. split e xs)) (opened_read last p n (length xs) few short)
     ∙ closed_read last p xs (n + 1)
   where
@@ -119,9 +123,9 @@ fragments_read q p [] n few short =
 fragments_read q p (r ∷ ps) n few short =
     split-append (waiting q n) (fragment false p) (fragmented (r ∷ ps))
     ∙ ap (λ (s : Split). carried s.records s.begun (fragmented (r ∷ ps)))
-        (fragment_read false q p n (omega (arith, few)) (omega (arith, short, length-append p (joined (r ∷ ps)))))
+    (fragment_read false q p n (omega (arith, few)) (omega (arith, short, length-append p (joined (r ∷ ps)))))
     ∙ fragments_read (q ++ p) r ps (n + 1) (omega (arith, few))
-        (omega (arith, short, length-append p (joined (r ∷ ps)), length-append q p))
+    (omega (arith, short, length-append p (joined (r ∷ ps)), length-append q p))
     ∙ rw (append_assoc q p (joined (r ∷ ps))) refl
 
 pub joins_fragments : JoinsFragments
@@ -133,8 +137,8 @@ joins_fragments p ps few short = fragments_read [] p ps 0 (omega (arith, few)) (
 payload_together : (p h : List ℕ) (n : ℕ) (last : Bool) (k x : ℕ) (xs ys : List ℕ) → length xs ≤ k
     → split (record { payload = p; fragments = n; header = h; last = last; left = suc k }) (x ∷ (xs ++ ys))
     ≡ then_split
-        (closed (record { payload = p ++ x ∷ xs; fragments = n; header = h; last = last; left = suc k - length (x ∷ xs) }))
-            (λ c. split c ys)
+    (closed (record { payload = p ++ x ∷ xs; fragments = n; header = h; last = last; left = suc k - length (x ∷ xs) }))
+    (λ c. split c ys)
 unfolding split after
 payload_together p h n last k x [] ys short = rw (eqb-suc-zero k) refl
 payload_together p h n last zero x (y ∷ zs) ys short = absurd (omega (arith, short))
@@ -144,17 +148,17 @@ payload_together p h n last (suc j) x (y ∷ zs) ys short =
     rw (eqb-suc-zero (suc j), less, eqb-suc-zero j) (
     payload_together (p ++ x ∷ []) h n last j y zs ys (omega (arith, short))
     ∙ ap (λ (q : List ℕ). then_split
-        (closed (record { payload = q; fragments = n; header = h; last = last; left = suc j - length (y ∷ zs) }))
-            (λ c. split c ys)) (append_assoc p (x ∷ []) (y ∷ zs))
+    (closed (record { payload = q; fragments = n; header = h; last = last; left = suc j - length (y ∷ zs) }))
+    (λ c. split c ys)) (append_assoc p (x ∷ []) (y ∷ zs))
     ∙ ap (λ (l : ℕ). then_split (closed (record { payload = p ++ x ∷ y ∷ zs; fragments = n; header = h; last = last; left = l }))
-        (λ c. split c ys)) same
+    (λ c. split c ys)) same
     )
 
 together_at : (p h : List ℕ) (n : ℕ) (last : Bool) (left : ℕ) (xs ys : List ℕ)
     → GoTogether (record { payload = p; fragments = n; header = h; last = last; left = left }) xs
     → split (record { payload = p; fragments = n; header = h; last = last; left = left }) (xs ++ ys)
     ≡ then_split (after_together (record { payload = p; fragments = n; header = h; last = last; left = left }) xs)
-        (λ c. split c ys)
+    (λ c. split c ys)
 unfolding split after after_together
 together_at p h n last left [] ys fits = absurd (omega (arith, fits.0))
 together_at p h n last zero (x ∷ []) ys fits = refl
@@ -163,7 +167,7 @@ together_at p h n last (suc k) (x ∷ xs) ys fits =
     let short = rw (eqb-suc-zero k) at fits.1 in
     let b : Begun = record { payload = p; fragments = n; header = h; last = last; left = suc k } in
     let same : after_together b (x ∷ xs) ≡ closed (record b { payload = p ++ x ∷ xs; left = suc k - length (x ∷ xs) }) =
-        rw (eqb-suc-zero k) refl in
+    rw (eqb-suc-zero k) refl in
     payload_together p h n last k x xs ys (omega (arith, short)) ∙ ap (λ (s : Step). then_split s (λ c. split c ys)) (sym same)
 
 -- what comes of bytes that go together, and of what follows them
@@ -188,27 +192,27 @@ step_at b piece at bytes fits =
 pub piece-step : (whole : Split) (rs : List (List ℕ)) (b c : Begun) (r : Option (List ℕ)) (piece : List ℕ) (at : ℕ)
     (bytes : List ℕ) → Steps b piece at bytes
     → whole ≡ behind rs (split b (drop at piece)) → Advances (after_together b bytes) (Ok r) b c →
-        whole ≡ behind (rs ++ option_to_list r) (split c (drop (at + length bytes) piece))
+    whole ≡ behind (rs ++ option_to_list r) (split c (drop (at + length bytes) piece))
 piece-step whole rs b c None piece at bytes fits e step =
     rw (append-nil rs)
-        (e ∙ ap (behind rs)
-        (step_at b piece at bytes fits ∙ ap (λ (s : Step). then_split s (λ d. split d (drop (at + length bytes) piece))) step))
+    (e ∙ ap (behind rs)
+    (step_at b piece at bytes fits ∙ ap (λ (s : Step). then_split s (λ d. split d (drop (at + length bytes) piece))) step))
 piece-step whole rs b c (Some r) piece at bytes fits e step =
     rw step.1 (e
-        ∙ ap (behind rs)
-            (step_at b piece at bytes fits
-            ∙ ap (λ (s : Step). then_split s (λ d. split d (drop (at + length bytes) piece))) step.0)
+    ∙ ap (behind rs)
+    (step_at b piece at bytes fits
+    ∙ ap (λ (s : Step). then_split s (λ d. split d (drop (at + length bytes) piece))) step.0)
     ∙ ap (λ (qs : List (List ℕ)). record { records = qs; begun = (split fresh (drop (at + length bytes) piece)).begun })
-        (sym (append_assoc rs (r ∷ []) (split fresh (drop (at + length bytes) piece)).records)))
+    (sym (append_assoc rs (r ∷ []) (split fresh (drop (at + length bytes) piece)).records)))
 
 -- bytes with which the record in work is too long
 piece-breaks : (whole : Split) (rs : List (List ℕ)) (b : Begun) (piece : List ℕ) (at : ℕ) (bytes : List ℕ) →
     Steps b piece at bytes
     → whole ≡ behind rs (split b (drop at piece)) → after_together b bytes ≡ Breaks →
-        whole ≡ record { records = rs; begun = None }
+    whole ≡ record { records = rs; begun = None }
 piece-breaks whole rs b piece at bytes fits e step =
     e ∙ ap (behind rs)
-        (step_at b piece at bytes fits ∙ ap (λ (s : Step). then_split s (λ d. split d (drop (at + length bytes) piece))) step)
+    (step_at b piece at bytes fits ∙ ap (λ (s : Step). then_split s (λ d. split d (drop (at + length bytes) piece))) step)
     ∙ ap (λ (qs : List (List ℕ)). record { records = qs; begun = None }) (append-nil rs)
 
 pub piece-refused : (whole end : Split) (b c : Begun) (e : RecordErr) (piece : List ℕ) (at : ℕ) (bytes : List ℕ) →
@@ -222,13 +226,13 @@ piece-refused whole end b c Memory piece at bytes fits e step = tt
 pub piece-long : (whole : Split) (rs : List (List ℕ)) (b c : Begun) (e : RecordErr) (piece : List ℕ) (at : ℕ) (bytes : List ℕ) →
     Steps b piece at bytes
     → whole ≡ behind rs (split b (drop at piece)) → Advances (after_together b bytes) (Err e) b c → e ≡ TooLong →
-        whole ≡ record { records = rs; begun = None }
+    whole ≡ record { records = rs; begun = None }
 piece-long whole rs b c TooLong piece at bytes fits e step is = piece-breaks whole rs b piece at bytes fits e step.0
 piece-long whole rs b c Memory piece at bytes fits e step is = absurd (cc is)
 
 pub piece-first : (whole : Split) (b c : Begun) (r : List ℕ) (piece : List ℕ) (at : ℕ) (bytes : List ℕ) → Steps b piece at bytes
     → whole ≡ behind [] (split b (drop at piece)) → Advances (after_together b bytes) (Ok (Some r)) b c →
-        (rs : List (List ℕ)) × (whole.records ≡ r ∷ rs)
+    (rs : List (List ℕ)) × (whole.records ≡ r ∷ rs)
 piece-first whole b c r piece at bytes fits e step =
     let given = piece-step whole [] b c (Some r) piece at bytes fits e step in
     ((split c (drop (at + length bytes) piece)).records, ap (λ (s : Split). s.records) given)

@@ -14,7 +14,7 @@ talked-nil o = record {
     e ∙ ap (λ (p : List ℕ). Some (with_newest_talk a talks (record { left = t.left; put = p }))) (sym (append-nil t.put))
         ∙ ap
         (λ (ns : List (List ℕ)). Some
-            (with_newest_talk (record a { notes = ns }) talks (record { left = t.left; put = t.put ++ [] })))
+        (with_newest_talk (record a { notes = ns }) talks (record { left = t.left; put = t.put ++ [] })))
         (sym (append-nil a.notes)),
   );
 }
@@ -42,7 +42,7 @@ talked-put o m n taken put bytes notes d w = record {
         l.1,
         w.some (with_notes notes a) talks (record { left = l.0; put = t.put ++ put }) l.2
             ∙ ap (λ (p : List ℕ). Some (with_newest_talk (with_notes notes a) talks (record { left = l.0; put = p })))
-                (append_assoc t.put put bytes),
+            (append_assoc t.put put bytes),
       );
 }
 
@@ -57,7 +57,7 @@ talked-noted o m n taken put notes lines d w = record {
         w ∙ ap (λ (x : Option Traffic). after_notes lines x) l.2
             ∙ ap
             (λ (ns : List (List ℕ)). Some
-                (with_newest_talk (record a { notes = ns }) talks (record { left = l.0; put = t.put ++ put })))
+            (with_newest_talk (record a { notes = ns }) talks (record { left = l.0; put = t.put ++ put })))
             (append_assoc a.notes notes lines),
       );
 }

@@ -35,7 +35,7 @@ read_ok bytes c e =
     let b = guard_ok (is_format (get_or bytes 0 0)) Format _ c a.1 in
     let d = unless_reserved_ok (stray bytes) (capability_at bytes) c b.1 in
     let front = option_or-none (option_or (first_nonzero bytes 1 2) (first_nonzero bytes 28 32))
-        (first_nonzero bytes 64 96) d.0 in
+    (first_nonzero bytes 64 96) d.0 in
     let two = option_or-none (first_nonzero bytes 1 2) (first_nonzero bytes 28 32) front.0 in
     let long : length bytes ≡ 96 = eqb-true _ _ a.0 in (
       record {
@@ -57,19 +57,19 @@ unfolding spelling capability_at
 spelled bytes fits h =
     let long = h.long in
     next bytes 0 1 _ _ (omega arith) (first bytes (omega arith))
-        (next bytes 1 2 _ _ (omega arith) (sym h.one)
-        (next bytes 2 4 _ _ (omega arith) (number_16 bytes 2 4 fits refl (omega arith))
-        (next bytes 4 8 _ _ (omega arith) (number_32 bytes 4 8 fits refl (omega arith))
+    (next bytes 1 2 _ _ (omega arith) (sym h.one)
+    (next bytes 2 4 _ _ (omega arith) (number_16 bytes 2 4 fits refl (omega arith))
+    (next bytes 4 8 _ _ (omega arith) (number_32 bytes 4 8 fits refl (omega arith))
     (next bytes 8 16 _ _ (omega arith) (number_64 bytes 8 16 fits refl (omega arith))
-        (next bytes 16 20 _ _ (omega arith) (number_32 bytes 16 20 fits refl (omega arith))
-        (next bytes 20 24 _ _ (omega arith) (number_32 bytes 20 24 fits refl (omega arith))
+    (next bytes 16 20 _ _ (omega arith) (number_32 bytes 16 20 fits refl (omega arith))
+    (next bytes 20 24 _ _ (omega arith) (number_32 bytes 20 24 fits refl (omega arith))
     (next bytes 24 28 _ _ (omega arith) (number_32 bytes 24 28 fits refl (omega arith))
-        (next bytes 28 32 _ _ (omega arith) (sym h.four)
-        (next bytes 32 40 _ _ (omega arith) (number_64 bytes 32 40 fits refl (omega arith))
+    (next bytes 28 32 _ _ (omega arith) (sym h.four)
+    (next bytes 32 40 _ _ (omega arith) (number_64 bytes 32 40 fits refl (omega arith))
     (next bytes 40 48 _ _ (omega arith) (number_64 bytes 40 48 fits refl (omega arith))
-        (next bytes 48 56 _ _ (omega arith) (number_64 bytes 48 56 fits refl (omega arith))
-        (next bytes 56 64 _ _ (omega arith) (number_64 bytes 56 64 fits refl (omega arith))
-        (sym h.last ∙ take_all 32 (drop 64 bytes) (omega (arith, length-drop 64 bytes)))))))))))))))
+    (next bytes 48 56 _ _ (omega arith) (number_64 bytes 48 56 fits refl (omega arith))
+    (next bytes 56 64 _ _ (omega arith) (number_64 bytes 56 64 fits refl (omega arith))
+    (sym h.last ∙ take_all 32 (drop 64 bytes) (omega (arith, length-drop 64 bytes)))))))))))))))
 
 fits_at : (bytes : List ℕ) → IsBytes bytes → IsTrue (is_format (get_or bytes 0 0)) → Fits (capability_at bytes)
 unfolding capability_at
@@ -98,11 +98,19 @@ reading-found bytes (Err f) fits e = tt
 pub reading-spelling : (c : Capability) → Fits c → reading (spelling c) ≡ Ok c
 unfolding reading spelling stray capability_at
 reading-spelling c h =
-    rw (h.format, from_be_bytes-to_be_bytes_2 c.key_version h.key_version, from_be_bytes-to_be_bytes_4 c.rights h.rights,
-    from_be_bytes-to_be_bytes_8 c.expiry h.expiry, from_be_bytes-to_be_bytes_4 c.grant h.grant,
-    from_be_bytes-to_be_bytes_4 c.holder h.holder, from_be_bytes-to_be_bytes_4 c.tag h.tag,
-    from_be_bytes-to_be_bytes_8 c.partition h.partition, from_be_bytes-to_be_bytes_8 c.object h.object,
-    from_be_bytes-to_be_bytes_8 c.range_start h.range_start, from_be_bytes-to_be_bytes_8 c.range_len h.range_len) refl
+    rw (
+      h.format,
+      from_be_bytes-to_be_bytes_2 c.key_version h.key_version,
+      from_be_bytes-to_be_bytes_4 c.rights h.rights,
+      from_be_bytes-to_be_bytes_8 c.expiry h.expiry,
+      from_be_bytes-to_be_bytes_4 c.grant h.grant,
+      from_be_bytes-to_be_bytes_4 c.holder h.holder,
+      from_be_bytes-to_be_bytes_4 c.tag h.tag,
+      from_be_bytes-to_be_bytes_8 c.partition h.partition,
+      from_be_bytes-to_be_bytes_8 c.object h.object,
+      from_be_bytes-to_be_bytes_8 c.range_start h.range_start,
+      from_be_bytes-to_be_bytes_8 c.range_len h.range_len,
+    ) refl
 
 pub length-spelling : (c : Capability) → length (spelling c) ≡ 96
 unfolding spelling

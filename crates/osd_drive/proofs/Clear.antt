@@ -94,9 +94,11 @@ pub clear_early : (d : DriveState) (now : ℕ) (c : Command) → first_fault d n
     ((is_set_attr c.action && nat_lt c.attribute FIRST_USER_ATTRIBUTE) ≡ false)
 unfolding first_fault late_fault_of
 clear_early d now c e =
-    let past = past_early (early_rows d now c) (late_rows (view_of d.store c) c) refl e in
-    (past.1, (or_parts (nat_eq (bit_and c.capability.rights (right_of c.action)) 0)
-        (is_set_attr c.action && nat_lt c.attribute FIRST_USER_ATTRIBUTE) past.0.1.1.1.1.0).1)
+    let past = past_early (early_rows d now c) (late_rows (view_of d.store c) c) refl e in (
+      past.1,
+      (or_parts (nat_eq (bit_and c.capability.rights (right_of c.action)) 0)
+          (is_set_attr c.action && nat_lt c.attribute FIRST_USER_ATTRIBUTE) past.0.1.1.1.1.0).1,
+    )
 
 names_user : (d : DriveState) (now : ℕ) (c : Command) → first_fault d now c ≡ verdict.Perform → c.action ≡ SetAttr →
     FIRST_USER_ATTRIBUTE ≤ c.attribute

@@ -16,11 +16,15 @@ position_past : {X : Type 0} (test : X → Bool) (x : X) (xs : List X) → test 
     position test (x ∷ xs) ≡ next (position test xs)
 position_past test x xs past = elim (cases_lt (position_or_len test xs) (length xs)) [
   | inl less ↦ rw past
-      (rw (lt-ltb (position_or_len test xs) (length xs) less,
-      lt-ltb (1 + position_or_len test xs) (suc (length xs)) (omega (arith, less))) refl)
+      (rw (
+        lt-ltb (position_or_len test xs) (length xs) less,
+        lt-ltb (1 + position_or_len test xs) (suc (length xs)) (omega (arith, less)),
+      ) refl)
   | inr from ↦ rw past
-      (rw (le-ltb (position_or_len test xs) (length xs) from,
-      le-ltb (1 + position_or_len test xs) (suc (length xs)) (omega (arith, from))) refl)
+      (rw (
+        le-ltb (position_or_len test xs) (length xs) from,
+        le-ltb (1 + position_or_len test xs) (suc (length xs)) (omega (arith, from)),
+      ) refl)
 ]
 
 put_past : (x : LaneEntry) (xs : List LaneEntry) (l : LaneEntry) (o : Option ℕ) → put_at (x ∷ xs) l (next o) ≡ x ∷ put_at xs l o
@@ -45,7 +49,7 @@ lane_kept (x ∷ xs) l =
       | inl here ↦ ap (λ o. lane_of (put_at (x ∷ xs) l o) l.holder) (position_here test x xs here) ∙ first_lane l xs
       | inr past ↦
           ap (λ o. lane_of (put_at (x ∷ xs) l o) l.holder) (position_past test x xs past)
-              ∙ ap (λ ys. lane_of ys l.holder) (put_past x xs l (place_of xs l.holder))
+          ∙ ap (λ ys. lane_of ys l.holder) (put_past x xs l (place_of xs l.holder))
           ∙ ap (lane_at (x ∷ with_lane xs l)) (position_past test x (with_lane xs l) past)
-              ∙ lane_past x (with_lane xs l) (place_of (with_lane xs l) l.holder) ∙ lane_kept xs l
+          ∙ lane_past x (with_lane xs l) (place_of (with_lane xs l) l.holder) ∙ lane_kept xs l
     ]

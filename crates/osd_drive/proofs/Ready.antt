@@ -33,7 +33,7 @@ within size offset free (b ∷ bytes) e = grind (arith, e)
 
 pub has_space : (o : Option StoredObject) (offset free : ℕ) (bytes : List ℕ) →
     (nat_lt 0 (length bytes) && of_object (λ s. nat_lt free ((offset + length bytes) - s.length)) (option_map state_of o))
-        ≡ false →
+    ≡ false →
     IfSome o (λ x. growth (length_of x) offset bytes ≤ free)
 has_space None offset free bytes e = tt
 has_space (Some o) offset free bytes e = within (length_of o) offset free bytes e
@@ -45,7 +45,7 @@ other_tag (Some o) e = λ same. absurd (grind (arith, e, same))
 
 pub takes_attribute : (o : Option StoredObject) (number : ℕ) → FIRST_USER_ATTRIBUTE ≤ number →
     (not (is_some (attribute_or_none o number)) && of_object (λ s. nat_le MAX_ATTRIBUTES s.user_attrs) (option_map state_of o))
-        ≡ false →
+    ≡ false →
     IfSome o (λ x. TakesAttribute x number)
 takes_attribute None number user e = tt
 takes_attribute (Some o) number user e = grind (arith, e, user)

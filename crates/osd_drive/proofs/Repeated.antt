@@ -53,10 +53,10 @@ answered_again s c o l h mutating =
     let repeated : is_repeated s c ≡ true = rw (mutating, h.lane) equal in
     past_rows
     ((lacks_object s c, verdict.NoObject) ∷ (finds_object s c, verdict.Exists)
-        ∷ (has_other_tag s c, verdict.Tag (tag_of s.object)) ∷ (passes_limit s c, verdict.Limit)
-            ∷ (lacks_space s c, verdict.NoSpace s.free)
+    ∷ (has_other_tag s c, verdict.Tag (tag_of s.object)) ∷ (passes_limit s c, verdict.Limit)
+    ∷ (lacks_space s c, verdict.NoSpace s.free)
     ∷ (lacks_lane s c, verdict.LaneFull) ∷ (is_stale s c, verdict.Stale (nonce_of s.lane))
-        ∷ (lacks_attribute s c, verdict.AttrFull) ∷ [])
+    ∷ (lacks_attribute s c, verdict.AttrFull) ∷ [])
     ((is_repeated s c, verdict.Again) ∷ [])
     (there, (h.finds, (tag, (h.limit, (h.space, (lane, (stale, (h.attribute, tt))))))))
     ∙ rw repeated refl
@@ -87,7 +87,7 @@ attribute_now : (o : StoredObject) (number : ℕ) (value : List ℕ) (l : LaneEn
     is_some (attribute_of (after_set_attr number value l o) number) ≡ true
 attribute_now o number value l user =
     rw (ne_eqb number 1 (λ e. absurd (omega (arith, e, user))), ne_eqb number 2 (λ e. absurd (omega (arith, e, user))))
-        (ap is_some (lookup_inserted o.attributes number value))
+    (ap is_some (lookup_inserted o.attributes number value))
 
 object_of : (o : Option StoredObject) → is_none (option_map state_of o) ≡ false → (x : StoredObject) × (o ≡ Some x)
 object_of None e = absurd (cc e)
@@ -116,11 +116,11 @@ written_again d c o found writes sized e =
     let rows = none_applies (late_rows (view_of d.store c) c) refl e in
     let change = after_write c.offset c.payload (lane_for c 0) in
     let there : object_at (changed d.store c.object change) c.object ≡ Some (change o) =
-        object_changed d.store c.object change o found in
+    object_changed d.store c.object change o found in
     let now : object_at (performed d c).store c.object ≡ Some (change o) =
-        ap (λ (x : StoreState). object_at x c.object) (ap (λ a. effect_of a d.store c) writes) ∙ there in
+    ap (λ (x : StoreState). object_at x c.object) (ap (λ a. effect_of a d.store c) writes) ∙ there in
     let size : length_of (change o) ≡ length_of o + growth (length_of o) c.offset c.payload =
-        length-written o.content c.offset c.payload in
+    length-written o.content c.offset c.payload in
     record {
       object = ap (λ (x : Option StoredObject). option_map state_of x) now;
       lane = ap (λ (x : Option StoredObject). lane_or_none x c.capability.holder) now ∙ lane_kept o.lanes (lane_for c 0);
@@ -130,7 +130,7 @@ written_again d c o found writes sized e =
       limit = rw writes (rw writes at rows.1.1.1.0);
       space = space_again (view_of (performed d c).store c) c (state_of (change o))
           (ap (λ (x : Option StoredObject). option_map state_of x) now)
-              (rw size (inside_now (view_of (performed d c).store c).free c.offset c.length (length_of o) c.payload sized));
+          (rw size (inside_now (view_of (performed d c).store c).free c.offset c.length (length_of o) c.payload sized));
       attribute = rw writes refl;
     }
 
@@ -138,18 +138,18 @@ written_again d c o found writes sized e =
 set_again : (d : DriveState) (c : Command) (o : StoredObject) → object_at d.store c.object ≡ Some o → c.action ≡ SetAttr →
     FIRST_USER_ATTRIBUTE ≤ c.attribute → late_fault_of (view_of d.store c) c ≡ verdict.Perform →
     IsSeenAgain (view_of (performed d c).store c) c (state_of (after_set_attr c.attribute c.payload (lane_for c 0) o))
-        (lane_for c 0)
+    (lane_for c 0)
 unfolding late_fault_of
 set_again d c o found sets user e =
     let rows = none_applies (late_rows (view_of d.store c) c) refl e in
     let change = after_set_attr c.attribute c.payload (lane_for c 0) in
     let there : object_at (changed d.store c.object change) c.object ≡ Some (change o) =
-        object_changed d.store c.object change o found in
+    object_changed d.store c.object change o found in
     let now : object_at (performed d c).store c.object ≡ Some (change o) =
-        ap (λ (x : StoreState). object_at x c.object) (ap (λ a. effect_of a d.store c) sets) ∙ there in
+    ap (λ (x : StoreState). object_at x c.object) (ap (λ a. effect_of a d.store c) sets) ∙ there in
     let has : is_some (attribute_or_none (object_at (performed d c).store c.object) c.attribute) ≡ true =
-        ap (λ (x : Option StoredObject). is_some (attribute_or_none x c.attribute)) now
-        ∙ attribute_now o c.attribute c.payload (lane_for c 0) user in
+    ap (λ (x : Option StoredObject). is_some (attribute_or_none x c.attribute)) now
+    ∙ attribute_now o c.attribute c.payload (lane_for c 0) user in
     record {
       object = ap (λ (x : Option StoredObject). option_map state_of x) now;
       lane = ap (λ (x : Option StoredObject). lane_or_none x c.capability.holder) now ∙ lane_kept o.lanes (lane_for c 0);

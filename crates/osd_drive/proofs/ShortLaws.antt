@@ -39,7 +39,7 @@ object-put s object o short others q = elim (cases_eq q object) [
 changed-if : (s : StoreState) (object : ℕ) (change : StoredObject → StoredObject) (o : Option StoredObject) →
     object_at s object ≡ o
     → ((x : StoredObject) → AreShort x.attributes → AreShort (change x).attributes) → HasShortValues s →
-        HasShortValues (changed_if_there s object change o)
+    HasShortValues (changed_if_there s object change o)
 changed-if s object change None e keeps others = others
 changed-if s object change (Some o) e keeps others = λ q. elim (cases_eq q object) [
   | inl same ↦ rw (same, lookup_set s.objects object (change o) (rw e refl)) (keeps o (rw e at (others object)))
@@ -48,7 +48,7 @@ changed-if s object change (Some o) e keeps others = λ q. elim (cases_eq q obje
 
 changed-short : (s : StoreState) (object : ℕ) (change : StoredObject → StoredObject)
     → ((x : StoredObject) → AreShort x.attributes → AreShort (change x).attributes) → HasShortValues s →
-        HasShortValues (changed s object change)
+    HasShortValues (changed s object change)
 changed-short s object change keeps others = changed-if s object change (object_at s object) refl keeps others
 
 fits-value : (n : ℕ) → nat_lt MAX_VALUE n ≡ false → n ≤ MAX_VALUE
@@ -86,7 +86,7 @@ attribute-short (Some o) number short =
     let eight : length (to_be_bytes w64 (length_of o)) ≤ 8 = omega arith in
     let four : length (to_be_bytes w32 o.tag) ≤ 8 = omega arith in
     chosen-short (nat_eq number LENGTH_ATTRIBUTE) (nat_eq number TAG_ATTRIBUTE) _ _ (value_of o.attributes number) eight four
-        (short number)
+    (short number)
 
 result-short : (a : Action) (s : StoreState) (c : Command) → nat_lt MAX_LENGTH c.length ≡ false → HasShortValues s →
     length (result_of a s c).payload ≤ MAX_LENGTH

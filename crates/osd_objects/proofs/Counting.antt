@@ -23,16 +23,19 @@ pub counted_new : (capacity used : ℕ) (objects : Objects) (n : ℕ) (o : Store
     IsCounted capacity used objects → IsCounted capacity used (insert_entry nat_cmp objects n o)
 counted_new capacity used objects n o sorted none nothing h =
     let none_taken : unwrap_or (option_map length_of (lookup (is_at (nat_cmp n)) objects)) 0 ≡ 0 =
-        ap (λ (x : Option StoredObject). unwrap_or (option_map length_of x) 0) none in
-    record { all =
-        omega (arith, h.all, none_taken, nothing, sum_by-insert_entry length_of nat_cmp_total objects n o sorted); inside =
-        h.inside }
+    ap (λ (x : Option StoredObject). unwrap_or (option_map length_of x) 0) none in
+    record {
+      all =
+          omega (arith, h.all, none_taken, nothing, sum_by-insert_entry length_of nat_cmp_total objects n o sorted);
+      inside =
+          h.inside;
+    }
 
 -- an object that takes more
 pub counted_more : (capacity used : ℕ) (objects : Objects) (n : ℕ) (o p : StoredObject) →
     lookup (is_at (nat_cmp n)) objects ≡ Some o → length_of o ≤ length_of p → used + (length_of p - length_of o) ≤ capacity →
     IsCounted capacity used objects →
-        IsCounted capacity (used + (length_of p - length_of o)) (set_value (is_at (nat_cmp n)) objects p)
+    IsCounted capacity (used + (length_of p - length_of o)) (set_value (is_at (nat_cmp n)) objects p)
 counted_more capacity used objects n o p found more room h =
     record { all = omega (arith, h.all, more, sum_by-set_value length_of (is_at (nat_cmp n)) objects o p found); inside = room }
 
@@ -41,8 +44,11 @@ pub counted_same : (capacity used : ℕ) (objects : Objects) (n : ℕ) (o p : St
     lookup (is_at (nat_cmp n)) objects ≡ Some o → length_of p ≡ length_of o →
     IsCounted capacity used objects → IsCounted capacity used (set_value (is_at (nat_cmp n)) objects p)
 counted_same capacity used objects n o p found same h =
-    record { all = omega (arith, h.all, same, sum_by-set_value length_of (is_at (nat_cmp n)) objects o p found); inside =
-        h.inside }
+    record {
+      all = omega (arith, h.all, same, sum_by-set_value length_of (is_at (nat_cmp n)) objects o p found);
+      inside =
+          h.inside;
+    }
 
 -- how long bytes are after a write
 pub length-written : (s : Sparse) (offset : ℕ) (bytes : List ℕ) →

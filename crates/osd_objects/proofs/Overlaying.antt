@@ -18,7 +18,7 @@ put_is_overwritten : (page : List ℕ) (i : ℕ) (part : List ℕ) → i ≤ len
 put_is_overwritten page i part inside =
     let none : 0 ≡ i - length page = omega (arith, inside) in
     sym (ap (λ x. x ++ (part ++ drop (i + length part) page)) (append-nil (take i page)))
-        ∙ ap (λ n. (take i page ++ replicate n 0) ++ (part ++ drop (i + length part) page)) none
+    ∙ ap (λ n. (take i page ++ replicate n 0) ++ (part ++ drop (i + length part) page)) none
 
 -- a part that lies on one page
 pub part_put : (pages : Pages) (at : ℕ) (page part : List ℕ) → page_at pages (at / PAGE_BYTES) ≡ Some page → AreFull pages →
@@ -30,7 +30,7 @@ part_put pages at page part found full inside =
     let whole : length page ≡ PAGE_BYTES = full n page found in
     let new = part_over (page_at pages n) i part in
     let over : new ≡ overwritten page i part =
-        ap (λ (o : Option (List ℕ)). part_over o i part) found ∙ put_is_overwritten page i part (omega (arith, whole, inside)) in
+    ap (λ (o : Option (List ℕ)). part_over o i part) found ∙ put_is_overwritten page i part (omega (arith, whole, inside)) in
     let some : is_some (page_at pages n) ≡ true = ap is_some found in
     let here : page_at (with_part pages at part) n ≡ Some new = lookup_set pages n new some in
     let now : page_at (with_part pages at part) n ≡ Some (overwritten page i part) = here ∙ ap (λ (x : List ℕ). Some x) over in
@@ -45,18 +45,18 @@ part_put pages at page part found full inside =
         | inl same ↦ (let e : Some (overwritten page i part) ≡ Some other_page =
             sym now ∙ ap (page_at (with_part pages at part)) (sym same) ∙ there in
             ap length (sym (same_Some (overwritten page i part) other_page e)) ∙ length-overwritten page i part
-                ∙ omega (arith, whole, inside))
+            ∙ omega (arith, whole, inside))
         | inr other ↦ full q other_page (sym (lookup_set_beside pages n q new other) ∙ there)
       ];
       inside = λ j below.
           let place = on_page at j (omega (arith, below, inside)) in
           ap (λ k. byte_on (page_at (with_part pages at part) k) ((at + j) % PAGE_BYTES)) place.0
-              ∙ ap (λ o. byte_on o ((at + j) % PAGE_BYTES)) now
+          ∙ ap (λ o. byte_on o ((at + j) % PAGE_BYTES)) now
           ∙ ap (λ k. get_or (overwritten page i part) k 0) place.1 ∙ inside_overwritten page i part j below;
       others = λ k out. elim (cases_eq (k / PAGE_BYTES) n) [
         | inl same ↦
             ap (λ x. byte_on (page_at (with_part pages at part) x) (k % PAGE_BYTES)) same
-                ∙ ap (λ o. byte_on o (k % PAGE_BYTES)) now
+            ∙ ap (λ o. byte_on o (k % PAGE_BYTES)) now
             ∙ elim out [
               | inl before ↦ before_overwritten page i part (k % PAGE_BYTES) (omega (arith, same, before))
               | inr behind ↦ behind_overwritten page i part (k % PAGE_BYTES) (omega (arith, same, behind))
@@ -68,8 +68,14 @@ part_put pages at page part found full inside =
 
 pub overlaid_nothing : (pages : Pages) (offset : ℕ) → AreFull pages → IsOverlaid pages offset [] pages
 overlaid_nothing pages offset full =
-    record { keys = refl; there = λ n. refl; full = full; inside = λ i below. absurd (omega (arith, below)); others =
-    λ k out. refl }
+    record {
+      keys = refl;
+      there = λ n. refl;
+      full = full;
+      inside = λ i below. absurd (omega (arith, below));
+      others =
+          λ k out. refl;
+    }
 
 pub overlaid_then : (before middle after : Pages) (offset : ℕ) (xs ys : List ℕ) → IsOverlaid before offset xs middle →
     IsOverlaid middle (offset + length xs) ys after → IsOverlaid before offset (xs ++ ys) after
@@ -82,7 +88,7 @@ overlaid_then before middle after offset xs ys h g = record {
     | inr then ↦
         let place : offset + i ≡ offset + length xs + (i - length xs) = omega (arith, then) in
         ap (byte_at after) place ∙ g.inside (i - length xs) (omega (arith, then, below, length-append xs ys))
-            ∙ sym (get_or-append_right xs ys (length xs) i 0 refl then)
+        ∙ sym (get_or-append_right xs ys (length xs) i 0 refl then)
   ];
   others = λ k out.
       let long = length-append xs ys in

@@ -35,14 +35,20 @@ pub span_of_page : (pages : Pages) (page : List ℕ) (at n : ℕ) → page_at pa
 unfolding byte_at
 span_of_page pages page at n there whole inside =
     same_number_lists _ _
-        (omega (arith, length-take n (drop (at % PAGE_BYTES) page), length-drop (at % PAGE_BYTES) page, length-span pages at n,
-        whole, inside))
+    (omega (
+      arith,
+      length-take n (drop (at % PAGE_BYTES) page),
+      length-drop (at % PAGE_BYTES) page,
+      length-span pages at n,
+      whole,
+      inside,
+    ))
     (λ i below.
     let small : i < n = omega (arith, below, length-take n (drop (at % PAGE_BYTES) page)) in
     let place = on_page at i (omega (arith, small, inside)) in
     get_or-take n (drop (at % PAGE_BYTES) page) i 0 small ∙ get_or-drop (at % PAGE_BYTES) page i 0
     ∙ sym (get_or-span pages at n i small ∙ ap (λ k. byte_on (page_at pages k) ((at + i) % PAGE_BYTES)) place.0
-        ∙ ap (λ o. byte_on o ((at + i) % PAGE_BYTES)) there ∙ ap (λ k. get_or page k 0) place.1))
+    ∙ ap (λ o. byte_on o ((at + i) % PAGE_BYTES)) there ∙ ap (λ k. get_or page k 0) place.1))
 
 -- the bytes of a page that is not there
 pub span_of_none : (pages : Pages) (at n : ℕ) → page_at pages (at / PAGE_BYTES) ≡ None → at % PAGE_BYTES + n ≤ PAGE_BYTES →
@@ -55,7 +61,7 @@ span_of_none pages at n none inside =
     let place = on_page at i (omega (arith, small, inside)) in
     get_or-replicate n i 0 0 small
     ∙ sym (get_or-span pages at n i small ∙ ap (λ k. byte_on (page_at pages k) ((at + i) % PAGE_BYTES)) place.0
-        ∙ ap (λ o. byte_on o ((at + i) % PAGE_BYTES)) none))
+    ∙ ap (λ o. byte_on o ((at + i) % PAGE_BYTES)) none))
 
 pub with_no_page : (pages : Pages) (first end : ℕ) → end ≤ first → with_pages pages first (end - first) ≡ pages
 unfolding with_pages
@@ -74,8 +80,8 @@ span_append pages start (suc m) n =
     let more : suc m + n ≡ suc (m + n) = omega arith in
     let place : start + 1 + m ≡ start + suc m = omega arith in
     ap (span pages start) more
-        ∙ ap (λ (x : List ℕ). byte_at pages start ∷ x)
-            (span_append pages (start + 1) m n ∙ ap (λ x. span pages (start + 1) m ++ span pages x n) place)
+    ∙ ap (λ (x : List ℕ). byte_at pages start ∷ x)
+    (span_append pages (start + 1) m n ∙ ap (λ x. span pages (start + 1) m ++ span pages x n) place)
 
 pub without_none : (pages : Pages) (numbers : List ℕ) → numbers ≡ [] → without_pages pages numbers ≡ pages
 unfolding without_pages
@@ -95,7 +101,7 @@ pub without_added : (pages after : Pages) (numbers : List ℕ) (n : ℕ) → is_
 without_added pages after numbers n none added =
     without_last after numbers n
     ∙ ap (λ (x : Pages). without_pages x numbers)
-        (ap (remove_entry (is_at (nat_cmp n))) added ∙ removed_again pages n (replicate PAGE_BYTES 0) (none_there _ none))
+    (ap (remove_entry (is_at (nat_cmp n))) added ∙ removed_again pages n (replicate PAGE_BYTES 0) (none_there _ none))
 
 pub page_is_added : (pages after : Pages) (first end : ℕ) → first < end → after ≡ with_page pages first →
     with_pages after (first + 1) (end - (first + 1)) ≡ with_pages pages first (end - first)

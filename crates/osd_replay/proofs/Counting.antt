@@ -18,7 +18,7 @@ newlines_both (x ∷ xs) ys = by_test (x == 10) (newlines_both xs ys)
   where
     by_test : (b : Bool) → newlines (xs ++ ys) ≡ newlines xs + newlines ys
         → (if b then newlines (xs ++ ys) + 1 else newlines (xs ++ ys)) ≡ (if b then newlines xs + 1 else newlines xs)
-            + newlines ys
+        + newlines ys
     by_test true e = omega (arith, e)
     by_test false e = e
 

@@ -44,15 +44,20 @@ answers_more : (inspection : Inspection) (kind : Kind) (lines : List (List ℕ))
     HasAnswers inspection kind lines out → Answers inspection kind line text →
     HasAnswers inspection kind (lines ++ line ∷ []) (out ++ text)
 answers_more inspection kind [] out line text h a = (text, [], a, ap (λ (x : List ℕ). x ++ text) h ∙ sym (append-nil text), refl)
-answers_more inspection kind (l ∷ lines) out line text h a =
-    (h.0, h.1 ++ text, h.2, ap (λ (x : List ℕ). x ++ text) h.3
-        ∙ append_assoc h.0 h.1 text, answers_more inspection kind lines h.1 line text h.4 a)
+answers_more inspection kind (l ∷ lines) out line text h a = (
+  h.0,
+  h.1 ++ text,
+  h.2,
+  ap (λ (x : List ℕ). x ++ text) h.3
+      ∙ append_assoc h.0 h.1 text,
+  answers_more inspection kind lines h.1 line text h.4 a,
+)
 
 pub inspects_on : (inspection : Inspection) (kind : Kind) (input now next : Option (List ℕ)) (taken more : ℕ)
     (before middle after : Option (List ℕ)) (number : ℕ) (line text : List ℕ) →
     Inspecting inspection kind input now taken before middle number →
     Yields now next (Ok (Some line)) → TakesLine taken more now next (Ok (Some line)) → Answers inspection kind line text →
-        Appends middle after text → Inspecting inspection kind input next more before after (number + 1)
+    Appends middle after text → Inspecting inspection kind input next more before after (number + 1)
 inspects_on inspection kind input now next taken more before middle after number line text s y t a out = record {
   lines = s.lines ++ line ∷ [];
   out = s.out ++ text;
@@ -96,7 +101,7 @@ stops_at : (inspection : Inspection) (kind : Kind) (b a : Ends) (now : Option (L
     (number failed : ℕ) (reason : List ℕ) (whole : Bool) → Inspecting inspection kind b.left now taken b.taken middle number →
     failed ≡ b.writes_failed →
     Puts middle a.taken failed a.writes_failed (error_line (number + 1) reason) whole →
-        Stops inspection kind b a (number + 1) reason
+    Stops inspection kind b a (number + 1) reason
 stops_at inspection kind b a now taken middle number failed reason whole s writes put = record {
   lines = s.lines;
   out = s.out;
@@ -109,7 +114,7 @@ pub no_line_inspected : (inspection : Inspection) (kind : Kind) (b a : Ends) (no
     (middle : Option (List ℕ)) (number failed : ℕ) (whole : Bool) (e : LineErr) →
     Inspecting inspection kind b.left now taken b.taken middle number →
     NextIs taken now (Err e) → (e ≡ LineFault → Rose b.reads_failed a.reads_failed × IsLineAt (number + 1) b.left a.left) →
-        failed ≡ b.writes_failed → Puts middle a.taken failed a.writes_failed (error_of (stop_of_line e) (number + 1)) whole →
+    failed ≡ b.writes_failed → Puts middle a.taken failed a.writes_failed (error_of (stop_of_line e) (number + 1)) whole →
     Promises inspection kind b a (status_of (stop_of_line e) (number + 1))
 unfolding stops_at
 no_line_inspected inspection kind b a now taken middle number failed whole TooLong s next fault writes put = record {
@@ -137,14 +142,14 @@ pub inspection_stopped : (inspection : Inspection) (kind : Kind) (b a : Ends) (n
     (middle : Option (List ℕ)) (number failed : ℕ) (whole : Bool) (line : List ℕ) (stop : Stop) →
     Inspecting inspection kind b.left now taken b.taken middle number →
     NextIs taken now (Ok (Some line)) → StopsInspection line stop → failed ≡ b.writes_failed →
-        Puts middle a.taken failed a.writes_failed (error_of stop (number + 1)) whole →
-        Promises inspection kind b a (status_of stop (number + 1))
+    Puts middle a.taken failed a.writes_failed (error_of stop (number + 1)) whole →
+    Promises inspection kind b a (status_of stop (number + 1))
 unfolding stops_at
 inspection_stopped inspection kind b a now taken middle number failed whole line (Refused why) s next stopped writes put =
     record {
-  stops = stops_at inspection kind b a now taken middle number failed (kind_name why) whole s writes put;
-  refused = refuses b.left now taken s.lines why (Ok (Some line)) s.reached next (λ rest h. rw h stopped);
-}
+      stops = stops_at inspection kind b a now taken middle number failed (kind_name why) whole s writes put;
+      refused = refuses b.left now taken s.lines why (Ok (Some line)) s.reached next (λ rest h. rw h stopped);
+    }
 inspection_stopped inspection kind b a now taken middle number failed whole line Read s next stopped writes put = absurd stopped
 inspection_stopped inspection kind b a now taken middle number failed whole line (StopsFull quantity) s next stopped writes put =
     absurd stopped
@@ -158,7 +163,7 @@ pub part_answered : (inspection : Inspection) (kind : Kind) (b a : Ends) (now ne
     (middle : Option (List ℕ)) (number upto : ℕ) (line text : List ℕ) →
     Inspecting inspection kind b.left now taken b.taken middle number →
     Yields now next (Ok (Some line)) → TakesLine taken more now next (Ok (Some line)) → Answers inspection kind line text →
-        Appends middle a.taken (take upto text) → Rose b.writes_failed a.writes_failed → Promises inspection kind b a WriteFault
+    Appends middle a.taken (take upto text) → Rose b.writes_failed a.writes_failed → Promises inspection kind b a WriteFault
 part_answered inspection kind b a now next taken more middle number upto line text s y t answer out rose = record {
   lines = s.lines ++ line ∷ [];
   out = s.out ++ text;

@@ -44,7 +44,7 @@ made_by front e old new text false whole may m by holds = record {
   watches = by.watches m.history m.tells.stands (event_written e may) m.watches;
   holds = subst (λ (x : List ℕ). Holds new.digest x)
       (sym (lines_text_more m.history by.lines ∙ ap (λ (x : List ℕ). lines_text m.history ++ x) (sym by.text_is)))
-          (holds (lines_text m.history) m.holds);
+      (holds (lines_text m.history) m.holds);
 }
 
 pub made_more : (front : List Event) (e : Event) (old new : Digested) (carried : Carried) → carried.is_full ≡ false → Fits e →
@@ -93,8 +93,8 @@ made_none d shows watches holds =
 pub comes_to : HistoriesAreSound → (seed calls : ℕ) (events : List Event) (d : Digested) (text : List ℕ) →
     events ≡ scenario_of seed calls → Made events d
     → ((h : List Line) → Holds d.digest (lines_text h) →
-        text ≡ result_text d.world.watch.summary h (Last d.world.watch.moments.calm d.world.watch.guesses.unguessed)) →
-        ComesTo seed calls text
+    text ≡ result_text d.world.watch.summary h (Last d.world.watch.moments.calm d.world.watch.guesses.unguessed)) →
+    ComesTo seed calls text
 comes_to law seed calls events d text is m told =
     let here : Made (scenario_of seed calls) d = subst (λ (es : List Event). Made es d) is m in
     record {
@@ -112,7 +112,7 @@ comes_to law seed calls events d text is m told =
       text_is =
           told here.history here.holds
           ∙ ap (λ (s : Summary). result_text s here.history (Last d.world.watch.moments.calm d.world.watch.guesses.unguessed))
-              here.watches.told.summary;
+          here.watches.told.summary;
     }
 
 pub all_told : (seed calls : ℕ) (b a : Ends) (text : List ℕ) → ComesTo seed calls text → Appends b.taken a.taken text →
@@ -154,4 +154,4 @@ pub five_more : (a b c d e f t1 t2 t3 t4 t5 t6 : List ℕ) → t1 ≡ a → t2 �
 five_more a b c d e f t1 t2 t3 t4 t5 t6 e1 e2 e3 e4 e5 e6 =
     rw (e6, e5, e4, e3, e2, e1)
     (append_assoc (((a ++ b) ++ c) ++ d) e f ∙ append_assoc ((a ++ b) ++ c) d (e ++ f) ∙ append_assoc (a ++ b) c (d ++ (e ++ f))
-        ∙ append_assoc a b (c ++ (d ++ (e ++ f))))
+    ∙ append_assoc a b (c ++ (d ++ (e ++ f))))

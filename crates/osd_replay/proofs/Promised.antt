@@ -73,10 +73,19 @@ all_lines (Some input) lines taken (Some rest) (Some later) r y =
 runs : (input now : Option (List ℕ)) (taken : ℕ) (before after : Option (List ℕ)) (number : ℕ) (state : WorldState) →
     (s : SoFar input now taken before after number state) → Runs input s.lines s.world s.history
 runs input now taken before after number state s =
-    record { begins = begins input s.lines taken now s.reached; events = s.events; spelled = s.spelled; tells = s.tells; sound =
-    told_sound s.law s.events s.world s.history s.tells; written = s.watches.written; text =
-    told_text s.law s.events s.world s.history s.tells (events_fit s.lines s.events s.spelled); few =
-    told_few s.law s.events s.world s.history s.tells }
+    record {
+      begins = begins input s.lines taken now s.reached;
+      events = s.events;
+      spelled = s.spelled;
+      tells = s.tells;
+      sound =
+          told_sound s.law s.events s.world s.history s.tells;
+      written = s.watches.written;
+      text =
+          told_text s.law s.events s.world s.history s.tells (events_fit s.lines s.events s.spelled);
+      few =
+          told_few s.law s.events s.world s.history s.tells;
+    }
 
 -- the front of some bytes and those behind them
 front_and_more : (xs ys zs : List ℕ) (n : ℕ) → zs ≡ xs ++ ys → take (length xs + n) zs ≡ xs ++ take n ys
@@ -86,7 +95,7 @@ front_and_more xs ys zs n same = ap (take (length xs + n)) same ∙ take-append-
 part_of : (b a : Ends) (middle : Option (List ℕ)) (text front more : List Line) (upto : ℕ) → IsTranscript b.left text →
     text ≡ front ++ more → upto < length (lines_text more) →
     Appends b.taken middle (lines_text front) → Appends middle a.taken (take upto (lines_text more)) →
-        Rose b.writes_failed a.writes_failed → IsWriteFault b a
+    Rose b.writes_failed a.writes_failed → IsWriteFault b a
 part_of b a middle text front more upto is split short out part rose =
     let whole : lines_text text ≡ lines_text front ++ lines_text more = ap lines_text split ∙ lines_text_more front more in
     record {
@@ -103,8 +112,8 @@ part_of b a middle text front more upto is split short out part rose =
 pub finished : (b a : Ends) (now next : Option (List ℕ)) (taken : ℕ) (middle : Option (List ℕ)) (number failed : ℕ)
     (state : WorldState) (last : Line) (status : Status) → SoFar b.left now taken b.taken middle number state →
     Yields now next (Ok None) → IsAtEnd a.left → a.reads_failed ≡ b.reads_failed → failed ≡ b.writes_failed →
-        ((h : List Line) → WatchesAll h state.watch → EndsWith h last) →
-        Finishes last middle a.taken failed a.writes_failed status → Promises b a status
+    ((h : List Line) → WatchesAll h state.watch → EndsWith h last) →
+    Finishes last middle a.taken failed a.writes_failed status → Promises b a status
 finished b a now next taken middle number failed state last Done s y end reads writes ends fin = record {
   lines = s.lines;
   world = s.world;
@@ -122,7 +131,7 @@ finished b a now next taken middle number failed state last Done s y end reads w
 finished b a now next taken middle number failed state last WriteFault s y end reads writes ends fin =
     part_of b a middle (s.history ++ last ∷ []) s.history (last ∷ []) fin.0
     (Ended s.lines s.world s.history last (runs b.left now taken b.taken middle number state s)
-        (all_lines b.left s.lines taken now next s.reached y) (ends s.history s.watches) refl)
+    (all_lines b.left s.lines taken now next s.reached y) (ends s.history s.watches) refl)
     refl fin.1 s.out fin.2 (subst (λ x. Rose x a.writes_failed) writes fin.3)
 finished b a now next taken middle number failed state last Memory s y end reads writes ends fin = record {
   lines = s.lines;
@@ -193,7 +202,7 @@ no_memory b a now taken middle number failed state whole s writes put = record {
 pub no_line : (b a : Ends) (now : Option (List ℕ)) (taken : ℕ) (middle : Option (List ℕ)) (number failed : ℕ) (state : WorldState)
     (whole : Bool) (e : LineErr) → SoFar b.left now taken b.taken middle number state →
     NextIs taken now (Err e) → (e ≡ LineFault → Rose b.reads_failed a.reads_failed × IsLineAt (number + 1) b.left a.left) →
-        failed ≡ b.writes_failed → Puts middle a.taken failed a.writes_failed (error_of (stop_of_line e) (number + 1)) whole →
+    failed ≡ b.writes_failed → Puts middle a.taken failed a.writes_failed (error_of (stop_of_line e) (number + 1)) whole →
     Promises b a (status_of (stop_of_line e) (number + 1))
 unfolding stops_at
 no_line b a now taken middle number failed state whole TooLong s next fault writes put = record {
@@ -218,7 +227,7 @@ no_line b a now taken middle number failed state whole LineMemory s next fault w
 stopped_in : (b a : Ends) (now : Option (List ℕ)) (taken : ℕ) (middle : Option (List ℕ)) (number failed : ℕ) (state : WorldState)
     (whole : Bool) (line : List ℕ) (stop : Stop) → (s : SoFar b.left now taken b.taken middle number state) →
     NextIs taken now (Ok (Some line)) → StopsLineIn s.world line stop → failed ≡ b.writes_failed →
-        Puts middle a.taken failed a.writes_failed (error_of stop (number + 1)) whole →
+    Puts middle a.taken failed a.writes_failed (error_of stop (number + 1)) whole →
     Promises b a (status_of stop (number + 1))
 unfolding stops_at
 stopped_in b a now taken middle number failed state whole line (Refused kind) s next stopped writes put = record {
@@ -233,7 +242,7 @@ stopped_in b a now taken middle number failed state whole line WantsMemory s nex
 pub line_stopped : (b a : Ends) (now : Option (List ℕ)) (taken : ℕ) (middle : Option (List ℕ)) (number failed : ℕ)
     (state : WorldState) (whole : Bool) (line : List ℕ) (stop : Stop) → SoFar b.left now taken b.taken middle number state →
     NextIs taken now (Ok (Some line)) → StopsLine line state stop → failed ≡ b.writes_failed →
-        Puts middle a.taken failed a.writes_failed (error_of stop (number + 1)) whole →
+    Puts middle a.taken failed a.writes_failed (error_of stop (number + 1)) whole →
     Promises b a (status_of stop (number + 1))
 line_stopped b a now taken middle number failed state whole line stop s next stopped writes put =
     stopped_in b a now taken middle number failed state whole line stop s next (stopped s.world s.shows) writes put
@@ -243,8 +252,8 @@ line_stopped b a now taken middle number failed state whole line stop s next sto
 cuts_next : (b : Ends) (now next : Option (List ℕ)) (taken more : ℕ) (middle : Option (List ℕ)) (number : ℕ)
     (old new : WorldState) (line : List ℕ) (carried : Carried) → (s : SoFar b.left now taken b.taken middle number old) →
     Yields now next (Ok (Some line)) → TakesLine taken more now next (Ok (Some line)) →
-        (c : CarriesSpelled line old new carried) → (cut : CarriesCut s.world c.event carried.text) →
-        CutsNext b.left s.lines s.world s.history cut.lines
+    (c : CarriesSpelled line old new carried) → (cut : CarriesCut s.world c.event carried.text) →
+    CutsNext b.left s.lines s.world s.history cut.lines
 cuts_next b now next taken more middle number old new line carried s y t c cut = record {
   line = line;
   begins = begins b.left (s.lines ++ line ∷ []) more next (reached_more b.left now next s.lines line taken more s.reached y t);
@@ -265,17 +274,17 @@ part_by : (b a : Ends) (now next : Option (List ℕ)) (taken more : ℕ) (middle
     (old new : WorldState) (line : List ℕ) (carried : Carried) (is_full : Bool) →
     (s : SoFar b.left now taken b.taken middle number old) →
     Yields now next (Ok (Some line)) → TakesLine taken more now next (Ok (Some line)) →
-        (c : CarriesSpelled line old new carried) → CarriesBy s.world c.event old new carried.text is_full →
-        upto < length carried.text → Appends middle a.taken (take upto carried.text) → Rose b.writes_failed a.writes_failed →
-        Promises b a WriteFault
+    (c : CarriesSpelled line old new carried) → CarriesBy s.world c.event old new carried.text is_full →
+    upto < length carried.text → Appends middle a.taken (take upto carried.text) → Rose b.writes_failed a.writes_failed →
+    Promises b a WriteFault
 part_by b a now next taken more middle number upto old new line carried true s y t c cut short out rose =
     part_of b a middle (s.history ++ cut.lines) s.history cut.lines upto
     (Cut s.lines s.world s.history cut.lines (runs b.left now taken b.taken middle number old s)
-        (cuts_next b now next taken more middle number old new line carried s y t c cut) refl)
+    (cuts_next b now next taken more middle number old new line carried s y t c cut) refl)
     refl (rw cut.text_is at short) s.out (rw cut.text_is at out) rose
 part_by b a now next taken more middle number upto old new line carried false s y t c by short out rose =
     let told : Tells (s.events ++ c.event ∷ []) by.world (s.history ++ by.lines) =
-        tells_more s.events s.world by.world s.history by.lines c.event s.tells by.carries by.fits in
+    tells_more s.events s.world by.world s.history by.lines c.event s.tells by.carries by.fits in
     let go : Runs b.left (s.lines ++ line ∷ []) by.world (s.history ++ by.lines) = record {
       begins = begins b.left (s.lines ++ line ∷ []) more next
           (reached_more b.left now next s.lines line taken more s.reached y t);
@@ -294,8 +303,8 @@ part_by b a now next taken more middle number upto old new line carried false s 
 pub part_put : (b a : Ends) (now next : Option (List ℕ)) (taken more : ℕ) (middle : Option (List ℕ)) (number upto : ℕ)
     (old new : WorldState) (line : List ℕ) (carried : Carried) → SoFar b.left now taken b.taken middle number old →
     Yields now next (Ok (Some line)) → TakesLine taken more now next (Ok (Some line)) → CarriesLine line old new carried →
-        upto < length carried.text → Appends middle a.taken (take upto carried.text) → Rose b.writes_failed a.writes_failed →
-        Promises b a WriteFault
+    upto < length carried.text → Appends middle a.taken (take upto carried.text) → Rose b.writes_failed a.writes_failed →
+    Promises b a WriteFault
 part_put b a now next taken more middle number upto old new line carried s y t (inl skips) short out rose =
     absurd (none (rw skips.text at short))
   where
@@ -303,14 +312,14 @@ part_put b a now next taken more middle number upto old new line carried s y t (
     none l = omega (arith, l)
 part_put b a now next taken more middle number upto old new line carried s y t (inr c) short out rose =
     part_by b a now next taken more middle number upto old new line carried carried.is_full s y t c
-        (c.carries s.world s.shows) short out rose
+    (c.carries s.world s.shows) short out rose
 
 cut_by : (b a : Ends) (now next : Option (List ℕ)) (taken more : ℕ) (middle told : Option (List ℕ)) (number failed : ℕ)
     (whole : Bool) (old new : WorldState) (line : List ℕ) (carried : Carried) (is_full : Bool) → is_full ≡ true →
     (s : SoFar b.left now taken b.taken middle number old) →
     Yields now next (Ok (Some line)) → TakesLine taken more now next (Ok (Some line)) →
-        (c : CarriesSpelled line old new carried) → CarriesBy s.world c.event old new carried.text is_full →
-        Appends middle told carried.text → failed ≡ b.writes_failed →
+    (c : CarriesSpelled line old new carried) → CarriesBy s.world c.event old new carried.text is_full →
+    Appends middle told carried.text → failed ≡ b.writes_failed →
     Puts told a.taken failed a.writes_failed (error_line (number + 1) (full_name Kept)) whole → Promises b a (IsFull Kept)
 cut_by b a now next taken more middle told number failed whole old new line carried false full s y t c by out same put =
     absurd (cc full)
@@ -328,20 +337,20 @@ cut_by b a now next taken more middle told number failed whole old new line carr
       number_is = ap (λ n. n + 1) s.count;
       puts = subst (λ (x : List ℕ). PutsError b a x (error_line (number + 1) (full_name Kept))) (sym text)
           (tells b a told (lines_text s.history ++ carried.text) (error_line (number + 1) (full_name Kept)) failed whole
-              (Appends-then b.taken middle told (lines_text s.history) carried.text s.out out) put same);
+          (Appends-then b.taken middle told (lines_text s.history) carried.text s.out out) put same);
     }
 
 -- the lines of a cut event went out, and then the error line
 pub cut_put : (b a : Ends) (now next : Option (List ℕ)) (taken more : ℕ) (middle told : Option (List ℕ)) (number failed : ℕ)
     (whole : Bool) (old new : WorldState) (line : List ℕ) (carried : Carried) → SoFar b.left now taken b.taken middle number old →
     Yields now next (Ok (Some line)) → TakesLine taken more now next (Ok (Some line)) → CarriesLine line old new carried →
-        carried.is_full ≡ true → Appends middle told carried.text → failed ≡ b.writes_failed →
+    carried.is_full ≡ true → Appends middle told carried.text → failed ≡ b.writes_failed →
     Puts told a.taken failed a.writes_failed (error_line (number + 1) (full_name Kept)) whole → Promises b a (IsFull Kept)
 cut_put b a now next taken more middle told number failed whole old new line carried s y t (inl skips) full out same put =
     absurd (cc (full, skips.whole))
 cut_put b a now next taken more middle told number failed whole old new line carried s y t (inr c) full out same put =
     cut_by b a now next taken more middle told number failed whole old new line carried carried.is_full full s y t c
-        (c.carries s.world s.shows) out same put
+    (c.carries s.world s.shows) out same put
 
 -- there is no memory for the world: nothing was read
 pub no_world : HistoriesAreSound → (b a : Ends) (whole : Bool) →
@@ -350,9 +359,18 @@ no_world law b a whole put = record {
   lines = [];
   world = empty_world;
   history = [];
-  runs = record { begins = begins b.left [] 0 b.left (reached_none b.left); events = []; spelled = refl; tells =
-      tells_none; sound = told_sound law [] empty_world [] tells_none; written = tt; text = tt; few =
-      told_few law [] empty_world [] tells_none };
+  runs = record {
+    begins = begins b.left [] 0 b.left (reached_none b.left);
+    events = [];
+    spelled = refl;
+    tells =
+        tells_none;
+    sound = told_sound law [] empty_world [] tells_none;
+    written = tt;
+    text = tt;
+    few =
+        told_few law [] empty_world [] tells_none;
+  };
   number = 0;
   number_is = inr (refl, inl refl);
   puts = tells b a b.taken [] (error_line 0 (codes "memory")) b.writes_failed whole (appends_none b.taken) put refl;

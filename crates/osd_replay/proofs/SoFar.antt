@@ -81,7 +81,7 @@ pub record OneMore (lines : List (List ℕ)) (history : List Line) (line text : 
 spells_more : (lines : List (List ℕ)) (events : List Event) (w : World) (h : List Line) (line : List ℕ) (old new : WorldState)
     (carried : Carried) (is_full : Bool) → is_full ≡ false → HasEvents lines events → Tells events w h → WatchesAll h old.watch →
     (c : CarriesSpelled line old new carried) → CarriesBy w c.event old new carried.text is_full →
-        OneMore lines h line carried.text new
+    OneMore lines h line carried.text new
 spells_more lines events w h line old new carried true whole spelled tells watches c by = absurd (cc whole)
 spells_more lines events w h line old new carried false whole spelled tells watches c by = record {
   events_after = events ++ c.event ∷ [];
@@ -114,7 +114,7 @@ one_more lines events w h line old new carried whole spelled tells shows watches
 pub goes_on : (input now next : Option (List ℕ)) (taken more : ℕ) (before middle after : Option (List ℕ)) (number : ℕ)
     (old new : WorldState) (line : List ℕ) (carried : Carried) → SoFar input now taken before middle number old →
     Yields now next (Ok (Some line)) → TakesLine taken more now next (Ok (Some line)) → CarriesLine line old new carried →
-        carried.is_full ≡ false → Appends middle after carried.text → SoFar input next more before after (number + 1) new
+    carried.is_full ≡ false → Appends middle after carried.text → SoFar input next more before after (number + 1) new
 goes_on input now next taken more before middle after number old new line carried s y t c whole out =
     let o = one_more s.lines s.events s.world s.history line old new carried whole s.spelled s.tells s.shows s.watches c in
     record {

@@ -26,8 +26,16 @@ pub carried_by : (e : Event) (lines : List Line) (old new : WorldState) (r : Res
 carried_by e lines old new (Ok u) true text w steps on full is shows = absurd (cc full)
 carried_by e lines old new (Ok u) false text w steps on full is shows =
     let s = steps w shows in
-    record { lines = s.goes.lines; world = s.world; shows = s.shows; carries = s.goes.carries; fits = s.goes.fits; watches =
-        λ h st may k. on w h s.goes.lines shows st s.goes.appended may k; text_is = is ∙ ap lines_text s.goes.appended }
+    record {
+      lines = s.goes.lines;
+      world = s.world;
+      shows = s.shows;
+      carries = s.goes.carries;
+      fits = s.goes.fits;
+      watches =
+          λ h st may k. on w h s.goes.lines shows st s.goes.appended may k;
+      text_is = is ∙ ap lines_text s.goes.appended;
+    }
 carried_by e lines old new (Err why.KeptFull) false text w steps on full is shows = absurd (cc full)
 carried_by e lines old new (Err why.KeptFull) true text w steps on full is shows =
     let s = steps w shows in

@@ -45,13 +45,25 @@ client_fits : (c : ℕ) → c < 16 → Fits (event.Client c)
 client_fits c l = (tt, (l, tt))
 
 file_fits : Fits makes_file
-file_fits =
-    (tt, (omega arith,
-        ((omega arith, omega arith),
-        ((omega arith, omega arith),
-        ((omega arith, omega arith),
-        ((omega arith, omega arith),
-        ((omega arith, omega arith), ((omega arith, omega arith), ((omega arith, omega arith), tt)))))))))
+file_fits = (
+  tt,
+  (
+    omega arith,
+    (
+      (omega arith, omega arith),
+      (
+        (omega arith, omega arith),
+        (
+          (omega arith, omega arith),
+          (
+            (omega arith, omega arith),
+            ((omega arith, omega arith), ((omega arith, omega arith), ((omega arith, omega arith), tt))),
+          ),
+        ),
+      ),
+    ),
+  ),
+)
 
 writes_fit : (c offset n b : ℕ) → c < 16 → offset ≤ 300000 → b < 256
     → Fits (event.Do c (call.Write 0 offset (replicate n b)))
@@ -81,17 +93,34 @@ calls_fit zero k x = tt
 calls_fit (suc n) k x = (call_fits k x, calls_fit n (k + 1) (next_random x))
 
 opening_fits : EventsFit opening
-opening_fits =
-    (drive_fits 0 (omega arith),
-        (drive_fits 1 (omega arith),
-        (drive_fits 2 (omega arith),
-        (drive_fits 3 (omega arith),
-        (drive_fits 4 (omega arith),
-        (drive_fits 5 (omega arith),
-        (client_fits 0 (omega arith),
-        (client_fits 1 (omega arith),
-        (client_fits 2 (omega arith),
-        (file_fits, (writes_fit 0 262143 1 0 (omega arith) (omega arith) (omega arith), tt)))))))))))
+opening_fits = (
+  drive_fits 0 (omega arith),
+  (
+    drive_fits 1 (omega arith),
+    (
+      drive_fits 2 (omega arith),
+      (
+        drive_fits 3 (omega arith),
+        (
+          drive_fits 4 (omega arith),
+          (
+            drive_fits 5 (omega arith),
+            (
+              client_fits 0 (omega arith),
+              (
+                client_fits 1 (omega arith),
+                (
+                  client_fits 2 (omega arith),
+                  (file_fits, (writes_fit 0 262143 1 0 (omega arith) (omega arith) (omega arith), tt)),
+                ),
+              ),
+            ),
+          ),
+        ),
+      ),
+    ),
+  ),
+)
 
 pub scenario_fits : (seed calls : ℕ) → EventsFit (scenario_of seed calls)
 scenario_fits seed calls = fit_more opening (calls_from calls 0 seed) opening_fits (calls_fit calls 0 seed)

@@ -41,16 +41,16 @@ two_repairs units x y lt last few = elim (cases_lt y units) [
   | inl inside ↦ rw (lt-ltb y units inside) (
       let sum_lt = xor_of_8 (two_to x) (two_to y) (two_to_lt x) (two_to_lt y) in
       let pos : 0 < bit_xor (two_to x) (two_to y) =
-          above_zero (bit_xor (two_to x) (two_to y)) (powers_apart x y lt (omega (arith, inside, few))) in
+      above_zero (bit_xor (two_to x) (two_to y)) (powers_apart x y lt (omega (arith, inside, few))) in
       let inv = inverse_is (bit_xor (two_to x) (two_to y)) pos sum_lt in
       repairs_of_units units x y (inverse_of (bit_xor (two_to x) (two_to y)))
-          (product (inverse_of (bit_xor (two_to x) (two_to y))) (two_to y)) lt inside inv.1
+      (product (inverse_of (bit_xor (two_to x) (two_to y))) (two_to y)) lt inside inv.1
       (product_lt (inverse_of (bit_xor (two_to x) (two_to y))) (two_to y) inv.1) inv.0 refl)
   | inr past ↦ elim (cases_eq y units) [
     | inl same ↦
         let inv = inverse_is (two_to x) (two_to_pos x) (two_to_lt x) in
         rw (le-ltb y units past, eq-eqb y units same)
-            (repairs_with_p units x y (inverse_of (two_to x)) (omega (arith, lt, same)) same inv.1 inv.0)
+        (repairs_with_p units x y (inverse_of (two_to x)) (omega (arith, lt, same)) same inv.1 inv.0)
     | inr apart ↦ elim (cases_lt x units) [
       | inl below ↦ rw (le-ltb y units past, ne_eqb y units apart, lt-ltb x units below)
           (repairs_with_q units x y below (omega (arith, past, apart)))
@@ -67,16 +67,16 @@ decoded_back code ds [] col bytes few lost agree = none_lost (codeword code ds) 
 decoded_back code ds (x ∷ []) col bytes few lost agree =
     let long = length_codeword code ds in
     ap (repaired_column (length ds) (repair_of (length ds) x) (repair_of (length ds) x))
-        (same_without_one x (codeword code ds) col agree (omega (arith, lost.1, long)))
+    (same_without_one x (codeword code ds) col agree (omega (arith, lost.1, long)))
     ∙ one_restored (length ds) x (repair_of (length ds) x) (codeword code ds) (one_repairs (length ds) x)
-        (codeword_whole code ds lost.0 bytes) (omega (arith, lost.1, long)) (omega (arith, lost.0, long))
-            (omega (arith, count_most code, long))
+    (codeword_whole code ds lost.0 bytes) (omega (arith, lost.1, long)) (omega (arith, lost.0, long))
+    (omega (arith, count_most code, long))
 decoded_back code ds (x ∷ y ∷ []) col bytes few lost agree =
     let long = length_codeword code ds in
     ap (repaired_column (length ds) (first_repair (length ds) x y) (second_repair (length ds) x y))
-        (same_without_two x y (codeword code ds) col agree (omega (arith, lost.0, lost.1, lost.2, long))
-        (omega (arith, lost.0, lost.2, long)))
+    (same_without_two x y (codeword code ds) col agree (omega (arith, lost.0, lost.1, lost.2, long))
+    (omega (arith, lost.0, lost.2, long)))
     ∙ two_restored (length ds) x y (first_repair (length ds) x y) (second_repair (length ds) x y) (codeword code ds)
-        (two_repairs (length ds) x y lost.1 (omega (arith, lost.2)) few) (codeword_whole code ds (omega (arith, lost.0)) bytes)
+    (two_repairs (length ds) x y lost.1 (omega (arith, lost.2)) few) (codeword_whole code ds (omega (arith, lost.0)) bytes)
     lost.1 (omega (arith, lost.0, lost.2, long)) (omega (arith, lost.0, long))
 decoded_back code ds (x ∷ y ∷ z ∷ zs) col bytes few lost agree = absurd lost

@@ -33,22 +33,22 @@ set_last_two (suc n) p q (x ∷ xs) e =
 -- a stripe whose P was stored
 pub encoded_p : (units at n : ℕ) (f : ℕ → ℕ) (old new : List (List ℕ)) → length old ≡ units + 1 → Stored units at n f old new
     → ((k : ℕ) → k < n → f k ≡ p_of (take units (column old (at + k)))) →
-        Become at n (λ col. codeword Xor (take units col)) old new
+    Become at n (λ col. codeword Xor (take units col)) old new
 encoded_p units at n f old new long s is =
     become_one units at n f (λ col. codeword Xor (take units col)) old new s
     (λ k lt. set_last units (f k) (column old (at + k)) (length_column old (at + k) ∙ long)
-        ∙ ap (λ (p : ℕ). take units (column old (at + k)) ++ (p ∷ [])) (is k lt))
+    ∙ ap (λ (p : ℕ). take units (column old (at + k)) ++ (p ∷ [])) (is k lt))
 
 -- a stripe whose P and Q were stored
 pub encoded_both : (units at n : ℕ) (f h : ℕ → ℕ) (old mid new : List (List ℕ)) → length old ≡ units + 2 →
     Stored units at n f old mid → Stored (units + 1) at n h mid new
     → ((k : ℕ) → k < n → f k ≡ p_of (take units (column old (at + k)))) →
-        ((k : ℕ) → k < n → h k ≡ q_of (take units (column old (at + k))))
+    ((k : ℕ) → k < n → h k ≡ q_of (take units (column old (at + k))))
     → Become at n (λ col. codeword PandQ (take units col)) old new
 encoded_both units at n f h old mid new long s t is_p is_q =
     become_two units (units + 1) at n f h (λ col. codeword PandQ (take units col)) old mid new s t
     (λ k lt. set_last_two units (f k) (h k) (column old (at + k)) (length_column old (at + k) ∙ long)
-        ∙ rw (is_p k lt, is_q k lt) refl)
+    ∙ rw (is_p k lt, is_q k lt) refl)
 
 -- a codeword begins with its data
 codeword_begins : (code : Code) (ds : List ℕ) (j : ℕ) → j < length ds → get_or (codeword code ds) j 0 ≡ get_or ds j 0
@@ -65,6 +65,6 @@ data_kept code n m old new le become j lt =
           let same : 0 + k ≡ k = omega arith in
           let long : length (take n (column old k)) ≡ n = length-take-le n (column old k) (omega (arith, length_column old k)) in
           ap (λ (col : List ℕ). get_or col j 0) (rw same at (become.inside k below))
-              ∙ codeword_begins code (take n (column old k)) j (omega arith) ∙ get_or-take n (column old k) j 0 lt
+          ∙ codeword_begins code (take n (column old k)) j (omega arith) ∙ get_or-take n (column old k) j 0 lt
       | inr above ↦ ap (λ (col : List ℕ). get_or col j 0) (become.above k (omega arith))
     ])

@@ -110,7 +110,7 @@ row_kept old new j shape same = elim (cases_lt j (length old)) [
       let count : length new ≡ length old = same_count old new shape in
       let there_new : j < length new = omega arith in
       let rows : get_or new j [] ≡ get_or old j [] =
-          same_number_lists (get_or new j []) (get_or old j []) (same_row old new j [] shape) (λ k lt.
+      same_number_lists (get_or new j []) (get_or old j []) (same_row old new j [] shape) (λ k lt.
       sym (cell new j k [] there_new) ∙ same k ∙ cell old j k [] there) in
       slice_get-get_or new j [] there_new ∙ ap Some rows ∙ sym (slice_get-get_or old j [] there)
   | inr past ↦ slice_get_past new j (omega (arith, same_count old new shape)) ∙ sym (slice_get_past old j past)

@@ -47,7 +47,7 @@ codeword_whole PandQ ds some bytes = record {
 pub back : (code : Code) (n : ℕ) (lost : List ℕ) (old new : List (List ℕ)) → Restored n lost old new →
     n + count_of code ≡ length old → 0 < count_of code
     → (k : ℕ) (ds : List ℕ) → k < width_of old → AreBytes ds → AgreeOutside lost (codeword code ds) (column old k) →
-        column new k ≡ codeword code ds
+    column new k ≡ codeword code ds
 back code n lost old new restored count some k ds lt bytes agree =
     let same : length ds ≡ n = omega (arith, length_codeword code ds, agree.long, length_column old k) in
     restored.whole k (codeword code ds) lt (rw same at (codeword_whole code ds some bytes)) agree
@@ -110,13 +110,15 @@ pub codeword_by_syndromes : (code : Code) (n : ℕ) (col : List ℕ) → 0 < cou
 codeword_by_syndromes Plain n col some long none = absurd (omega arith)
 codeword_by_syndromes Xor n col some long none =
     sym (set-get_or col n 0) ∙ set_last n (get_or col n 0) col long
-        ∙ ap (λ (p : ℕ). take n col ++ (p ∷ [])) (sym (xor-eq-zero (p_of (take n col)) (get_or col n 0) none.p))
+    ∙ ap (λ (p : ℕ). take n col ++ (p ∷ [])) (sym (xor-eq-zero (p_of (take n col)) (get_or col n 0) none.p))
 codeword_by_syndromes PandQ n col some long none =
     let last : n + 1 < length col = omega arith in
     sym (ap (λ (c : List ℕ). set c (n + 1) (get_or col (n + 1) 0)) (set-get_or col n 0) ∙ set-get_or col (n + 1) 0)
     ∙ set_last_two n (get_or col n 0) (get_or col (n + 1) 0) col long
-    ∙ rw (xor-eq-zero (p_of (take n col)) (get_or col n 0) none.p,
-        xor-eq-zero (q_of (take n col)) (get_or col (n + 1) 0) (none.q last)) refl
+    ∙ rw (
+      xor-eq-zero (p_of (take n col)) (get_or col n 0) none.p,
+      xor-eq-zero (q_of (take n col)) (get_or col (n + 1) 0) (none.q last),
+    ) refl
 
 -- with as many rows lost as there are rows of parity
 pub coded : (code : Code) (n : ℕ) (lost : List ℕ) (old new : List (List ℕ)) → Restored n lost old new →
@@ -125,7 +127,7 @@ pub coded : (code : Code) (n : ℕ) (lost : List ℕ) (old new : List (List ℕ)
 coded code n lost old new restored count some all k lt =
     let same : length old - count_of code ≡ n = omega arith in
     rw same (codeword_by_syndromes code n (column new k) some
-        (length_column new k ∙ same_count old new restored.shape ∙ sym count) (restored.solved (omega arith) k lt))
+    (length_column new k ∙ same_count old new restored.shape ∙ sym count) (restored.solved (omega arith) k lt))
 
 pub coded_plain : (code : Code) (old : List (List ℕ)) (k : ℕ) → count_of code ≡ 0 →
     column old k ≡ codeword code (take (length old - count_of code) (column old k))

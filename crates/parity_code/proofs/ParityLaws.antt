@@ -53,7 +53,7 @@ q_shifted i (d ∷ ds) h =
 pub q_of-cons : (d : ℕ) (ds : List ℕ) → AreBytes (d ∷ ds) → q_of (d ∷ ds) ≡ bit_xor (product 2 (q_of ds)) d
 q_of-cons d ds h =
     rw (two_to_zero, one_product d (head_byte d ds h))
-        (ap (bit_xor d) (q_shifted 0 ds (tail_bytes d ds h)) ∙ xor_comm d (product 2 (q_of ds)))
+    (ap (bit_xor d) (q_shifted 0 ds (tail_bytes d ds h)) ∙ xor_comm d (product 2 (q_of ds)))
 
 next_drop : (col : List ℕ) (i : ℕ) → 0 < i → i ≤ length col → drop (i - 1) col ≡ get_or col (i - 1) 0 ∷ drop i col
 next_drop col i pos le =

@@ -66,13 +66,21 @@ repairs_with_q units x y lt above = record {
   other_row = refl;
   whole = rw (p_weight_below units x (omega arith), q_weight_below units x lt, zero_product (two_to x), product_one 1) refl;
   none_of_other = rw (p_weight_above units y above, q_weight_above units y above, zero_product 1, product_zero 1) refl;
-  none = rw (p_weight_below units x (omega arith), q_weight_below units x lt, product_one (two_to x),
-      one_product (two_to x) (two_to_lt x)) (xor_self (two_to x));
+  none = rw (
+    p_weight_below units x (omega arith),
+    q_weight_below units x lt,
+    product_one (two_to x),
+    one_product (two_to x) (two_to_lt x),
+  ) (xor_self (two_to x));
   other_whole = rw (p_weight_above units y above, q_weight_above units y above, product_zero (two_to x), product_one 1) refl;
   p_of_p = rw (p_weight_below units x (omega arith), p_weight_above units y above, product_one 1, zero_product (two_to x)) refl;
   p_of_q = rw (p_weight_below units x (omega arith), p_weight_above units y above, product_zero 1, zero_product 1) refl;
-  q_of_p = rw (q_weight_below units x lt, q_weight_above units y above, product_one (two_to x),
-      one_product (two_to x) (two_to_lt x)) (xor_self (two_to x));
+  q_of_p = rw (
+    q_weight_below units x lt,
+    q_weight_above units y above,
+    product_one (two_to x),
+    one_product (two_to x) (two_to_lt x),
+  ) (xor_self (two_to x));
   q_of_q = rw (q_weight_below units x lt, q_weight_above units y above, product_zero (two_to x), product_one 1) refl;
   by_p_lt = omega arith;
   by_q_lt = omega arith;
@@ -113,12 +121,12 @@ pub repairs_of_units : (units x y i a : ℕ) → x < y → y < units → i < 256
 repairs_of_units units x y i a lt few i_lt a_lt e is_a =
     let sum_lt = xor_of_8 (two_to x) (two_to y) (two_to_lt x) (two_to_lt y) in
     let once : bit_xor (product i (two_to x)) (product i (two_to y)) ≡ 1 =
-        sym (product-xor i (two_to x) (two_to y)) ∙ product_comm i (bit_xor (two_to x) (two_to y)) i_lt sum_lt ∙ e in
+    sym (product-xor i (two_to x) (two_to y)) ∙ product_comm i (bit_xor (two_to x) (two_to y)) i_lt sum_lt ∙ e in
     let both : bit_xor a (product i (two_to x)) ≡ 1 = rw is_a (xor_comm (product i (two_to y)) (product i (two_to x)) ∙ once) in
     let back : product (bit_xor (two_to x) (two_to y)) a ≡ two_to y =
     ap (product (bit_xor (two_to x) (two_to y))) is_a
-        ∙ sym (product_assoc (bit_xor (two_to x) (two_to y)) i (two_to y) sum_lt i_lt) ∙ ap (λ (n : ℕ). product n (two_to y)) e
-        ∙ one_product (two_to y) (two_to_lt y) in
+    ∙ sym (product_assoc (bit_xor (two_to x) (two_to y)) i (two_to y) sum_lt i_lt) ∙ ap (λ (n : ℕ). product n (two_to y)) e
+    ∙ one_product (two_to y) (two_to_lt y) in
     let more_lt : bit_xor a 1 < 256 = xor_of_8 a 1 a_lt (omega arith) in
     record {
       row = refl;
@@ -129,15 +137,23 @@ repairs_of_units units x y i a lt few i_lt a_lt e is_a =
           (xor_right_comm a 1 (product i (two_to x)) ∙ ap (λ (n : ℕ). bit_xor n 1) both);
       other_whole =
           rw (p_weight_below units y (omega arith), q_weight_below units y few, product_one (bit_xor a 1), ← is_a)
-              (xor_right_comm a 1 a ∙ ap (λ (n : ℕ). bit_xor n 1) (xor_self a));
-      p_of_p = rw (p_weight_below units x (omega arith), p_weight_below units y (omega arith), one_product a a_lt,
-          one_product (bit_xor a 1) more_lt) (xor_cancel a 1);
+          (xor_right_comm a 1 a ∙ ap (λ (n : ℕ). bit_xor n 1) (xor_self a));
+      p_of_p = rw (
+        p_weight_below units x (omega arith),
+        p_weight_below units y (omega arith),
+        one_product a a_lt,
+        one_product (bit_xor a 1) more_lt,
+      ) (xor_cancel a 1);
       p_of_q = rw (p_weight_below units x (omega arith), p_weight_below units y (omega arith)) (xor_self (product 1 i));
-      q_of_p = rw (q_weight_below units x (omega arith), q_weight_below units y few, product-xor (two_to y) a 1,
-          product_one (two_to y))
+      q_of_p = rw (
+        q_weight_below units x (omega arith),
+        q_weight_below units y few,
+        product-xor (two_to y) a 1,
+        product_one (two_to y),
+      )
           (sym (xor_assoc (product (two_to x) a) (product (two_to y) a) (two_to y))
-              ∙ ap (λ (n : ℕ). bit_xor n (two_to y))
-                  (sym (xor-product (two_to x) (two_to y) a (two_to_lt x) (two_to_lt y) a_lt) ∙ back) ∙ xor_self (two_to y));
+          ∙ ap (λ (n : ℕ). bit_xor n (two_to y))
+          (sym (xor-product (two_to x) (two_to y) a (two_to_lt x) (two_to_lt y) a_lt) ∙ back) ∙ xor_self (two_to y));
       q_of_q = rw (q_weight_below units x (omega arith), q_weight_below units y few)
           (sym (xor-product (two_to x) (two_to y) i (two_to_lt x) (two_to_lt y) i_lt) ∙ e);
       by_p_lt = a_lt;
@@ -158,27 +174,30 @@ by_q_named units x lt = rw (lt-ltb units x lt) refl
 
 pub units_named : (units x y i a : ℕ) → y < units → i ≡ inverse_of (bit_xor (two_to x) (two_to y)) → a ≡ product i (two_to y)
     → ◌≡◌ {A = Repair × Repair} (record { row = x; by_p = a; by_q = i }, record { row = y; by_p = bit_xor a 1; by_q = i })
-        (first_repair units x y, second_repair units x y)
+    (first_repair units x y, second_repair units x y)
 unfolding first_repair second_repair
 units_named units x y i a few is_i is_a = rw (lt-ltb y units few, is_a, is_i) refl
 
 pub unit_and_p_named : (units x y i : ℕ) → y ≡ units → i ≡ inverse_of (two_to x)
     → ◌≡◌ {A = Repair × Repair} (record { row = x; by_p = 0; by_q = i }, record { row = y; by_p = 1; by_q = i })
-        (first_repair units x y, second_repair units x y)
+    (first_repair units x y, second_repair units x y)
 unfolding first_repair second_repair
 unit_and_p_named units x y i same is_i = rw (le-ltb y units (omega (arith, same)), eq-eqb y units same, is_i) refl
 
 pub unit_and_q_named : (units x y : ℕ) → x < units → units < y
     → ◌≡◌ {A = Repair × Repair} (record { row = x; by_p = 1; by_q = 0 }, record { row = y; by_p = two_to x; by_q = 1 })
-        (first_repair units x y, second_repair units x y)
+    (first_repair units x y, second_repair units x y)
 unfolding first_repair second_repair
 unit_and_q_named units x y lt above =
     rw (le-ltb y units (omega (arith, above)), ne_eqb y units (λ e. omega (arith, e, above)), lt-ltb x units lt) refl
 
 pub both_named : (units x y : ℕ) → x ≡ units → units < y
     → ◌≡◌ {A = Repair × Repair} (record { row = x; by_p = 1; by_q = 0 }, record { row = y; by_p = 0; by_q = 1 })
-        (first_repair units x y, second_repair units x y)
+    (first_repair units x y, second_repair units x y)
 unfolding first_repair second_repair
 both_named units x y same above =
-    rw (le-ltb y units (omega (arith, above)), ne_eqb y units (λ e. omega (arith, e, above)),
-    le-ltb x units (omega (arith, same))) refl
+    rw (
+      le-ltb y units (omega (arith, above)),
+      ne_eqb y units (λ e. omega (arith, e, above)),
+      le-ltb x units (omega (arith, same)),
+    ) refl

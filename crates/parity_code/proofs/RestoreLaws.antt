@@ -31,15 +31,19 @@ weighted : (a b p q v : ℕ) → a < 256 → b < 256 → p < 256 → q < 256 →
     bit_xor (product a (product p v)) (product b (product q v)) ≡ product (bit_xor (product a p) (product b q)) v
 weighted a b p q v a_lt b_lt p_lt q_lt v_lt =
     rw (← product_assoc a p v a_lt p_lt, ← product_assoc b q v b_lt q_lt)
-        (sym (xor-product (product a p) (product b q) v (product_lt a p a_lt) (product_lt b q b_lt) v_lt))
+    (sym (xor-product (product a p) (product b q) v (product_lt a p a_lt) (product_lt b q b_lt) v_lt))
 
 -- two bytes through both syndromes
 both_weighted : (a b p1 p2 q1 q2 v u : ℕ) → a < 256 → b < 256 → p1 < 256 → p2 < 256 → q1 < 256 → q2 < 256 → v < 256 → u < 256
     → bit_xor (product a (bit_xor (product p1 v) (product p2 u))) (product b (bit_xor (product q1 v) (product q2 u)))
     ≡ bit_xor (product (bit_xor (product a p1) (product b q1)) v) (product (bit_xor (product a p2) (product b q2)) u)
 both_weighted a b p1 p2 q1 q2 v u a_lt b_lt p1_lt p2_lt q1_lt q2_lt v_lt u_lt =
-    rw (product-xor a (product p1 v) (product p2 u), product-xor b (product q1 v) (product q2 u),
-        ← weighted a b p1 q1 v a_lt b_lt p1_lt q1_lt v_lt, ← weighted a b p2 q2 u a_lt b_lt p2_lt q2_lt u_lt)
+    rw (
+      product-xor a (product p1 v) (product p2 u),
+      product-xor b (product q1 v) (product q2 u),
+      ← weighted a b p1 q1 v a_lt b_lt p1_lt q1_lt v_lt,
+      ← weighted a b p2 q2 u a_lt b_lt p2_lt q2_lt u_lt,
+    )
     (xor_swap (product a (product p1 v)) (product a (product p2 u)) (product b (product q1 v)) (product b (product q2 u)))
 
 -- the syndromes of a column without byte x, from those of the column
@@ -64,29 +68,33 @@ repaired_byte units x r col repair whole lt room most =
     let v : ℕ = get_or col x 0 in
     let byte : v < 256 = whole.bytes x 0 lt in
     let p : p_syndrome units (set col x 0) ≡ product (p_weight units x) v =
-        p_without units x 0 col lt room byte whole.p ∙ xor_zero_l (product (p_weight units x) v) in
+    p_without units x 0 col lt room byte whole.p ∙ xor_zero_l (product (p_weight units x) v) in
     elim (cases_lt units x) [
       | inl above ↦
           let q : q_syndrome units (set col x 0) ≡ product (q_weight units x) v =
-              q_without units x 0 col lt (omega arith) byte (whole.q (omega arith)) ∙ xor_zero_l (product (q_weight units x) v) in
+          q_without units x 0 col lt (omega arith) byte (whole.q (omega arith)) ∙ xor_zero_l (product (q_weight units x) v) in
           rw (p, q) (weighted r.by_p r.by_q (p_weight units x) (q_weight units x) v repair.by_p_lt repair.by_q_lt
-              (p_weight_lt units x) (q_weight_lt units x) byte
+          (p_weight_lt units x) (q_weight_lt units x) byte
           ∙ ap (λ (n : ℕ). product n v) repair.whole ∙ one_product v byte)
       | inr below ↦
           let none : r.by_q ≡ 0 = repair.plain below in
           let share_p : product r.by_p (p_weight units x) ≡ 1 =
-              sym (xor_zero_r (product r.by_p (p_weight units x))) ∙ rw (none, zero_product (q_weight units x)) at repair.whole in
+          sym (xor_zero_r (product r.by_p (p_weight units x))) ∙ rw (none, zero_product (q_weight units x)) at repair.whole in
           rw (p, none, zero_product (q_syndrome units (set col x 0)), xor_zero_r (product r.by_p (product (p_weight units x) v)))
           (sym (product_assoc r.by_p (p_weight units x) v repair.by_p_lt (p_weight_lt units x))
-              ∙ ap (λ (n : ℕ). product n v) share_p ∙ one_product v byte)
+          ∙ ap (λ (n : ℕ). product n v) share_p ∙ one_product v byte)
     ]
 
 pub one_restored : (units x : ℕ) (r : Repair) (col : List ℕ) → IsRepair units x r → IsWhole units col → x < length col →
     units < length col → length col ≤ units + 2
     → repaired_column units r r (set col x 0) ≡ col
 one_restored units x r col repair whole lt room most =
-    rw (repaired_byte units x r col repair whole lt room most, repair.row,
-        set-set (set col x 0) x (get_or col x 0) (get_or col x 0), set-set col x 0 (get_or col x 0)) (set-get_or col x 0)
+    rw (
+      repaired_byte units x r col repair whole lt room most,
+      repair.row,
+      set-set (set col x 0) x (get_or col x 0) (get_or col x 0),
+      set-set col x 0 (get_or col x 0),
+    ) (set-get_or col x 0)
 
 -- both lost bytes come back
 repaired_bytes : (units x y : ℕ) (r s : Repair) (col : List ℕ) → AreRepairs units x y r s → IsWhole units col → x < y →
@@ -104,20 +112,20 @@ repaired_bytes units x y r s col repairs whole rising lt long =
     let first_lt : get_or first y 0 < 256 = rw same_u u_lt in
     let p : p_syndrome units (set first y 0) ≡ bit_xor (product (p_weight units x) v) (product (p_weight units y) u) =
     rw same_u at
-        (p_without units y (product (p_weight units x) v) first (omega arith) (omega arith) first_lt
-        (p_without units x 0 col (omega arith) (omega arith) v_lt whole.p ∙ xor_zero_l (product (p_weight units x) v))) in
+    (p_without units y (product (p_weight units x) v) first (omega arith) (omega arith) first_lt
+    (p_without units x 0 col (omega arith) (omega arith) v_lt whole.p ∙ xor_zero_l (product (p_weight units x) v))) in
     let q : q_syndrome units (set first y 0) ≡ bit_xor (product (q_weight units x) v) (product (q_weight units y) u) =
     rw same_u at
-        (q_without units y (product (q_weight units x) v) first (omega arith) (omega arith) first_lt
-        (q_without units x 0 col (omega arith) long v_lt (whole.q (omega arith)) ∙ xor_zero_l (product (q_weight units x) v))) in
+    (q_without units y (product (q_weight units x) v) first (omega arith) (omega arith) first_lt
+    (q_without units x 0 col (omega arith) long v_lt (whole.q (omega arith)) ∙ xor_zero_l (product (q_weight units x) v))) in
     rw (p, q) (
       both_weighted r.by_p r.by_q (p_weight units x) (p_weight units y) (q_weight units x)
           (q_weight units y) v u repairs.by_p_lt repairs.by_q_lt (p_weight_lt units x) (p_weight_lt units y) (q_weight_lt units x)
-              (q_weight_lt units y) v_lt u_lt
+          (q_weight_lt units y) v_lt u_lt
           ∙ rw (repairs.whole, repairs.none_of_other, one_product v v_lt, zero_product u) (xor_zero_r v),
       both_weighted s.by_p s.by_q (p_weight units x) (p_weight units y) (q_weight units x)
           (q_weight units y) v u repairs.other_by_p_lt repairs.other_by_q_lt (p_weight_lt units x) (p_weight_lt units y)
-              (q_weight_lt units x) (q_weight_lt units y) v_lt u_lt
+          (q_weight_lt units x) (q_weight_lt units y) v_lt u_lt
           ∙ rw (repairs.none, repairs.other_whole, one_product u u_lt, zero_product v) (xor_zero_l u),
     )
 
@@ -153,15 +161,15 @@ p_filled : (units x v : ℕ) (col : List ℕ) → x < length col → units < len
     p_syndrome units (set col x v) ≡ bit_xor (p_syndrome units col) (product (p_weight units x) v)
 p_filled units x v col lt room byte none =
     p_syndrome_set units x v col lt room byte
-        ∙ ap (λ (c : List ℕ). bit_xor (p_syndrome units c) (product (p_weight units x) v))
-            (ap (set col x) (sym none) ∙ set-get_or col x 0)
+    ∙ ap (λ (c : List ℕ). bit_xor (p_syndrome units c) (product (p_weight units x) v))
+    (ap (set col x) (sym none) ∙ set-get_or col x 0)
 
 q_filled : (units x v : ℕ) (col : List ℕ) → x < length col → length col ≡ units + 2 → v < 256 → get_or col x 0 ≡ 0 →
     q_syndrome units (set col x v) ≡ bit_xor (q_syndrome units col) (product (q_weight units x) v)
 q_filled units x v col lt long byte none =
     q_syndrome_set units x v col lt long byte
-        ∙ ap (λ (c : List ℕ). bit_xor (q_syndrome units c) (product (q_weight units x) v))
-            (ap (set col x) (sym none) ∙ set-get_or col x 0)
+    ∙ ap (λ (c : List ℕ). bit_xor (q_syndrome units c) (product (q_weight units x) v))
+    (ap (set col x) (sym none) ∙ set-get_or col x 0)
 
 -- a lone row of parity, and one repaired row: no syndrome is left
 pub one_solved : (units x : ℕ) (r : Repair) (col : List ℕ) → IsRepair units x r → AreBytes col → x ≤ units →
@@ -172,9 +180,9 @@ one_solved units x r col repair bytes le long none =
     let plain : r.by_q ≡ 0 = repair.plain le in
     let weight : p_weight units x ≡ 1 = p_weight_below units x le in
     let once : r.by_p ≡ 1 =
-        sym (xor_zero_r r.by_p) ∙ rw (weight, plain, zero_product (q_weight units x), product_one r.by_p) at repair.whole in
+    sym (xor_zero_r r.by_p) ∙ rw (weight, plain, zero_product (q_weight units x), product_one r.by_p) at repair.whole in
     let value : repaired r p (q_syndrome units col) ≡ p =
-        rw (once, plain, zero_product (q_syndrome units col), one_product p p_lt) (xor_zero_r p) in
+    rw (once, plain, zero_product (q_syndrome units col), one_product p p_lt) (xor_zero_r p) in
     let filled : repaired_column units r r col ≡ set col x p = rw (value, repair.row) (set-set col x p p) in
     rw filled (record {
       p = p_filled units x p col (omega arith) (omega arith) p_lt none ∙ rw (weight, one_product p p_lt) (xor_self p);
@@ -185,16 +193,16 @@ one_solved units x r col repair bytes le long none =
 two_filled : (units x y v u : ℕ) (col : List ℕ) → x < y → y < length col → length col ≡ units + 2 → v < 256 → u < 256 →
     get_or col x 0 ≡ 0 → get_or col y 0 ≡ 0
     → (p_syndrome units (set (set col x v) y u) ≡ bit_xor (p_syndrome units col)
-        (bit_xor (product (p_weight units x) v) (product (p_weight units y) u)))
+    (bit_xor (product (p_weight units x) v) (product (p_weight units y) u)))
     × (q_syndrome units (set (set col x v) y u) ≡ bit_xor (q_syndrome units col)
-        (bit_xor (product (q_weight units x) v) (product (q_weight units y) u)))
+    (bit_xor (product (q_weight units x) v) (product (q_weight units y) u)))
 two_filled units x y v u col rising lt long v_lt u_lt none none_other =
     let first : List ℕ = set col x v in
     let first_long : length first ≡ length col = length-set col x v in
     let still : get_or first y 0 ≡ 0 = get_or-set_other col x y v 0 (λ e. omega arith) ∙ none_other in (
       p_filled units y u first (omega arith) (omega arith) u_lt still
           ∙ ap (λ (n : ℕ). bit_xor n (product (p_weight units y) u))
-              (p_filled units x v col (omega arith) (omega arith) v_lt none)
+          (p_filled units x v col (omega arith) (omega arith) v_lt none)
           ∙ xor_assoc (p_syndrome units col) (product (p_weight units x) v) (product (p_weight units y) u),
       q_filled units y u first (omega arith) (omega arith) u_lt still
           ∙ ap (λ (n : ℕ). bit_xor n (product (q_weight units y) u)) (q_filled units x v col (omega arith) long v_lt none)
@@ -213,18 +221,18 @@ two_solved units x y r s col repairs bytes rising lt long none none_other =
     let p_lt : p < 256 = p_syndrome_lt units col bytes in
     let q_lt : q < 256 = q_syndrome_lt units col bytes in
     let filled =
-        two_filled units x y (repaired r p q) (repaired s p q) col rising lt long
-            (repaired_lt r p q repairs.by_p_lt repairs.by_q_lt)
-            (repaired_lt s p q repairs.other_by_p_lt repairs.other_by_q_lt) none none_other in
+    two_filled units x y (repaired r p q) (repaired s p q) col rising lt long
+    (repaired_lt r p q repairs.by_p_lt repairs.by_q_lt)
+    (repaired_lt s p q repairs.other_by_p_lt repairs.other_by_q_lt) none none_other in
     rw (repairs.row, repairs.other_row) (record {
       p = filled.0
           ∙ ap (bit_xor p)
-              (both_weighted (p_weight units x) (p_weight units y) r.by_p r.by_q s.by_p s.by_q p q (p_weight_lt units x)
-              (p_weight_lt units y) repairs.by_p_lt repairs.by_q_lt repairs.other_by_p_lt repairs.other_by_q_lt p_lt q_lt
+          (both_weighted (p_weight units x) (p_weight units y) r.by_p r.by_q s.by_p s.by_q p q (p_weight_lt units x)
+          (p_weight_lt units y) repairs.by_p_lt repairs.by_q_lt repairs.other_by_p_lt repairs.other_by_q_lt p_lt q_lt
           ∙ rw (repairs.p_of_p, repairs.p_of_q, one_product p p_lt, zero_product q) (xor_zero_r p)) ∙ xor_self p;
       q = λ _. filled.1
           ∙ ap (bit_xor q)
-              (both_weighted (q_weight units x) (q_weight units y) r.by_p r.by_q s.by_p s.by_q p q (q_weight_lt units x)
-              (q_weight_lt units y) repairs.by_p_lt repairs.by_q_lt repairs.other_by_p_lt repairs.other_by_q_lt p_lt q_lt
+          (both_weighted (q_weight units x) (q_weight units y) r.by_p r.by_q s.by_p s.by_q p q (q_weight_lt units x)
+          (q_weight_lt units y) repairs.by_p_lt repairs.by_q_lt repairs.other_by_p_lt repairs.other_by_q_lt p_lt q_lt
           ∙ rw (repairs.q_of_p, repairs.q_of_q, one_product q q_lt, zero_product p) (xor_zero_l q)) ∙ xor_self q;
     })

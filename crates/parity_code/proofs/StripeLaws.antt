@@ -74,7 +74,7 @@ same_without_two x y xs ys agree x_lt y_lt =
     let yl : length (set ys x 0) ≡ length xs = length-set ys x 0 ∙ sym agree.long in
     let xl : length (set xs x 0) ≡ length xs = length-set xs x 0 in
     same_number_lists (set (set ys x 0) y 0) (set (set xs x 0) y 0)
-        (length-set (set ys x 0) y 0 ∙ yl ∙ sym xl ∙ sym (length-set (set xs x 0) y 0)) (λ k k_lt.
+    (length-set (set ys x 0) y 0 ∙ yl ∙ sym xl ∙ sym (length-set (set xs x 0) y 0)) (λ k k_lt.
     elim (cases_eq k y) [
       | inl same ↦ get_or-set_at (set ys x 0) y k 0 0 same (omega arith)
           ∙ sym (get_or-set_at (set xs x 0) y k 0 0 same (omega arith))
@@ -90,7 +90,7 @@ unrepaired : (units : ℕ) (r s : Repair) (col : List ℕ) (j : ℕ) → j ≢ r
 unrepaired units r s col j nr ns =
     let first : List ℕ = set col r.row (repaired r (p_syndrome units col) (q_syndrome units col)) in
     other_byte j s.row (repaired s (p_syndrome units col) (q_syndrome units col)) first ns
-        ∙ other_byte j r.row (repaired r (p_syndrome units col) (q_syndrome units col)) col nr
+    ∙ other_byte j r.row (repaired r (p_syndrome units col) (q_syndrome units col)) col nr
 
 -- columns up to the end, and those beyond
 up_to : (n : ℕ) (f : List ℕ → List ℕ) (old new : List (List ℕ)) → Become 0 n f old new → (k : ℕ) → k < n →
@@ -110,7 +110,7 @@ column_bytes rows k bytes = λ j d lt.
 pub restored_by_one : (units x : ℕ) (r : Repair) (old mid new : List (List ℕ)) → HasParity units old →
     All (λ row. (i : ℕ) → get_or row i 0 < 256) old → x < length old → IsRepair units x r → r ≡ repair_of units x
     → Stored x 0 (length (get_or old x [])) (λ _. 0) old mid → Become 0 (width_of mid) (repaired_column units r r) mid new →
-        Restored units (x ∷ []) old new
+    Restored units (x ∷ []) old new
 unfolding decoded
 restored_by_one units x r old mid new parity bytes lt repair is_r clear become =
     let room : length (get_or old x []) ≡ width_of old = parity.even x [] lt in
@@ -128,18 +128,18 @@ restored_by_one units x r old mid new parity bytes lt repair is_r clear become =
           elim (cases_lt k (width_of old)) [
             | inl below ↦
                 ap (λ (col : List ℕ). get_or col j 0)
-                    (up_to (width_of mid) (repaired_column units r r) mid new become k (omega arith))
+                (up_to (width_of mid) (repaired_column units r r) mid new become k (omega arith))
                 ∙ unrepaired units r r (column mid k) j not_row not_row
                 ∙ ap (λ (col : List ℕ). get_or col j 0) (cleared x (length (get_or old x [])) old mid clear k (omega arith))
-                    ∙ other_byte j x 0 (column old k) other
+                ∙ other_byte j x 0 (column old k) other
             | inr beyond ↦ ap (λ (col : List ℕ). get_or col j 0) (become.above k (omega arith) ∙ clear.above k (omega arith))
           ]);
       whole = λ k col k_lt whole agree.
           let long : length col ≡ length old = agree.long ∙ length_column old k in
           up_to (width_of mid) (repaired_column units r r) mid new become k (omega arith)
           ∙ ap (repaired_column units r r)
-              (cleared x (length (get_or old x [])) old mid clear k (omega arith)
-              ∙ same_without_one x col (column old k) agree (omega arith))
+          (cleared x (length (get_or old x [])) old mid clear k (omega arith)
+          ∙ same_without_one x col (column old k) agree (omega arith))
           ∙ one_restored units x r col repair whole (omega arith) (omega (arith, parity.some)) (omega (arith, parity.most));
       solved = λ count k k_lt.
           let col : List ℕ = column old k in
@@ -147,10 +147,10 @@ restored_by_one units x r old mid new parity bytes lt repair is_r clear become =
           let erased_long : length (set col x 0) ≡ length col = length-set col x 0 in
           let is : column new k ≡ repaired_column units r r (set col x 0) =
           up_to (width_of mid) (repaired_column units r r) mid new become k (omega arith)
-              ∙ ap (repaired_column units r r) (cleared x (length (get_or old x [])) old mid clear k (omega arith)) in
+          ∙ ap (repaired_column units r r) (cleared x (length (get_or old x [])) old mid clear k (omega arith)) in
           rw is (one_solved units x r (set col x 0) repair
-              (All-set (λ (d : ℕ). d < 256) col x 0 (omega arith) (column_bytes old k bytes)) (omega arith) (omega arith)
-                  (get_or-set_same col x 0 0 (omega arith)));
+          (All-set (λ (d : ℕ). d < 256) col x 0 (omega arith) (column_bytes old k bytes)) (omega arith) (omega arith)
+          (get_or-set_same col x 0 0 (omega arith)));
     }
 
 pub restored_by_two : (units x y : ℕ) (r s : Repair) (old one mid new : List (List ℕ)) → HasParity units old →
@@ -167,7 +167,7 @@ restored_by_two units x y r s old one mid new parity bytes rising lt two repairs
     let shape : map length new ≡ map length old = become.shape ∙ shape_mid in
     let erased : (k : ℕ) → k < width_of old → column mid k ≡ set (set (column old k) x 0) y 0 = λ k k_lt.
     cleared y (length (get_or one y [])) one mid clear_other k (omega arith)
-        ∙ ap (λ (col : List ℕ). set col y 0) (cleared x (length (get_or old x [])) old one clear k (omega arith)) in
+    ∙ ap (λ (col : List ℕ). set col y 0) (cleared x (length (get_or old x [])) old one clear k (omega arith)) in
     record {
       shape = shape;
       exact = λ k k_lt.
@@ -183,10 +183,10 @@ restored_by_two units x y r s old one mid new parity bytes rising lt two repairs
           elim (cases_lt k (width_of old)) [
             | inl below ↦
                 ap (λ (col : List ℕ). get_or col j 0)
-                    (up_to (width_of mid) (repaired_column units r s) mid new become k (omega arith))
+                (up_to (width_of mid) (repaired_column units r s) mid new become k (omega arith))
                 ∙ unrepaired units r s (column mid k) j not_row not_other_row
                 ∙ ap (λ (col : List ℕ). get_or col j 0) (erased k below) ∙ other_byte j y 0 (set (column old k) x 0) third
-                    ∙ other_byte j x 0 (column old k) other
+                ∙ other_byte j x 0 (column old k) other
             | inr beyond ↦ ap (λ (col : List ℕ). get_or col j 0)
                 (become.above k (omega arith) ∙ clear_other.above k (omega arith) ∙ clear.above k (omega arith))
           ]);
@@ -194,7 +194,7 @@ restored_by_two units x y r s old one mid new parity bytes rising lt two repairs
           let long : length col ≡ length old = agree.long ∙ length_column old k in
           up_to (width_of mid) (repaired_column units r s) mid new become k (omega arith)
           ∙ ap (repaired_column units r s)
-              (erased k k_lt ∙ same_without_two x y col (column old k) agree (omega arith) (omega arith))
+          (erased k k_lt ∙ same_without_two x y col (column old k) agree (omega arith) (omega arith))
           ∙ two_restored units x y r s col repairs whole rising (omega arith) (omega arith);
       solved = λ count k k_lt.
           let col : List ℕ = column old k in
@@ -203,14 +203,14 @@ restored_by_two units x y r s old one mid new parity bytes rising lt two repairs
           let first_long : length first ≡ length col = length-set col x 0 in
           let erased_long : length (set first y 0) ≡ length first = length-set first y 0 in
           let is : column new k ≡ repaired_column units r s (set first y 0) =
-              up_to (width_of mid) (repaired_column units r s) mid new become k (omega arith)
-              ∙ ap (repaired_column units r s) (erased k k_lt) in
+          up_to (width_of mid) (repaired_column units r s) mid new become k (omega arith)
+          ∙ ap (repaired_column units r s) (erased k k_lt) in
           let all : AreBytes (set first y 0) =
-              All-set (λ (d : ℕ). d < 256) first y 0 (omega arith)
-                  (All-set (λ (d : ℕ). d < 256) col x 0 (omega arith) (column_bytes old k bytes)) in
+          All-set (λ (d : ℕ). d < 256) first y 0 (omega arith)
+          (All-set (λ (d : ℕ). d < 256) col x 0 (omega arith) (column_bytes old k bytes)) in
           rw is (two_solved units x y r s (set first y 0) repairs all rising (omega arith) (omega arith)
           (other_byte x y 0 first (λ e. omega arith) ∙ get_or-set_same col x 0 0 (omega arith))
-              (get_or-set_same first y 0 0 (omega arith)));
+          (get_or-set_same first y 0 0 (omega arith)));
     }
 
 pub rows_of_width : (w : ℕ) (rows : List (List ℕ)) → 0 < length rows → All (λ row. length row ≡ w) rows →

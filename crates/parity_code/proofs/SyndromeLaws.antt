@@ -34,7 +34,7 @@ q_from_set n (d ∷ ds) zero v lt =
 q_from_set n (d ∷ ds) (suc i) v lt =
     let e : n + 1 + i ≡ n + suc i = omega arith in
     ap (bit_xor (product (two_to n) d)) (rw e at (q_from_set (n + 1) ds i v (omega arith)))
-        ∙ sym (xor_assoc (product (two_to n) d) (q_from (n + 1) (set ds i 0)) (product (two_to (n + suc i)) v))
+    ∙ sym (xor_assoc (product (two_to n) d) (q_from (n + 1) (set ds i 0)) (product (two_to (n + suc i)) v))
 
 pub p_weight_below : (units j : ℕ) → j ≤ units → p_weight units j ≡ 1
 p_weight_below units j le = ap (λ (b : Bool). cond b 1 0) (le-leb j units le)
@@ -53,9 +53,11 @@ q_weight_above units j lt = rw (le-ltb j units (omega arith), lt-leb j units lt)
 
 pub p_weight_lt : (units j : ℕ) → p_weight units j < 256
 p_weight_lt units j =
-    elim (cases_lt units j)
-        [ inl above ↦ rw (p_weight_above units j above) (omega arith) | inr below ↦ rw (p_weight_below units j below)
-        (omega arith) ]
+    elim (cases_lt units j) [
+      | inl above ↦ rw (p_weight_above units j above) (omega arith)
+      | inr below ↦ rw (p_weight_below units j below)
+          (omega arith)
+    ]
 
 pub q_weight_lt : (units j : ℕ) → q_weight units j < 256
 q_weight_lt units j = elim (cases_lt j units) [
@@ -83,12 +85,24 @@ p_syndrome_set units j v col lt room byte = elim (cases_lt j units) [
       (xor_right_comm (p_of (set (take units col) j 0)) v (get_or col units 0))
   | inr le ↦ elim (cases_lt units j) [
     | inl above ↦
-        rw (p_weight_above units j above, zero_product v, take-set-le units col j v le, take-set-le units col j 0 le,
-            get_or-set_other col j units v 0 (λ e. omega arith), get_or-set_other col j units 0 0 (λ e. omega arith))
+        rw (
+          p_weight_above units j above,
+          zero_product v,
+          take-set-le units col j v le,
+          take-set-le units col j 0 le,
+          get_or-set_other col j units v 0 (λ e. omega arith),
+          get_or-set_other col j units 0 0 (λ e. omega arith),
+        )
         (sym (xor_zero_r (bit_xor (p_of (take units col)) (get_or col units 0))))
     | inr same ↦
-        rw (p_weight_below units j (omega arith), one_product v byte, take-set-le units col j v le, take-set-le units col j 0 le,
-            get_or-set_at col j units v 0 (omega arith) lt, get_or-set_at col j units 0 0 (omega arith) lt)
+        rw (
+          p_weight_below units j (omega arith),
+          one_product v byte,
+          take-set-le units col j v le,
+          take-set-le units col j 0 le,
+          get_or-set_at col j units v 0 (omega arith) lt,
+          get_or-set_at col j units 0 0 (omega arith) lt,
+        )
         (ap (λ (p : ℕ). bit_xor p v) (sym (xor_zero_r (p_of (take units col)))))
   ]
 ]
@@ -111,12 +125,24 @@ q_syndrome_set units j v col lt long byte = elim (cases_lt j units) [
       (xor_right_comm (q_of (set (take units col) j 0)) (product (two_to j) v) (get_or col (units + 1) 0))
   | inr le ↦ elim (cases_lt units j) [
     | inl above ↦
-        rw (q_weight_above units j above, one_product v byte, take-set-le units col j v le, take-set-le units col j 0 le,
-            get_or-set_at col j (units + 1) v 0 (omega arith) lt, get_or-set_at col j (units + 1) 0 0 (omega arith) lt)
+        rw (
+          q_weight_above units j above,
+          one_product v byte,
+          take-set-le units col j v le,
+          take-set-le units col j 0 le,
+          get_or-set_at col j (units + 1) v 0 (omega arith) lt,
+          get_or-set_at col j (units + 1) 0 0 (omega arith) lt,
+        )
         (ap (λ (p : ℕ). bit_xor p v) (sym (xor_zero_r (q_of (take units col)))))
     | inr same ↦
-        rw (q_weight_at units j (omega arith), zero_product v, take-set-le units col j v le, take-set-le units col j 0 le,
-            get_or-set_other col j (units + 1) v 0 (λ e. omega arith), get_or-set_other col j (units + 1) 0 0 (λ e. omega arith))
+        rw (
+          q_weight_at units j (omega arith),
+          zero_product v,
+          take-set-le units col j v le,
+          take-set-le units col j 0 le,
+          get_or-set_other col j (units + 1) v 0 (λ e. omega arith),
+          get_or-set_other col j (units + 1) 0 0 (λ e. omega arith),
+        )
         (sym (xor_zero_r (bit_xor (q_of (take units col)) (get_or col (units + 1) 0))))
   ]
 ]
@@ -129,7 +155,7 @@ any_byte col k bytes =
 pub p_syndrome_lt : (units : ℕ) (col : List ℕ) → AreBytes col → p_syndrome units col < 256
 p_syndrome_lt units col bytes =
     xor_of_8 (p_of (take units col)) (get_or col units 0)
-        (p_of_lt (take units col) (All-take (λ (d : ℕ). d < 256) units col bytes)) (any_byte col units bytes)
+    (p_of_lt (take units col) (All-take (λ (d : ℕ). d < 256) units col bytes)) (any_byte col units bytes)
 
 pub q_syndrome_lt : (units : ℕ) (col : List ℕ) → AreBytes col → q_syndrome units col < 256
 q_syndrome_lt units col bytes =

@@ -16,7 +16,6 @@ use Rattle.pnfs_run.specs.Run.{JudgesWords}
 
 module _ {W : Type 0} (options : App) (gives : List Text → Option W → Type 0) (Does : W → Ends → Ends → Status → Type 0)
     (words : List Text) (before now : Ends) where
-
   -- ---- words that are read
 
   pub stopped : (asked : W) (why : CommandStop) (status : Status) → status ≡ by_stop why → Asks options gives words asked

@@ -19,10 +19,10 @@ abbrev pub StoredDriveEnds : {D : Type 0} → DiskGhosts D → (disk left : D) �
 StoredDriveEnds s disk left w before now status =
     ((status ≡ Done)
     × ServesStoredAs s w.drive.number w.drive.connections (streams_of before) (streams_of now) (drive_ends before)
-        (drive_ends now) disk left)
+    (drive_ends now) disk left)
     ⊎ ((why : StoredStop) × (status ≡ by_stored why)
     × EndsStored s w.drive.number w.drive.connections (streams_of before) (streams_of now) (drive_ends before)
-        (drive_ends now) disk left why)
+    (drive_ends now) disk left why)
 
 -- the server serves all connections from its journal, or stops
 abbrev pub StoredServerEnds : {D : Type 0} → DiskGhosts D → (disk left : D) → StoredServerWords → (before now : Ends) → Status →
@@ -30,10 +30,10 @@ abbrev pub StoredServerEnds : {D : Type 0} → DiskGhosts D → (disk left : D) 
 StoredServerEnds s disk left w before now status =
     ((status ≡ Done)
     × server.ServesStoredAs s w.server.connections (streams_of before) (streams_of now) (server_ends before)
-        (server_ends now) disk left)
+    (server_ends now) disk left)
     ⊎ ((why : StoredStop) × (status ≡ by_stored why)
     × server.EndsStored s w.server.connections (streams_of before) (streams_of now) (server_ends before)
-        (server_ends now) disk left why)
+    (server_ends now) disk left why)
 
 -- where words are refused, the disk is as it was given
 abbrev pub LeavesDisk : {D : Type 0} → (disk left : D) → Status → Type 0

@@ -74,5 +74,10 @@ swaps ask ds (a ∷ b ∷ ns) one h =
     let whole : length (a ∷ b ∷ ns) ≡ 1 * ask.size = parts.0 ∙ ap (λ (q : ℕ). q * ask.size) one in
     let fits : list_all (λ j. fits_zones ask ds (group_at ask j (a ∷ b ∷ ns))) (counted 0 1) ≡ true =
     subst (λ (q : ℕ). list_all (λ j. fits_zones ask ds (group_at ask j (a ∷ b ∷ ns))) (counted 0 q) ≡ true) one parts.2 in
-    rw (eq-eqb (length (b ∷ a ∷ ns)) (all_asked ask) parts.0, among_swapped ds a b ns, parts.1, one,
-        fits_swapped ask ds a b ns whole) fits
+    rw (
+      eq-eqb (length (b ∷ a ∷ ns)) (all_asked ask) parts.0,
+      among_swapped ds a b ns,
+      parts.1,
+      one,
+      fits_swapped ask ds a b ns whole,
+    ) fits

@@ -45,10 +45,10 @@ positions_out (p ∷ ps) out first new text len is e_first e_new =
 -- one more word is out
 pub word_out : (initial out pushed new : List ℕ) (words : List Word) (i : ℕ) (d : Word) → i < length words
     → out ≡ initial ++ behind 32 (map written (take i words)) → pushed ≡ out ++ 32 ∷ [] →
-        new ≡ pushed ++ written (get_or words i d)
+    new ≡ pushed ++ written (get_or words i d)
     → new ≡ initial ++ behind 32 (map written (take (i + 1) words))
 word_out initial out pushed new words i d lt e_out e_pushed e_new =
     let more : behind 32 (map written (take (i + 1) words)) ≡ behind 32
-        (map written (take i words)) ++ (32 ∷ written (get_or words i d)) =
+    (map written (take i words)) ++ (32 ∷ written (get_or words i d)) =
     rw (take_more words i d lt, map-append) (behind_push 32 (map written (take i words)) (written (get_or words i d))) in
     rw (e_new, e_pushed, e_out, more) (simp append_assoc)

@@ -15,7 +15,7 @@ pub block_out : (out new whole rest block later : List ℕ) → rest ≡ block +
 block_out out new whole rest block later parts before e_new =
     rw e_new (append_assoc out (encode_lower block) (encode_lower later)
     ∙ ap (λ (digits : List ℕ). out ++ digits) (sym (encoded_append lower_digits block later) ∙ ap encode_lower (sym parts))
-        ∙ before)
+    ∙ before)
 
 -- all are
 pub all_out : (out whole rest : List ℕ) → length rest ≡ 0 → out ++ encode_lower rest ≡ whole → out ≡ whole

@@ -91,8 +91,11 @@ unfolding traffic_word_of
 traffic_exact digits word = keywords digits traffic_words (traffic_form digits) upkeep_by event_parts [] (
   (client, client_law digits, λ c. (call_parts, Fixed (codes "do") ∷ client c ∷ [], [], refl, call_exact digits, λ what. refl)),
   (
-    (client, client_law digits,
-        λ c. (call_parts, Fixed (codes "call") ∷ client c ∷ [], [], refl, call_exact digits, λ what. refl)),
+    (
+      client,
+      client_law digits,
+      λ c. (call_parts, Fixed (codes "call") ∷ client c ∷ [], [], refl, call_exact digits, λ what. refl),
+    ),
     (
       (u64, u64_law digits, λ n. refl),
       (
@@ -118,13 +121,15 @@ traffic_exact digits word = keywords digits traffic_words (traffic_form digits) 
 file_exact : (digits : Digits) (make : ℕ → FileMap → ℕ → Event) (word : List ℕ)
     → ((f : ℕ) (m : FileMap) (t : ℕ) → event_parts (make f m t) ≡ Fixed word ∷ file f ∷ (map_parts m ++ tag t ∷ []))
     → Exact digits (file_form make) event_parts (Fixed word ∷ [])
-file_exact digits make word is =
-    (file, file_law digits,
-        λ f. (map_parts, Fixed word ∷ file f ∷ [], [], refl, map_exact digits, λ m. (tag, tag_law digits, λ t. is f m t)))
+file_exact digits make word is = (
+  file,
+  file_law digits,
+  λ f. (map_parts, Fixed word ∷ file f ∷ [], [], refl, map_exact digits, λ m. (tag, tag_law digits, λ t. is f m t)),
+)
 
 drive_exact : (digits : Digits) (make : ℕ → List ℕ → ℕ → Event) (word : List ℕ)
     → ((d : ℕ) (key : List ℕ) (capacity : ℕ) →
-        event_parts (make d key capacity) ≡ Fixed word ∷ drive d ∷ Key key ∷ u64 capacity ∷ [])
+    event_parts (make d key capacity) ≡ Fixed word ∷ drive d ∷ Key key ∷ u64 capacity ∷ [])
     → Exact digits (drive_form digits make) event_parts (Fixed word ∷ [])
 drive_exact digits make word is =
     (drive, drive_law digits, λ d. (Key, key_law digits, λ key. (u64, u64_law digits, λ capacity. is d key capacity)))

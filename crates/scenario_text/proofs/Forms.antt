@@ -55,7 +55,7 @@ ExactRows digits (row ∷ rows) parts before =
 picked : {A : Type 0} (digits : Digits) (b : Bool) (word text : List ℕ) (here later : Form A) (parts : A → List Part)
     (before : List Part)
     → (b ≡ true → word ≡ text) → Exact digits here parts (before ++ Fixed text ∷ []) →
-        Exact digits later parts (before ++ Fixed word ∷ [])
+    Exact digits later parts (before ++ Fixed word ∷ [])
     → Exact digits (pick b here later) parts (before ++ Fixed word ∷ [])
 picked digits true word text here later parts before is h l =
     subst (λ (w : List ℕ). Exact digits here parts (before ++ Fixed w ∷ [])) (sym (is refl)) h
@@ -73,7 +73,7 @@ rows_or digits (row ∷ rows) other parts before h o word =
 
 pub rows : {A : Type 0} (digits : Digits) (table : List (List ℕ × Form A)) (parts : A → List Part) (before : List Part)
     → ExactRows digits table parts before → (word : List ℕ) →
-        Exact digits (chosen table (λ w. Unknown) word) parts (before ++ Fixed word ∷ [])
+    Exact digits (chosen table (λ w. Unknown) word) parts (before ++ Fixed word ∷ [])
 rows digits table parts before h word = rows_or digits table (λ w. Unknown) parts before h (λ w. tt) word
 
 -- a table of keywords as rows
@@ -84,7 +84,7 @@ rows_of (entry ∷ table) form = (entry.0, form entry.1) ∷ rows_of table form
 picked_keyword : {K A : Type 0} (digits : Digits) (b : Bool) (word text : List ℕ) (k : K) (rest : Option K) (form : K → Form A)
     (other : Form A)
     (parts : A → List Part) (before : List Part) → (b ≡ true → word ≡ text) →
-        Exact digits (form k) parts (before ++ Fixed text ∷ [])
+    Exact digits (form k) parts (before ++ Fixed text ∷ [])
     → Exact digits (form_or form other rest) parts (before ++ Fixed word ∷ [])
     → Exact digits (form_or form other (if b then Some k else rest)) parts (before ++ Fixed word ∷ [])
 picked_keyword digits true word text k rest form other parts before is h l =
@@ -194,12 +194,12 @@ found digits (Word of next) parts before h words left x r =
     let w = bind_ok (first words) of a.0 a.1 in
     let law = h.1.found w.0 a.0 w.2 in
     found_then digits parts before (h.0 a.0 ∷ []) words (w.0 ∷ []) (after words) left x (first_ok words w.0 w.1) (law.0, tt)
-        (law.1, tt)
+    (law.1, tt)
     (found digits (next a.0) parts (before ++ h.0 a.0 ∷ []) (h.2 a.0) (after words) left x a.2)
 found digits (Choose form) parts before h words left x r =
     let a = bind_ok (first words) _ (x, left) r in
     found_then digits parts before (Fixed a.0 ∷ []) words (a.0 ∷ []) (after words) left x (first_ok words a.0 a.1) (tt, tt)
-        (refl, tt)
+    (refl, tt)
     (found digits (form a.0) parts (before ++ Fixed a.0 ∷ []) (h a.0) (after words) left x a.2)
 found digits (Then form next) parts before h words left x r =
     let a = bind_ok (reads form words) _ (x, left) r in
@@ -271,7 +271,7 @@ choose_read digits form word ps x (w ∷ words) left h more =
 then_read : {A B : Type 0} (digits : Digits) (form : Form B) (next : B → Form A) (v : B) (x : A) (ps qs : List Part)
     (words left : List (List ℕ))
     (s : Split digits ps qs words) → reads form (s.us ++ (s.vs ++ left)) ≡ Ok (v, s.vs ++ left) →
-        reads (next v) (s.vs ++ left) ≡ Ok (x, left)
+    reads (next v) (s.vs ++ left) ≡ Ok (x, left)
     → reads (Then form next) (words ++ left) ≡ Ok (x, left)
 then_read digits form next v x ps qs words left s e more = rw (s.are, append_assoc s.us s.vs left, e) more
 
@@ -312,7 +312,7 @@ again digits (Then form next) parts before h x p =
           let s = split digits a.back b.back words spell in
           let f = split_fit a.back b.back fit in
           then_read digits form next p.0 x a.back b.back words left s (a.read s.us (s.vs ++ left) f.0 s.first)
-              (b.read s.vs left f.1 s.second);
+          (b.read s.vs left f.1 s.second);
       clear = λ fit. let f = split_fit a.back b.back fit in clear_append a.back b.back (a.clear f.0) (b.clear f.1);
     }
 again digits Unknown parts before h x p = absurd p
@@ -327,14 +327,15 @@ line_found digits form parts h words x r =
     let same = good_same a.0.0 x b.2 in
     let f = found digits form parts [] h words a.0.1 a.0.0 a.1 in
     let whole : words ≡ f.front = f.are ∙ ap (λ (l : List (List ℕ)). f.front ++ l) (end_ok a.0.1 b.0 b.1) ∙ append-nil f.front in
-    let is : parts x ≡ f.back = ap parts (sym same) ∙ f.is in
-    (subst AllFit (sym is) f.fit,
-        subst (λ (ps : List Part). SpellAll digits ps words) (sym is)
-            (subst (λ (ws : List (List ℕ)). SpellAll digits f.back ws) (sym whole) f.spell))
+    let is : parts x ≡ f.back = ap parts (sym same) ∙ f.is in (
+      subst AllFit (sym is) f.fit,
+      subst (λ (ps : List Part). SpellAll digits ps words) (sym is)
+          (subst (λ (ws : List (List ℕ)). SpellAll digits f.back ws) (sym whole) f.spell),
+    )
 
 pub line_again : {A : Type 0} (digits : Digits) (form : Form A) (parts : A → List Part) → Exact digits form parts []
     → (words : List (List ℕ)) (x : A) → Path form x → AllFit (parts x) → SpellAll digits (parts x) words →
-        reads_line form words ≡ Ok x
+    reads_line form words ≡ Ok x
 line_again digits form parts h words x p fit spell =
     let a = again digits form parts [] h x p in
     let r = a.read words [] (subst AllFit a.is fit) (subst (λ (ps : List Part). SpellAll digits ps words) a.is spell) in

@@ -163,8 +163,8 @@ bytes_found : (digits : Digits) (word bytes : List ℕ) → bytes_of digits word
     IsBytes bytes × SpellsBytes digits bytes word
 unfolding bytes_of
 bytes_found digits word bytes h =
-    elim (bytes_test (bytes_eq word (codes "-")) (bytes_eq word [] || refuses digits word) (or_bad_hex (decode_of word)) bytes h)
-        [
+    elim (bytes_test (bytes_eq word (codes "-")) (bytes_eq word [] || refuses digits word) (or_bad_hex (decode_of word)) bytes
+    h) [
       | inl none ↦ rw none.1 (no_bytes, dash digits word ((bytes_eq-Decides word (codes "-")).0 none.0))
       | inr read ↦
           let t = or_parts (bytes_eq word []) (refuses digits word) read.1 in
@@ -193,7 +193,7 @@ bytes_again Lower word [] fit h = rw h refl
 bytes_again Either word (b ∷ bytes) fit h = digits_again Either b bytes word h refl
 bytes_again Lower word (b ∷ bytes) fit h =
     rw h (digits_again Lower b bytes (encode_lower (b ∷ bytes)) (decode_of-encode_lower (b ∷ bytes) fit)
-        (encode_without _ (b ∷ bytes) refl refl))
+    (encode_without _ (b ∷ bytes) refl refl))
 
 bytes_clear : (bytes : List ℕ) → list_any is_space (hex_word bytes) ≡ false
 bytes_clear [] = refl

@@ -102,7 +102,7 @@ verdict_exact : (word : List ℕ) → Exact Lower (verdict_by word) verdict_part
 unfolding verdict_by plain_verdict_of
 verdict_exact word = keywords Lower plain_verdict_words Done numbered_verdict_by verdict_parts []
     (refl, (refl, (refl, (refl, (refl, (refl, (refl, (refl, (refl, (refl, (refl, (refl, (refl, (refl, (refl, tt)))))))))))))))
-        numbered_verdict_exact word
+    numbered_verdict_exact word
 
 verdict_path : (x : Verdict) → Path verdict_form x
 unfolding verdict_by plain_verdict_of numbered_verdict_by
@@ -143,9 +143,12 @@ unfolding delivery_by
 delivery_path delivery.Deaf = (codes "deaf", refl, refl)
 delivery_path delivery.Taken = (codes "taken", refl, refl)
 delivery_path (delivery.Judged v) =
-    let p = verdict_path v in
-    (p.0, p.1, past delivery_rows judged_by (delivery.Judged v) p.0 ((λ h. no_deaf h.0 h.1), ((λ h. no_taken h.0 h.1), tt))
-        (v, p.2, refl))
+    let p = verdict_path v in (
+      p.0,
+      p.1,
+      past delivery_rows judged_by (delivery.Judged v) p.0 ((λ h. no_deaf h.0 h.1), ((λ h. no_taken h.0 h.1), tt))
+          (v, p.2, refl),
+    )
 
 -- ---- endings and outcomes
 
@@ -164,15 +167,24 @@ ending_exact word = keywords Lower ending_words ending_form_of (λ w. Unknown) e
           (
             (u32, u32_law Lower, λ status. (u32, u32_law Lower, λ detail. refl)),
             (
-              (drive, drive_law Lower,
-                  λ d. (verdict_parts, Fixed (codes "refused") ∷ drive d ∷ [], [], refl, verdict_exact, λ v. refl)),
+              (
+                drive,
+                drive_law Lower,
+                λ d. (verdict_parts, Fixed (codes "refused") ∷ drive d ∷ [], [], refl, verdict_exact, λ v. refl),
+              ),
               (
                 (u32, u32_law Lower, λ k. refl),
                 (
                   (Positions, positions_law Lower, λ ps. refl),
                   (
-                    ((λ why. Fixed (layout_fault_word why) ∷ []), Fixed (codes "badlayout") ∷ [], [], refl, layout_fault_exact,
-                        λ why. refl),
+                    (
+                      (λ why. Fixed (layout_fault_word why) ∷ []),
+                      Fixed (codes "badlayout") ∷ [],
+                      [],
+                      refl,
+                      layout_fault_exact,
+                      λ why. refl,
+                    ),
                     (refl, tt),
                   ),
                 ),
@@ -225,10 +237,16 @@ unfolding outcome_by
 outcome_path (outcome.WriteOk len) = (kind.Write, kind_path kind.Write, (codes "ok", refl, (len, refl)))
 outcome_path (outcome.ReadOk bytes) = (kind.Read, kind_path kind.Read, (codes "ok", refl, (bytes, refl)))
 outcome_path (outcome.Failed call how) =
-    let p = ending_path how in
-    (call, kind_path call,
-        (p.0, p.1, past (outcome_rows call) (failed_by call) (outcome.Failed call how) p.0 ((λ h. no_ok h.0 h.1), tt)
-        (how, p.2, refl)))
+    let p = ending_path how in (
+      call,
+      kind_path call,
+      (
+        p.0,
+        p.1,
+        past (outcome_rows call) (failed_by call) (outcome.Failed call how) p.0 ((λ h. no_ok h.0 h.1), tt)
+            (how, p.2, refl),
+      ),
+    )
 
 -- ---- notes
 
@@ -237,8 +255,14 @@ unfolding refused_form
 refused_exact = rows Lower refused_rows note_parts (Fixed (codes "refused") ∷ []) (
   refl,
   (
-    ((λ why. Fixed (map_fault_word why) ∷ []), Fixed (codes "refused") ∷ Fixed (codes "badmap") ∷ [], [], refl, map_fault_exact,
-        λ why. refl),
+    (
+      (λ why. Fixed (map_fault_word why) ∷ []),
+      Fixed (codes "refused") ∷ Fixed (codes "badmap") ∷ [],
+      [],
+      refl,
+      map_fault_exact,
+      λ why. refl,
+    ),
     (
       (u32, u32_law Lower, λ n. refl),
       ((u32, u32_law Lower, λ n. refl), tt),
@@ -263,8 +287,11 @@ note_exact = keywords Lower note_words note_form_of (λ w. Unknown) note_parts [
             (
               (u32, u32_law Lower, λ k. refl),
               (
-                (u64, u64_law Lower,
-                    λ n. (u64, u64_law Lower, λ s. (u64, u64_law Lower, λ b. (u64, u64_law Lower, λ bytes. refl)))),
+                (
+                  u64,
+                  u64_law Lower,
+                  λ n. (u64, u64_law Lower, λ s. (u64, u64_law Lower, λ b. (u64, u64_law Lower, λ bytes. refl))),
+                ),
                 (
                   (u32, u32_law Lower, λ k. refl),
                   (
@@ -313,8 +340,14 @@ last_exact = (
   yes_or_no_exact,
   λ calm.
       rows Lower (unguessed_rows calm) line_parts (Fixed (codes "calm") ∷ Fixed (yes_or_no calm) ∷ []) (
-        ((λ b. Fixed (yes_or_no b) ∷ []), Fixed (codes "calm") ∷ Fixed (yes_or_no calm) ∷ Fixed (codes "unguessed") ∷ [], [],
-            refl, yes_or_no_exact, λ unguessed. refl),
+        (
+          (λ b. Fixed (yes_or_no b) ∷ []),
+          Fixed (codes "calm") ∷ Fixed (yes_or_no calm) ∷ Fixed (codes "unguessed") ∷ [],
+          [],
+          refl,
+          yes_or_no_exact,
+          λ unguessed. refl,
+        ),
         tt,
       ),
 )
@@ -324,8 +357,11 @@ unfolding line_by line_word_of
 line_exact = keywords Lower line_words line_form_of (λ w. Unknown) line_parts [] (
   (event_parts, Fixed (codes "=") ∷ [], [], refl, event_exact Lower, λ e. refl),
   (
-    (u64, u64_law Lower,
-        λ n. (party_part, party_law Lower, λ from. (party_part, party_law Lower, λ to. (Hex, bytes_law Lower, λ bytes. refl)))),
+    (
+      u64,
+      u64_law Lower,
+      λ n. (party_part, party_law Lower, λ from. (party_part, party_law Lower, λ to. (Hex, bytes_law Lower, λ bytes. refl))),
+    ),
     (
       (u64, u64_law Lower, λ n. (delivery_parts, Fixed (codes "d") ∷ u64 n ∷ [], [], refl, delivery_exact, λ what. refl)),
       (
@@ -333,12 +369,24 @@ line_exact = keywords Lower line_words line_form_of (λ w. Unknown) line_parts [
         (
           (client, client_law Lower, λ c. (u32, u32_law Lower, λ k. refl)),
           (
-            (client, client_law Lower,
-                λ c. (outcome_parts, Fixed (codes "o") ∷ client c ∷ [], [], refl, outcome_exact, λ how. refl)),
             (
-              (client, client_law Lower,
-                  λ c. ((λ why. Fixed (refusal_word why) ∷ []), Fixed (codes "x") ∷ client c ∷ [], [], refl, refusal_exact,
-                  λ why. refl)),
+              client,
+              client_law Lower,
+              λ c. (outcome_parts, Fixed (codes "o") ∷ client c ∷ [], [], refl, outcome_exact, λ how. refl),
+            ),
+            (
+              (
+                client,
+                client_law Lower,
+                λ c. (
+                  (λ why. Fixed (refusal_word why) ∷ []),
+                  Fixed (codes "x") ∷ client c ∷ [],
+                  [],
+                  refl,
+                  refusal_exact,
+                  λ why. refl,
+                ),
+              ),
               (
                 (file, file_law Lower, λ f. (note_parts, Fixed (codes "f") ∷ file f ∷ [], [], refl, note_exact, λ what. refl)),
                 (last_exact, tt),

@@ -112,7 +112,7 @@ rising_found least (word ∷ parts) ps h =
     let ih = rising_found (a.0 + 1) parts b.0 b.1 in
     let e = good_same (a.0 ∷ b.0) ps b.2 in
     let whole : Rising least (a.0 ∷ b.0) × (word ∷ parts ≡ map decimal (a.0 ∷ b.0)) =
-        ((n.0, omega (arith, n), ih.0), cc (n.2, ih.1)) in
+    ((n.0, omega (arith, n), ih.0), cc (n.2, ih.1)) in
     subst (λ (x : List ℕ). Rising least x × (word ∷ parts ≡ map decimal x)) e whole
 
 at_least_one : (ps : List ℕ) → Rising 0 ps → 0 < length (map decimal ps) → PositionsFit ps
@@ -154,7 +154,7 @@ joined_clear : (p least : ℕ) (ps : List ℕ) → p < 2 ^ 32 → Rising least p
 joined_clear p least [] lt h = decimal_clear p (omega arith)
 joined_clear p least (q ∷ ps) lt h =
     any_append is_space (decimal p) (44 ∷ positions_word (q ∷ ps)) (decimal_clear p (omega arith))
-        (joined_clear q (q + 1) ps h.1 h.2)
+    (joined_clear q (q + 1) ps h.1 h.2)
 
 positions_clear : (ps : List ℕ) → PositionsFit ps → list_any is_space (positions_word ps) ≡ false
 positions_clear [] h = absurd h

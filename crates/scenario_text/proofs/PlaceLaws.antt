@@ -82,7 +82,7 @@ server_law digits = record {
 named : {A : Type 0} (letter count : ℕ) (make : ℕ → A) (part : A → Part) (word : List ℕ) (x : A) →
     ((n : ℕ) → part (make n) ≡ Name letter count n)
     → (digits : Digits) → (name_of letter count word >>= (λ n. Ok (make n))) ≡ Ok x →
-        PartFits (part x) × SpellsPart (part x) digits word
+    PartFits (part x) × SpellsPart (part x) digits word
 named letter count make part word x is digits h =
     let a = bind_ok (name_of letter count word) _ x h in
     let n = name_ok letter count word a.0 a.1 in
@@ -144,7 +144,7 @@ machine_law digits = record { found = machine_found digits; again = machine_agai
 
 drive_or_client : (digits : Digits) (word : List ℕ) (who : Party) (r : Result ℕ EventErr) → drive_of word ≡ r
     → drive_or r (client_of word >>= (λ c. Ok (party.Client c))) ≡ Ok who →
-        PartFits (party_part who) × SpellsPart (party_part who) digits word
+    PartFits (party_part who) × SpellsPart (party_part who) digits word
 drive_or_client digits word who (Ok d) is h =
     let n = name_ok 100 64 word d is in
     let whole : PartFits (party_part (party.Drive d)) × SpellsPart (party_part (party.Drive d)) digits word = n in

@@ -40,7 +40,7 @@ rising_err least (word ∷ parts) e some h = rw h refl
 
 pub positions_err : (all : Result (List ℕ) EventErr) (before : List ℕ) (least : ℕ) (parts : List (List ℕ)) (e : EventErr)
     → all ≡ prepend before (rising_of least parts) → (parts ≡ [] → ⊥) → next_as (number_of least 4294967295) parts ≡ Err e →
-        all ≡ Err e
+    all ≡ Err e
 positions_err all before least parts e h some read = h ∙ ap (prepend before) (rising_err least parts e some read)
 
 pub positions_done : (all : Result (List ℕ) EventErr) (before : List ℕ) (least : ℕ) (parts : List (List ℕ))

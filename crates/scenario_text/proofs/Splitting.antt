@@ -25,12 +25,12 @@ pub found_first : (separator : ℕ) (line : List ℕ) (r : Option ℕ) → IsFir
 found_first separator line None none =
     let all : position_or_len (λ (b : ℕ). b == separator) line ≡ length line =
     position_or_len_is (λ (b : ℕ). b == separator) line (length line) 0 (omega arith)
-        (λ k lt. false_from_ne_true _ (none k (omega arith) lt)) (λ lt. absurd (omega arith)) in
+    (λ k lt. false_from_ne_true _ (none k (omega arith) lt)) (λ lt. absurd (omega arith)) in
     rw (all, le-ltb (length line) (length line) (omega arith)) refl
 found_first separator line (Some k) found =
     let here : position_or_len (λ (b : ℕ). b == separator) line ≡ k =
     position_or_len_is (λ (b : ℕ). b == separator) line k 0 (omega (arith, found.0.high))
-        (λ j lt. false_from_ne_true _ (found.0.before j (omega arith) lt)) (λ lt. found.1) in
+    (λ j lt. false_from_ne_true _ (found.0.before j (omega arith) lt)) (λ lt. found.1) in
     rw (here, lt-ltb k (length line) found.0.high) refl
 
 -- the first separator ends the first part

@@ -73,9 +73,9 @@ joined_again : (ps : List Part) (p : Part) (qs : List Part) → ps ≡ p ∷ qs 
     → words_of (spaced (map word_of ps)) ≡ map word_of ps
 joined_again ps p qs is clear =
     let c : none_any is_space (map word_of (p ∷ qs)) ≡ false =
-        subst (λ (rs : List Part). none_any is_space (map word_of rs) ≡ false) is clear in
+    subst (λ (rs : List Part). none_any is_space (map word_of rs) ≡ false) is clear in
     subst (λ (rs : List Part). words_of (spaced (map word_of rs)) ≡ map word_of rs) (sym is)
-        (split_joined 32 (word_of p) (map word_of qs) c)
+    (split_joined 32 (word_of p) (map word_of qs) c)
 
 -- the spelling with lower-case digits is a spelling
 pub event_text_spells : (e : Event) → Fits e → Spells e (event_text e)
@@ -83,7 +83,7 @@ event_text_spells e fits =
     let f = first_part Either (event_by Either) event_parts (event_exact Either) e (event_path Either e) in
     let clear = line_clear Either (event_form Either) event_parts (event_exact Either) e (event_path Either e) fits in
     subst (λ (ws : List (List ℕ)). SpellAll Either (event_parts e) ws) (sym (joined_again (event_parts e) f.0 f.1 f.2 clear))
-        (either_all (event_parts e) fits)
+    (either_all (event_parts e) fits)
 
 echoed : (ps : List Part) (p : Part) (qs : List Part) → ps ≡ p ∷ qs
     → codes "=" ++ behind 32 (map word_of ps) ≡ codes "= " ++ spaced (map word_of ps)

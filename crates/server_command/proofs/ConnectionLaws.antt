@@ -73,5 +73,5 @@ served_over s t new now inbox left piece h took rooms same fewer times ends stat
 
 pub served_one : (n : ℕ) (old s new : Server) (before between accepted now : Ends)
     → ServesAll n old s before between → AcceptsOne between accepted → ServesConnection s new accepted now →
-        ServesAll (n + 1) old new before now
+    ServesAll (n + 1) old new before now
 served_one n old s new before between accepted now all accepts serves = rw add-one (s, between, all, accepted, accepts, serves)

@@ -54,7 +54,7 @@ pub core_made : (file : ℕ) (raw : RawMap) (tag : ℕ) (chosen : List ℕ) (old
     → create_file old file raw tag false chosen ≡ Ok s → new ≡ s.state → CoreWent (steps.Makes file raw tag chosen ∷ []) old new
 core_made file raw tag chosen old new s is e =
     core_went (steps.Makes file raw tag chosen ∷ []) old new
-        (e ∙ sym (ap (λ (r : Result RulesStep Refusal). (unless_made old r).state) is))
+    (e ∙ sym (ap (λ (r : Result RulesStep Refusal). (unless_made old r).state) is))
 
 -- it wasn't
 pub core_not : (file : ℕ) (raw : RawMap) (tag : ℕ) (old new : Server) (e : FileErr) (told : MakeErr)
@@ -65,7 +65,7 @@ core_not file raw tag old new e told by memory refused = go e memory refused by
   where
     not : (e : FileErr) → ((r : Refusal) → e ≡ cause_of r → told ≡ Refused r)
         → (r : Refusal) × (refusal old file raw false ≡ Some r) × (e ≡ cause_of r) × (new ≡ old) →
-            CoreMakesNot file raw tag old new told
+        CoreMakesNot file raw tag old new told
     not e by h = subst (λ (x : MakeErr). CoreMakesNot file raw tag old new x) (sym (by h.0 h.2)) (h.1, core_went [] old new h.3)
 
     go : (e : FileErr) → (e ≡ cause.Memory → told ≡ Memory)

@@ -105,7 +105,7 @@ file_row n t f h =
 
     go : (number : ℕ) (m : RawMap) (good : Bool) → is_good_map n m ≡ good → HasAlgorithm m
         → (if good then Some (record { number = number; map = m }) else None) ≡ Some f →
-            (is_good_map n f.map ≡ true) × HasAlgorithm f.map
+        (is_good_map n f.map ≡ true) × HasAlgorithm f.map
     go number m true is algorithm e =
         let same : m ≡ f.map = ap (λ (o : Option ClusterFile). map_or m o) e in rw (← same) (is, algorithm)
     go number m false is algorithm e = cc e
@@ -154,7 +154,7 @@ Unrepeated c = (repeats (map (λ d. d.number) c.drives) ≡ false) × (repeats (
 
 from_tests : (unknown lacking wrong : Bool) (o : Option Cluster) (c : Cluster)
     → (if unknown then Err (Refused Unknown) else if lacking then Err (Refused Missing) else if wrong then Err
-        (Refused WrongType) else unrepeated o) ≡ Ok c
+    (Refused WrongType) else unrepeated o) ≡ Ok c
     → (lacking ≡ false) × (wrong ≡ false) × (o ≡ Some c) × Unrepeated c
 from_tests true lacking wrong o c h = cc h
 from_tests false true wrong o c h = cc h
@@ -170,13 +170,13 @@ parts_of : (top : Members) (ds fs : List Members) (c : Cluster) → cluster_in t
 unfolding cluster_in
 parts_of top ds fs c h =
     go (has_good_counts ds fs) (address_at (codes "server") top) (format_in top) (all_in drive_in ds)
-        (all_in (file_in (length ds)) fs) h
+    (all_in (file_in (length ds)) fs) h
   where
     go : (good : Bool) (server : Option (List ℕ)) (format : Option ℕ) (drives : Option (List ClusterDrive))
         (files : Option (List ClusterFile))
         → (if good then (server >>=
-            (λ s. format >>=
-            (λ f. drives >>= (λ d. files >>= (λ x. Some (record { server = s; format = f; drives = d; files = x }))))))
+        (λ s. format >>=
+        (λ f. drives >>= (λ d. files >>= (λ x. Some (record { server = s; format = f; drives = d; files = x }))))))
         else None) ≡ Some c → (drives ≡ Some c.drives) × (files ≡ Some c.files)
     go false server format drives files e = cc e
     go true None format drives files e = cc e

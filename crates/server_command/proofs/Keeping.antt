@@ -94,7 +94,7 @@ hears_keeps : (drive : ℕ) (came : Option (List ℕ)) (s t : Serving) → Hears
 hears_keeps drive None s t e = same_keeps s.server t.server (ap (λ (x : Serving). x.server) e)
 hears_keeps drive (Some bytes) s t h =
     subst (λ (x : Server). Keeps s.server x) (sym h.server)
-        (message_keeps s.server h.time h.chosen drive (message_in (Drive drive) bytes))
+    (message_keeps s.server h.time h.chosen drive (message_in (Drive drive) bytes))
 
 to_keeps : (to : Node) (message : List ℕ) (s t : Serving) → MakesTo to message s t → Keeps s.server t.server
 to_keeps (Drive d) message s t h = hears_keeps d (h.0).came (record s { ends = (h.0).between }) t (h.0).hears
@@ -109,7 +109,7 @@ rounds_keep : (rounds : ℕ) (s t : Serving) → Rounds Makes rounds s t → Kee
 rounds_keep zero s t e = same_keeps s.server t.server (ap (λ (x : Serving). x.server) e)
 rounds_keep (suc n) s t h =
     then_keeps s.server (h.0).server t.server (rounds_keep n s h.0 h.1)
-        (turn_keeps (h.0).waiting (record (h.0) { waiting = [] }) t h.2)
+    (turn_keeps (h.0).waiting (record (h.0) { waiting = [] }) t h.2)
 
 -- ---- a file
 
@@ -141,7 +141,7 @@ unfolding create_file
 created_keeps s number map tag chosen step e =
     let f : File = unmade s number map tag false (places s.drives map.comps chosen) in
     subst (λ (x : Step). KeepsBut number s x.state) (unrefused (refusal s number map false) (makes_file s f) step e)
-        (makes_keeps s f)
+    (makes_keeps s f)
 
 file_keeps : (file : ClusterFile) (s t : Serving) → MakesFile file s t → KeepsBut file.number s.server t.server
 file_keeps file s t h =

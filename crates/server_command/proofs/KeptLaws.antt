@@ -37,7 +37,7 @@ module _ {H : Type 0} (s : Ghosts H) where
   since_then : (mid new : H) (v : Server) (xs ys cut_off : List ServerStep) (t : ℕ)
       → StandsSince s.stands_for (s.left_since mid) (s.moment mid) v xs [] t → t ≤ s.moment mid → s.moment mid ≤ s.moment new
       → ((u : ℕ) (c : List ℕ) → u ≤ s.moment mid → s.left_since new u c →
-          s.left_since mid u c ⊎ Some_of (after_steps v xs) (ys ++ cut_off) c)
+      s.left_since mid u c ⊎ Some_of (after_steps v xs) (ys ++ cut_off) c)
       → StandsSince s.stands_for (s.left_since new) (s.moment new) (after_steps v xs) ys cut_off (s.moment mid)
       → StandsSince s.stands_for (s.left_since new) (s.moment new) v (xs ++ ys) cut_off t
   since_then mid new v [] [] cut_off t first le later before behind =
@@ -68,16 +68,16 @@ module _ {H : Type 0} (s : Ghosts H) where
             (Some_of (after_steps (s.server old) xs) (ys ++ cut_off))
             (Some_of (s.server old) ((xs ++ ys) ++ cut_off)) (x.crash k)
             (subst (λ (v : Server). LeavesOnly s.moment s.left_since mid new (Some_of v (ys ++ cut_off))) w.state
-                (y.crash (w.keeps_on k)))
+            (y.crash (w.keeps_on k)))
             (some_before (s.server old) xs ys cut_off) (some_behind (s.server old) xs ys cut_off);
         since = λ k.
             let before =
-                subst (λ (v : Server). LeavesOnly s.moment s.left_since mid new (Some_of v (ys ++ cut_off))) w.state
-                    (y.crash (w.keeps_on k)) in
+            subst (λ (v : Server). LeavesOnly s.moment s.left_since mid new (Some_of v (ys ++ cut_off))) w.state
+            (y.crash (w.keeps_on k)) in
             since_then mid new (s.server old) xs ys cut_off (s.moment old) (x.since k)
-                (x.crash k).later before.later before.before
+            (x.crash k).later before.later before.before
             (subst (λ (v : Server). StandsSince s.stands_for (s.left_since new) (s.moment new) v ys cut_off (s.moment mid))
-                w.state (y.since (w.keeps_on k)));
+            w.state (y.since (w.keeps_on k)));
       }
 
   -- ---- what went on
@@ -157,5 +157,5 @@ module _ {H : Type 0} (s : Ghosts H) where
   -- and of one that was cut off
   pub broke_by : (done cut_off : List ServerStep) (failed : Type 0) (old new : H)
       → BrokeOff s.server s.is_over s.faults s.keeps s.moment s.left_since s.stands_for done cut_off failed old new →
-          Broke s failed old new
+      Broke s failed old new
   broke_by done cut_off failed old new b = record { done = done; cut_off = cut_off; carries = b.carries; rose = b.rose }

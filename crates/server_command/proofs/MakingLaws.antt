@@ -14,7 +14,8 @@ use Rattle.server_rules.specs.declared.server.Server.{Server}
 use Rattle.server_requests.specs.declared.outgoing.Sent.{Sent}
 use Rattle.server_command.specs.Messages.{Handles, InTurn, Round, Rounds, Serving, UntilNone, serving}
 use Rattle.server_command.proofs.WorkLaws.{Grows, measure, round_less, turn_grows, works_grows}
-use Rattle.server_command.specs.Faults.{fault_line, held_line, held_object}
+use Rattle.server_command.specs.Faults.{fault_line, held_line}
+use Rattle.reply_matching.specs.Held.{held_object}
 use Rattle.server_command.specs.Files.{Loses, LosesAll, LosesDrive, LosesFile, LosesFiles, LosesIn, Makes, MakesFile, MakesTo, RefusesFile, RefusesFiles, StopsAt, StopsBy}
 
 -- ---- where it stops
@@ -51,9 +52,9 @@ stops_at Does Stops xs i x s u e does stops = record {
 -- a record came for it that isn't Exists
 pub drive_makes : (drive : ℕ) (message reply : List ℕ) (s t : Serving) (between : Ends)
     → Answered (Drive drive) message s.ends.told between.told s.ends.faults between.faults (Some reply) →
-        between.times ≡ s.ends.times
+    between.times ≡ s.ends.times
     → Handles (Drive drive) reply (record s { ends = between }) t → held_object message reply ≡ None →
-        MakesTo (Drive drive) message s t
+    MakesTo (Drive drive) message s t
 drive_makes drive message reply s t between answered times hears none = (
   record { came = Some reply; between = between; answered = answered; times = times; hears = hears },
   ap (λ (o : Option ℕ). option_map (held_line drive) o) none,
@@ -64,7 +65,7 @@ pub drive_loses : (drive : ℕ) (message line : List ℕ) (came : Option (List �
     (faults later : Faults)
     → Answered (Drive drive) message s.ends.told told s.ends.faults faults came → fault_line drive message came ≡ Some line
     → now ≡ after_notes (line ∷ []) told → later ≡ faults →
-        LosesDrive drive message s (record s { ends = ends_of now later s.ends.times })
+    LosesDrive drive message s (record s { ends = ends_of now later s.ends.times })
 drive_loses drive message line came s told now faults later answered fault tells same = record {
   came = came;
   between = ends_of told faults s.ends.times;
@@ -90,13 +91,13 @@ pub makes_end : (s t : Serving) → 0 < length s.waiting → Round Makes s t →
     measure t.server.next_nonce t.waiting < measure s.server.next_nonce s.waiting
 makes_end s t some r =
     round_less (record s { waiting = [] }) t s.waiting refl some
-        (turn_grows Makes makes_grows s.waiting (record s { waiting = [] }) t r)
+    (turn_grows Makes makes_grows s.waiting (record s { waiting = [] }) t r)
 
 loses_from : (u t : Serving) (ms rest : List Sent) → ms ≡ u.waiting → rest ≡ [] → LosesIn ms (record u { waiting = rest }) t
     → LosesIn u.waiting (record u { waiting = [] }) t
 loses_from u t ms rest e f h =
     subst (λ (ns : List Sent). LosesIn ns (record u { waiting = [] }) t) e
-        (subst (λ (ns : List Sent). LosesIn ms (record u { waiting = ns }) t) f h)
+    (subst (λ (ns : List Sent). LosesIn ms (record u { waiting = ns }) t) f h)
 
 pub all_made : (rounds : ℕ) (s : Serving) (server : Server) (waiting : List Sent) (ends : Ends)
     → Rounds Makes rounds s (serving server waiting true ends) → waiting ≡ [] → UntilNone Makes s (serving server [] true ends)
@@ -122,7 +123,7 @@ all_stops rounds s u waiting ms rest server ends stop made e f h =
 pub files_stop : (files : List ClusterFile) (i : ℕ) (f : ClusterFile) (s u : Serving) (server : Server) (ends : Ends)
     (stop : ServerStop)
     → slice_get files i ≡ Some f → InTurn MakesFile (take i files) s u →
-        StopsBy (LosesFile f u server ends) (RefusesFile f u.server) stop
+    StopsBy (LosesFile f u server ends) (RefusesFile f u.server) stop
     → StopsBy (LosesFiles files s server ends) (RefusesFiles files s) stop
 files_stop files i f s u server ends stop e made h =
     stops_by (LosesFile f u server ends) (LosesFiles files s server ends) (RefusesFile f u.server) (RefusesFiles files s)

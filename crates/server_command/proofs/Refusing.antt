@@ -157,7 +157,7 @@ unrepeated : (done : List ClusterFile) (next : ClusterFile) (left : List Cluster
 unrepeated [] next left h = refl
 unrepeated (f ∷ done) next left h =
     let n = or_parts (list_any (λ m. nat_eq m f.number) (map (λ x. x.number) (done ++ next ∷ left)))
-        (repeats (map (λ x. x.number) (done ++ next ∷ left))) h in
+    (repeats (map (λ x. x.number) (done ++ next ∷ left))) h in
     rw (swapped next.number f.number (in_middle done n.0)) (unrepeated done next left n.1)
   where
     in_middle : (fs : List ClusterFile) → list_any (λ m. nat_eq m f.number) (map (λ x. x.number) (fs ++ next ∷ left)) ≡ false
@@ -165,8 +165,8 @@ unrepeated (f ∷ done) next left h =
     in_middle [] e = (or_parts (nat_eq next.number f.number) (list_any (λ m. nat_eq m f.number) (map (λ x. x.number) left)) e).0
     in_middle (g ∷ fs) e =
         in_middle fs
-            (or_parts (nat_eq g.number f.number)
-            (list_any (λ m. nat_eq m f.number) (map (λ x. x.number) (fs ++ next ∷ left))) e).1
+        (or_parts (nat_eq g.number f.number)
+        (list_any (λ m. nat_eq m f.number) (map (λ x. x.number) (fs ++ next ∷ left))) e).1
 
 pub makeable_at : (n : ℕ) (done : List ClusterFile) (next : ClusterFile) (left : List ClusterFile) →
     AreMakeable n (done ++ next ∷ left)
@@ -181,12 +181,12 @@ unfolding file_at
 none_refused c first ends sound drives files r =
     let kept = files_keep r.done (serving first [] true ends) r.before r.does in
     let apart = unrepeated r.done r.next r.left
-        (subst (λ (fs : List ClusterFile). repeats (map (λ f. f.number) fs) ≡ false) r.are sound.files) in
+    (subst (λ (fs : List ClusterFile). repeats (map (λ f. f.number) fs) ≡ false) r.are sound.files) in
     let none = kept.none (r.next).number apart (rw files refl) in
     let maps = makeable_at (length c.drives) r.done r.next r.left
-        (subst (λ (fs : List ClusterFile). AreMakeable (length c.drives) fs) r.are sound.maps) in
+    (subst (λ (fs : List ClusterFile). AreMakeable (length c.drives) fs) r.are sound.maps) in
     let many : length (online (r.before).server.drives) ≡ length c.drives =
-        ap (λ (ds : List Drive). length (online ds)) kept.drives ∙ drives in
+    ap (λ (ds : List Drive). length (online ds)) kept.drives ∙ drives in
     go (unrefused (r.before).server (r.next).number (r.next).map (length c.drives) none many maps.0) maps.1 r.stops
   where
     go : refusal (r.before).server (r.next).number (r.next).map false ≡ None → HasAlgorithm (r.next).map →
@@ -200,4 +200,4 @@ is_served c ends kind sound (inr r) =
     let h = has_server c sound in
     let same : h.server ≡ r.1 = cc (sym h.is ∙ r.2) in
     none_refused c r.1 ends sound (ap (λ (s : Server). length (online s.drives)) (sym same) ∙ h.online)
-        (ap (λ (s : Server). s.files) (sym same) ∙ h.files) r.3
+    (ap (λ (s : Server). s.files) (sym same) ∙ h.files) r.3

@@ -24,7 +24,7 @@ use Rattle.server_command.proofs.Rising.{makes_files, rises}
 pub has_made : (cluster : Cluster) (before settled between : Ends) (first made : Server) (files : List ClusterFile) →
     settled ≡ before
     → files ≡ cluster.files → server_in cluster ≡ Ok first →
-        MakesFiles files (serving first [] true settled) (serving made [] true between)
+    MakesFiles files (serving first [] true settled) (serving made [] true between)
     → HasMade cluster before made between
 has_made cluster before settled between first made files e f is makes = record {
   first = first;
@@ -69,7 +69,7 @@ module _ (connections : ℕ) (cluster : Cluster) (before now : Ends) (taken_befo
   -- the files weren't made
   making_in : (stop : CommandStop) (first last : Server) → server_in cluster ≡ Ok first → taken ≡ taken_before
       → StopsBy (LosesFiles cluster.files (serving first [] true before) last now)
-          (RefusesFiles cluster.files (serving first [] true before)) (Command stop)
+      (RefusesFiles cluster.files (serving first [] true before)) (Command stop)
       → StopsIn connections cluster before now taken_before taken failed_before failed stop
   making_in WriteFault first last is same s = absurd s
   making_in LinkFault first last is same s = inr (inl ((first, is, last, s), same))
@@ -87,7 +87,7 @@ module _ (connections : ℕ) (cluster : Cluster) (before now : Ends) (taken_befo
       (files : List ClusterFile)
       → told ≡ Command stop → settled ≡ before → files ≡ cluster.files → server_in cluster ≡ Ok first → taken ≡ taken_before
       → StopsBy (LosesFiles files (serving first [] true settled) last now)
-          (RefusesFiles files (serving first [] true settled)) told
+      (RefusesFiles files (serving first [] true settled)) told
       → StopsIn connections cluster before now taken_before taken failed_before failed stop
   making_in_memory told stop first last settled files is e f known same s = making_in stop first last known same
       (subst (λ (x : ServerStop). StopsMaking first last cluster.files before x) is

@@ -48,7 +48,7 @@ unfolding heard_at
 heard_rises s chosen drive r [] = tt
 heard_rises s chosen drive r (f ∷ fs) =
     or_rises (begins s) (on_reply (at_file s chosen f) drive r) (heard_at s chosen drive r fs)
-        (reply_rises (begins s) (at_file s chosen f) drive r (refl, refl)) (heard_rises s chosen drive r fs)
+    (reply_rises (begins s) (at_file s chosen f) drive r (refl, refl)) (heard_rises s chosen drive r fs)
 
 still_grows : (s : Server) → StepGrows s (still s)
 still_grows s = (omega arith, inl refl)
@@ -158,13 +158,13 @@ pub round_from : (R : Sent → Serving → Serving → Type 0) (s t : Serving) (
     → InTurn R ms (record s { waiting = rest }) t → Round R s t
 round_from R s t ms rest e f h =
     subst (λ (ns : List Sent). InTurn R ns (record s { waiting = [] }) t) e
-        (subst (λ (ns : List Sent). InTurn R ms (record s { waiting = ns }) t) f h)
+    (subst (λ (ns : List Sent). InTurn R ms (record s { waiting = ns }) t) f h)
 
 pub round_ends : (sender : Option Node) (s t : Serving) → 0 < length s.waiting → Round (Works sender) s t
     → measure t.server.next_nonce t.waiting < measure s.server.next_nonce s.waiting
 round_ends sender s t some r =
     round_less (record s { waiting = [] }) t s.waiting refl some
-        (turn_grows (Works sender) (works_grows sender) s.waiting (record s { waiting = [] }) t r)
+    (turn_grows (Works sender) (works_grows sender) s.waiting (record s { waiting = [] }) t r)
 
 pub some_wait : (b : Bool) (ms : List Sent) → b ≡ false → IsTrue b ↔ (ms ≡ []) → 0 < length ms
 some_wait b [] e i = absurd (cc (sym e ∙ i.1 refl))

@@ -7,7 +7,7 @@ ghost use Rattle.server_command.specs.declared.server_stop.ServerStop.TheVariant
 ghost use Rattle.server_command.specs.Messages.{InTurn, UntilNone, serving};
 ghost use Rattle.server_command.specs.Files.{Loses, LosesAll, LosesIn, LosesTo, Makes, MakesTo, StopsBy};
 
-use crate::faults::{held_line, held_object, silent_line};
+use crate::faults::{held_line, silent_line};
 use crate::metadata_server::MetadataServer;
 use crate::records::hear_drive;
 use crate::server_stop::ServerStop;
@@ -15,6 +15,7 @@ use cluster_text::CommandStop;
 use layout_server::{Sends, Sent};
 use osd_bytes::{Clock, Links, asked};
 use osd_lists::{Memory, Node};
+use reply_matching::held_object;
 use std::alloc::Global;
 use std::mem;
 use stripe_repair::Place;

@@ -42,10 +42,11 @@ drive_found i v j b e =
     took i0 _ (v, j) (fixed_law 20) b0 e0 (λ x1 i1 f1 p1 b1 e1.
     took i1 _ (v, j) u64_law b1 e1 (λ x2 i2 f2 p2 b2 e2.
     took i2 _ (v, j) bool_law b2 e2 (λ x3 i3 f3 p3 b3 e3.
-    subst (λ (p : DriveEntry × Rest). DriveFits p.0 × (i.left ≡ drive_item p.0 ++ p.1.left)) (ok_is _ (v, j) e3)
-    (record { number = f0; key = f1; capacity = f2 },
-        gathered (u32_item x0 ∷ fixed_item x1 ∷ u64_item x2 ∷ bool_item x3 ∷ []) (i.left) i3.left
-            (p0 ∙ after _ _ _ (p1 ∙ after _ _ _ (p2 ∙ after _ _ _ (p3)))))))))
+    subst (λ (p : DriveEntry × Rest). DriveFits p.0 × (i.left ≡ drive_item p.0 ++ p.1.left)) (ok_is _ (v, j) e3) (
+      record { number = f0; key = f1; capacity = f2 },
+      gathered (u32_item x0 ∷ fixed_item x1 ∷ u64_item x2 ∷ bool_item x3 ∷ []) (i.left) i3.left
+          (p0 ∙ after _ _ _ (p1 ∙ after _ _ _ (p2 ∙ after _ _ _ (p3)))),
+    )))))
 
 drive_again : (v : DriveEntry) (more : List ℕ) (at : ℕ) → DriveFits v →
     Ends (drive_in (record { left = drive_item v ++ more; at = at })) v more
@@ -53,8 +54,8 @@ unfolding drive_in
 drive_again v more at fits =
     in_parts drive_in (u32_item v.number ∷ fixed_item v.key ∷ u64_item v.capacity ∷ bool_item v.online ∷ []) at v more
     (first _ _ _ _ _ u32_law v.number fits.number
-        (λ _. first _ _ _ _ _ (fixed_law 20) v.key fits.key
-        (λ _. first _ _ _ _ _ u64_law v.capacity fits.capacity (λ _. last _ _ _ _ bool_law v.online tt (λ _. refl)))))
+    (λ _. first _ _ _ _ _ (fixed_law 20) v.key fits.key
+    (λ _. first _ _ _ _ _ u64_law v.capacity fits.capacity (λ _. last _ _ _ _ bool_law v.online tt (λ _. refl)))))
 
 pub drive_codec : IsCodec drive_in drive_item DriveFits
 drive_codec = record { again = drive_again; found = drive_found }
@@ -87,23 +88,24 @@ file_found i v j b e =
     took i1 _ (v, j) u32_law b1 e1 (λ x2 i2 f2 p2 b2 e2.
     took i2 _ (v, j) u32_law b2 e2 (λ x3 i3 f3 p3 b3 e3.
     took i3 _ (v, j) (list_law placed_codec) b3 e3 (λ x4 i4 f4 p4 b4 e4.
-    subst (λ (p : FileEntry × Rest). FileFits p.0 × (i.left ≡ file_item p.0 ++ p.1.left)) (ok_is _ (v, j) e4)
-    (record { file = f0; map = f1; tag = f2; format = f3; components = f4 },
-        gathered (u32_item x0 ∷ map_item x1 ∷ u32_item x2 ∷ u32_item x3 ∷ list_item placed_item x4 ∷ []) (i.left) i4.left
-            (p0 ∙ after _ _ _ (p1 ∙ after _ _ _ (p2 ∙ after _ _ _ (p3 ∙ after _ _ _ (p4)))))))))))
+    subst (λ (p : FileEntry × Rest). FileFits p.0 × (i.left ≡ file_item p.0 ++ p.1.left)) (ok_is _ (v, j) e4) (
+      record { file = f0; map = f1; tag = f2; format = f3; components = f4 },
+      gathered (u32_item x0 ∷ map_item x1 ∷ u32_item x2 ∷ u32_item x3 ∷ list_item placed_item x4 ∷ []) (i.left) i4.left
+          (p0 ∙ after _ _ _ (p1 ∙ after _ _ _ (p2 ∙ after _ _ _ (p3 ∙ after _ _ _ (p4))))),
+    ))))))
 
 file_again : (v : FileEntry) (more : List ℕ) (at : ℕ) → FileFits v →
     Ends (file_in (record { left = file_item v ++ more; at = at })) v more
 unfolding file_in
 file_again v more at fits =
     in_parts file_in
-        (u32_item v.file ∷ map_item v.map ∷ u32_item v.tag ∷ u32_item v.format ∷ list_item placed_item v.components ∷ []) at v
-            more
+    (u32_item v.file ∷ map_item v.map ∷ u32_item v.tag ∷ u32_item v.format ∷ list_item placed_item v.components ∷ []) at v
+    more
     (first _ _ _ _ _ u32_law v.file fits.file
-        (λ _. first _ _ _ _ _ map_codec v.map fits.map
-        (λ _. first _ _ _ _ _ u32_law v.tag fits.tag
-        (λ _. first _ _ _ _ _ u32_law v.format fits.format
-        (λ _. last _ _ _ _ (list_law placed_codec) v.components fits.components (λ _. refl))))))
+    (λ _. first _ _ _ _ _ map_codec v.map fits.map
+    (λ _. first _ _ _ _ _ u32_law v.tag fits.tag
+    (λ _. first _ _ _ _ _ u32_law v.format fits.format
+    (λ _. last _ _ _ _ (list_law placed_codec) v.components fits.components (λ _. refl))))))
 
 pub file_codec : IsCodec file_in file_item FileFits
 file_codec = record { again = file_again; found = file_found }
@@ -120,28 +122,29 @@ grant_found i v j b e =
     took i4 _ (v, j) u64_law b4 e4 (λ x5 i5 f5 p5 b5 e5.
     took i5 _ (v, j) u64_law b5 e5 (λ x6 i6 f6 p6 b6 e6.
     took i6 _ (v, j) u64_law b6 e6 (λ x7 i7 f7 p7 b7 e7.
-    subst (λ (p : Grant × Rest). GrantFits p.0 × (i.left ≡ grant_item p.0 ++ p.1.left)) (ok_is _ (v, j) e7)
-    (record { number = f0; client = f1; file = f2; first = f5; end = f6; expiry = f7 },
-        gathered (u32_item x0 ∷ u32_item x1 ∷ u32_item x2 ∷ bool_item x3 ∷ bool_item x4 ∷ u64_item x5 ∷ u64_item x6 ∷ u64_item x7
-        ∷ []) (i.left) i7.left
-        (p0 ∙ after _ _ _
-        (p1 ∙ after _ _ _
-        (p2 ∙ after _ _ _ (p3 ∙ after _ _ _ (p4 ∙ after _ _ _ (p5 ∙ after _ _ _ (p6 ∙ after _ _ _ (p7)))))))))))))))))
+    subst (λ (p : Grant × Rest). GrantFits p.0 × (i.left ≡ grant_item p.0 ++ p.1.left)) (ok_is _ (v, j) e7) (
+      record { number = f0; client = f1; file = f2; first = f5; end = f6; expiry = f7 },
+      gathered (u32_item x0 ∷ u32_item x1 ∷ u32_item x2 ∷ bool_item x3 ∷ bool_item x4 ∷ u64_item x5 ∷ u64_item x6 ∷ u64_item x7
+          ∷ []) (i.left) i7.left
+          (p0 ∙ after _ _ _
+          (p1 ∙ after _ _ _
+          (p2 ∙ after _ _ _ (p3 ∙ after _ _ _ (p4 ∙ after _ _ _ (p5 ∙ after _ _ _ (p6 ∙ after _ _ _ (p7)))))))),
+    )))))))))
 
 grant_again : (v : Grant) (more : List ℕ) (at : ℕ) → GrantFits v →
     Ends (grant_in (record { left = grant_item v ++ more; at = at })) v more
 unfolding grant_in
 grant_again v more at fits =
     in_parts grant_in
-        (u32_item v.number ∷ u32_item v.client ∷ u32_item v.file ∷ bool_item v.rw ∷ bool_item v.extending ∷ u64_item v.first
-        ∷ u64_item v.end ∷ u64_item v.expiry ∷ []) at v more
+    (u32_item v.number ∷ u32_item v.client ∷ u32_item v.file ∷ bool_item v.rw ∷ bool_item v.extending ∷ u64_item v.first
+    ∷ u64_item v.end ∷ u64_item v.expiry ∷ []) at v more
     (first _ _ _ _ _ u32_law v.number fits.number
-        (λ _. first _ _ _ _ _ u32_law v.client fits.client
-        (λ _. first _ _ _ _ _ u32_law v.file fits.file
-        (λ _. first _ _ _ _ _ bool_law v.rw tt
-        (λ _. first _ _ _ _ _ bool_law v.extending tt
-        (λ _. first _ _ _ _ _ u64_law v.first fits.first
-        (λ _. first _ _ _ _ _ u64_law v.end fits.end (λ _. last _ _ _ _ u64_law v.expiry fits.expiry (λ _. refl)))))))))
+    (λ _. first _ _ _ _ _ u32_law v.client fits.client
+    (λ _. first _ _ _ _ _ u32_law v.file fits.file
+    (λ _. first _ _ _ _ _ bool_law v.rw tt
+    (λ _. first _ _ _ _ _ bool_law v.extending tt
+    (λ _. first _ _ _ _ _ u64_law v.first fits.first
+    (λ _. first _ _ _ _ _ u64_law v.end fits.end (λ _. last _ _ _ _ u64_law v.expiry fits.expiry (λ _. refl)))))))))
 
 pub grant_codec : IsCodec grant_in grant_item GrantFits
 grant_codec = record { again = grant_again; found = grant_found }
@@ -154,21 +157,22 @@ counters_found i v j b e =
     took i0 _ (v, j) u64_law b0 e0 (λ x1 i1 f1 p1 b1 e1.
     took i1 _ (v, j) u64_law b1 e1 (λ x2 i2 f2 p2 b2 e2.
     took i2 _ (v, j) u64_law b2 e2 (λ x3 i3 f3 p3 b3 e3.
-    subst (λ (p : Counters × Rest). CountersFit p.0 × (i.left ≡ counters_item p.0 ++ p.1.left)) (ok_is _ (v, j) e3)
-    (record { next_grant = f0; next_object = f1; next_nonce = f2; next_recall = f3 },
-        gathered (u32_item x0 ∷ u64_item x1 ∷ u64_item x2 ∷ u64_item x3 ∷ []) (i.left) i3.left
-            (p0 ∙ after _ _ _ (p1 ∙ after _ _ _ (p2 ∙ after _ _ _ (p3)))))))))
+    subst (λ (p : Counters × Rest). CountersFit p.0 × (i.left ≡ counters_item p.0 ++ p.1.left)) (ok_is _ (v, j) e3) (
+      record { next_grant = f0; next_object = f1; next_nonce = f2; next_recall = f3 },
+      gathered (u32_item x0 ∷ u64_item x1 ∷ u64_item x2 ∷ u64_item x3 ∷ []) (i.left) i3.left
+          (p0 ∙ after _ _ _ (p1 ∙ after _ _ _ (p2 ∙ after _ _ _ (p3)))),
+    )))))
 
 counters_again : (v : Counters) (more : List ℕ) (at : ℕ) → CountersFit v →
     Ends (counters_in (record { left = counters_item v ++ more; at = at })) v more
 unfolding counters_in
 counters_again v more at fits =
     in_parts counters_in
-        (u32_item v.next_grant ∷ u64_item v.next_object ∷ u64_item v.next_nonce ∷ u64_item v.next_recall ∷ []) at v more
+    (u32_item v.next_grant ∷ u64_item v.next_object ∷ u64_item v.next_nonce ∷ u64_item v.next_recall ∷ []) at v more
     (first _ _ _ _ _ u32_law v.next_grant fits.next_grant
-        (λ _. first _ _ _ _ _ u64_law v.next_object fits.next_object
-        (λ _. first _ _ _ _ _ u64_law v.next_nonce fits.next_nonce
-        (λ _. last _ _ _ _ u64_law v.next_recall fits.next_recall (λ _. refl)))))
+    (λ _. first _ _ _ _ _ u64_law v.next_object fits.next_object
+    (λ _. first _ _ _ _ _ u64_law v.next_nonce fits.next_nonce
+    (λ _. last _ _ _ _ u64_law v.next_recall fits.next_recall (λ _. refl)))))
 
 pub counters_codec : IsCodec counters_in counters_item CountersFit
 counters_codec = record { again = counters_again; found = counters_found }
@@ -180,9 +184,10 @@ slot_found i v j b e =
     took i _ (v, j) u32_law b e (λ x0 i0 f0 p0 b0 e0.
     took i0 _ (v, j) u32_law b0 e0 (λ x1 i1 f1 p1 b1 e1.
     took i1 _ (v, j) answer_law b1 e1 (λ x2 i2 f2 p2 b2 e2.
-    subst (λ (p : SlotEntry × Rest). SlotFits p.0 × (i.left ≡ slot_item p.0 ++ p.1.left)) (ok_is _ (v, j) e2)
-    (record { client = f0; sequence = f1; answer = f2 },
-        gathered (u32_item x0 ∷ u32_item x1 ∷ opaque_item x2 ∷ []) (i.left) i2.left (p0 ∙ after _ _ _ (p1 ∙ after _ _ _ (p2)))))))
+    subst (λ (p : SlotEntry × Rest). SlotFits p.0 × (i.left ≡ slot_item p.0 ++ p.1.left)) (ok_is _ (v, j) e2) (
+      record { client = f0; sequence = f1; answer = f2 },
+      gathered (u32_item x0 ∷ u32_item x1 ∷ opaque_item x2 ∷ []) (i.left) i2.left (p0 ∙ after _ _ _ (p1 ∙ after _ _ _ (p2))),
+    ))))
 
 slot_again : (v : SlotEntry) (more : List ℕ) (at : ℕ) → SlotFits v →
     Ends (slot_in (record { left = slot_item v ++ more; at = at })) v more
@@ -190,7 +195,7 @@ unfolding slot_in
 slot_again v more at fits =
     in_parts slot_in (u32_item v.client ∷ u32_item v.sequence ∷ opaque_item v.answer ∷ []) at v more
     (first _ _ _ _ _ u32_law v.client fits.client
-        (λ _. first _ _ _ _ _ u32_law v.sequence fits.sequence (λ _. last _ _ _ _ answer_law v.answer fits.answer (λ _. refl))))
+    (λ _. first _ _ _ _ _ u32_law v.sequence fits.sequence (λ _. last _ _ _ _ answer_law v.answer fits.answer (λ _. refl))))
 
 pub slot_codec : IsCodec slot_in slot_item SlotFits
 slot_codec = record { again = slot_again; found = slot_found }
@@ -203,9 +208,11 @@ unfolding zone_in
 zone_found i v j b e =
     took i _ (v, j) u32_law b e (λ x0 i0 f0 p0 b0 e0.
     took i0 _ (v, j) u32_law b0 e0 (λ x1 i1 f1 p1 b1 e1.
-    subst (λ (p : Entry × Rest). EntryFits p.0 × (u32_item 16 ++ i.left ≡ entry_item p.0 ++ p.1.left)) (ok_is _ (v, j) e1)
-    ((f0, f1), gathered (u32_item 16 ∷ u32_item x0 ∷ u32_item x1 ∷ []) (u32_item 16 ++ i.left) i1.left
-        (after _ _ _ (p0 ∙ after _ _ _ (p1))))))
+    subst (λ (p : Entry × Rest). EntryFits p.0 × (u32_item 16 ++ i.left ≡ entry_item p.0 ++ p.1.left)) (ok_is _ (v, j) e1) (
+      (f0, f1),
+      gathered (u32_item 16 ∷ u32_item x0 ∷ u32_item x1 ∷ []) (u32_item 16 ++ i.left) i1.left
+          (after _ _ _ (p0 ∙ after _ _ _ (p1))),
+    )))
 
 size_found : (i : Rest) (v : Entry) (j : Rest) → IsBytes i.left → size_in i ≡ Ok (v, j) →
     EntryFits v × (u32_item 5 ++ i.left ≡ entry_item v ++ j.left)
@@ -213,9 +220,11 @@ unfolding size_in
 size_found i v j b e =
     took i _ (v, j) u32_law b e (λ x0 i0 f0 p0 b0 e0.
     took i0 _ (v, j) u64_law b0 e0 (λ x1 i1 f1 p1 b1 e1.
-    subst (λ (p : Entry × Rest). EntryFits p.0 × (u32_item 5 ++ i.left ≡ entry_item p.0 ++ p.1.left)) (ok_is _ (v, j) e1)
-    ((f0, f1), gathered (u32_item 5 ∷ u32_item x0 ∷ u64_item x1 ∷ []) (u32_item 5 ++ i.left) i1.left
-        (after _ _ _ (p0 ∙ after _ _ _ (p1))))))
+    subst (λ (p : Entry × Rest). EntryFits p.0 × (u32_item 5 ++ i.left ≡ entry_item p.0 ++ p.1.left)) (ok_is _ (v, j) e1) (
+      (f0, f1),
+      gathered (u32_item 5 ∷ u32_item x0 ∷ u64_item x1 ∷ []) (u32_item 5 ++ i.left) i1.left
+          (after _ _ _ (p0 ∙ after _ _ _ (p1))),
+    )))
 
 fenced_found : (i : Rest) (v : Entry) (j : Rest) → IsBytes i.left → fenced_in i ≡ Ok (v, j) →
     EntryFits v × (u32_item 7 ++ i.left ≡ entry_item v ++ j.left)
@@ -224,10 +233,11 @@ fenced_found i v j b e =
     took i _ (v, j) u32_law b e (λ x0 i0 f0 p0 b0 e0.
     took i0 _ (v, j) u32_law b0 e0 (λ x1 i1 f1 p1 b1 e1.
     took i1 _ (v, j) u32_law b1 e1 (λ x2 i2 f2 p2 b2 e2.
-    subst (λ (p : Entry × Rest). EntryFits p.0 × (u32_item 7 ++ i.left ≡ entry_item p.0 ++ p.1.left)) (ok_is _ (v, j) e2)
-    ((f0, (f1, f2)),
-        gathered (u32_item 7 ∷ u32_item x0 ∷ u32_item x1 ∷ u32_item x2 ∷ []) (u32_item 7 ++ i.left) i2.left
-            (after _ _ _ (p0 ∙ after _ _ _ (p1 ∙ after _ _ _ (p2))))))))
+    subst (λ (p : Entry × Rest). EntryFits p.0 × (u32_item 7 ++ i.left ≡ entry_item p.0 ++ p.1.left)) (ok_is _ (v, j) e2) (
+      (f0, (f1, f2)),
+      gathered (u32_item 7 ∷ u32_item x0 ∷ u32_item x1 ∷ u32_item x2 ∷ []) (u32_item 7 ++ i.left) i2.left
+          (after _ _ _ (p0 ∙ after _ _ _ (p1 ∙ after _ _ _ (p2)))),
+    ))))
 
 missing_found : (i : Rest) (v : Entry) (j : Rest) → IsBytes i.left → missing_in i ≡ Ok (v, j) →
     EntryFits v × (u32_item 9 ++ i.left ≡ entry_item v ++ j.left)
@@ -235,9 +245,11 @@ unfolding missing_in
 missing_found i v j b e =
     took i _ (v, j) u32_law b e (λ x0 i0 f0 p0 b0 e0.
     took i0 _ (v, j) u32_law b0 e0 (λ x1 i1 f1 p1 b1 e1.
-    subst (λ (p : Entry × Rest). EntryFits p.0 × (u32_item 9 ++ i.left ≡ entry_item p.0 ++ p.1.left)) (ok_is _ (v, j) e1)
-    ((f0, f1), gathered (u32_item 9 ∷ u32_item x0 ∷ u32_item x1 ∷ []) (u32_item 9 ++ i.left) i1.left
-        (after _ _ _ (p0 ∙ after _ _ _ (p1))))))
+    subst (λ (p : Entry × Rest). EntryFits p.0 × (u32_item 9 ++ i.left ≡ entry_item p.0 ++ p.1.left)) (ok_is _ (v, j) e1) (
+      (f0, f1),
+      gathered (u32_item 9 ∷ u32_item x0 ∷ u32_item x1 ∷ []) (u32_item 9 ++ i.left) i1.left
+          (after _ _ _ (p0 ∙ after _ _ _ (p1))),
+    )))
 
 present_found : (i : Rest) (v : Entry) (j : Rest) → IsBytes i.left → present_in i ≡ Ok (v, j) →
     EntryFits v × (u32_item 10 ++ i.left ≡ entry_item v ++ j.left)
@@ -247,10 +259,11 @@ present_found i v j b e =
     took i0 _ (v, j) u32_law b0 e0 (λ x1 i1 f1 p1 b1 e1.
     took i1 _ (v, j) u32_law b1 e1 (λ x2 i2 f2 p2 b2 e2.
     took i2 _ (v, j) u64_law b2 e2 (λ x3 i3 f3 p3 b3 e3.
-    subst (λ (p : Entry × Rest). EntryFits p.0 × (u32_item 10 ++ i.left ≡ entry_item p.0 ++ p.1.left)) (ok_is _ (v, j) e3)
-    ((f0, (f1, f2, f3)),
-        gathered (u32_item 10 ∷ u32_item x0 ∷ u32_item x1 ∷ u32_item x2 ∷ u64_item x3 ∷ []) (u32_item 10 ++ i.left) i3.left
-            (after _ _ _ (p0 ∙ after _ _ _ (p1 ∙ after _ _ _ (p2 ∙ after _ _ _ (p3))))))))))
+    subst (λ (p : Entry × Rest). EntryFits p.0 × (u32_item 10 ++ i.left ≡ entry_item p.0 ++ p.1.left)) (ok_is _ (v, j) e3) (
+      (f0, (f1, f2, f3)),
+      gathered (u32_item 10 ∷ u32_item x0 ∷ u32_item x1 ∷ u32_item x2 ∷ u64_item x3 ∷ []) (u32_item 10 ++ i.left) i3.left
+          (after _ _ _ (p0 ∙ after _ _ _ (p1 ∙ after _ _ _ (p2 ∙ after _ _ _ (p3))))),
+    )))))
 
 format_found : (i : Rest) (v : Entry) (j : Rest) → IsBytes i.left → format_in i ≡ Ok (v, j) →
     EntryFits v × (u32_item 15 ++ i.left ≡ entry_item v ++ j.left)
@@ -258,9 +271,11 @@ unfolding format_in
 format_found i v j b e =
     took i _ (v, j) u32_law b e (λ x0 i0 f0 p0 b0 e0.
     took i0 _ (v, j) u32_law b0 e0 (λ x1 i1 f1 p1 b1 e1.
-    subst (λ (p : Entry × Rest). EntryFits p.0 × (u32_item 15 ++ i.left ≡ entry_item p.0 ++ p.1.left)) (ok_is _ (v, j) e1)
-    ((f0, f1), gathered (u32_item 15 ∷ u32_item x0 ∷ u32_item x1 ∷ []) (u32_item 15 ++ i.left) i1.left
-        (after _ _ _ (p0 ∙ after _ _ _ (p1))))))
+    subst (λ (p : Entry × Rest). EntryFits p.0 × (u32_item 15 ++ i.left ≡ entry_item p.0 ++ p.1.left)) (ok_is _ (v, j) e1) (
+      (f0, f1),
+      gathered (u32_item 15 ∷ u32_item x0 ∷ u32_item x1 ∷ []) (u32_item 15 ++ i.left) i1.left
+          (after _ _ _ (p0 ∙ after _ _ _ (p1))),
+    )))
 
 started_found : (i : Rest) (v : Entry) (j : Rest) → IsBytes i.left → only_in FenceStarted i ≡ Ok (v, j) →
     EntryFits v × (u32_item 6 ++ i.left ≡ entry_item v ++ j.left)
@@ -299,15 +314,15 @@ wrapped_found : {V : Type 0} (part : Rest → Result (V × Rest) LayoutErr) (spe
     (make : V → Entry) (kind : ℕ) → IsCodec part spelling Fits →
     ((w : V) → Fits w → EntryFits (make w)) → ((w : V) → entry_item (make w) ≡ u32_item kind ++ spelling w) →
     (i : Rest) (v : Entry) (j : Rest) → IsBytes i.left → ◌>>=◌ {B = Entry × Rest} (part i) (λ w. Ok (make w.0, w.1)) ≡ Ok (v, j) →
-        EntryFits v × (u32_item kind ++ i.left ≡ entry_item v ++ j.left)
+    EntryFits v × (u32_item kind ++ i.left ≡ entry_item v ++ j.left)
 wrapped_found {V = V} part spelling Fits make kind codec fits spelled i v j bytes e =
     let a = step part spelling Fits i (λ (w : V × Rest). Ok (make w.0, w.1)) (v, j) codec bytes e in
     let both = ok_is _ (v, j) a.2 in
     let whole : u32_item kind ++ i.left ≡ entry_item (make a.0.0) ++ a.0.1.left =
     after (u32_item kind) _ _ a.1.front ∙ sym (append_assoc (u32_item kind) (spelling a.0.0) a.0.1.left)
-        ∙ ap (λ (t : List ℕ). t ++ a.0.1.left) (sym (spelled a.0.0)) in
+    ∙ ap (λ (t : List ℕ). t ++ a.0.1.left) (sym (spelled a.0.0)) in
     subst (λ (p : Entry × Rest). EntryFits p.0 × (u32_item kind ++ i.left ≡ entry_item p.0 ++ p.1.left)) both
-        (fits a.0.0 a.1.fits, whole)
+    (fits a.0.0 a.1.fits, whole)
 
 -- ---- by its kind
 
@@ -343,19 +358,19 @@ behind_found : (at kind : ℕ) (i : Rest) (v : Entry) (j : Rest) → IsBytes i.l
 unfolding behind_kind
 behind_found at kind i v j bytes e =
     one_of kind 1 _ _ i v j
-        (wrapped_found drive_in drive_item DriveFits entry.Drive 1 drive_codec (λ w f. f) (λ w. refl) i v j bytes)
+    (wrapped_found drive_in drive_item DriveFits entry.Drive 1 drive_codec (λ w f. f) (λ w. refl) i v j bytes)
     (λ r1. one_of kind 2 _ _ i v j
-        (wrapped_found file_in file_item FileFits entry.File 2 file_codec (λ w f. f) (λ w. refl) i v j bytes)
+    (wrapped_found file_in file_item FileFits entry.File 2 file_codec (λ w f. f) (λ w. refl) i v j bytes)
     (λ r2. one_of kind 3 _ _ i v j
-        (wrapped_found grant_in grant_item GrantFits entry.Grant 3 grant_codec (λ w f. f) (λ w. refl) i v j bytes)
+    (wrapped_found grant_in grant_item GrantFits entry.Grant 3 grant_codec (λ w f. f) (λ w. refl) i v j bytes)
     (λ r3. one_of kind 4 _ _ i v j
-        (wrapped_found u32_part u32_item (λ n. n < 2 ^ 32) entry.Return 4 u32_law (λ w f. f) (λ w. refl) i v j bytes)
+    (wrapped_found u32_part u32_item (λ n. n < 2 ^ 32) entry.Return 4 u32_law (λ w f. f) (λ w. refl) i v j bytes)
     (λ r4. one_of kind 11 _ _ i v j
-        (wrapped_found counters_in counters_item CountersFit entry.Counters 11 counters_codec (λ w f. f) (λ w. refl) i v j bytes)
+    (wrapped_found counters_in counters_item CountersFit entry.Counters 11 counters_codec (λ w f. f) (λ w. refl) i v j bytes)
     (λ r11. one_of kind 12 _ _ i v j
-        (wrapped_found slot_in slot_item SlotFits entry.Slot 12 slot_codec (λ w f. f) (λ w. refl) i v j bytes)
+    (wrapped_found slot_in slot_item SlotFits entry.Slot 12 slot_codec (λ w f. f) (λ w. refl) i v j bytes)
     (λ r12. one_of kind 13 _ _ i v j
-        (wrapped_found u32_part u32_item (λ n. n < 2 ^ 32) entry.Format 13 u32_law (λ w f. f) (λ w. refl) i v j bytes)
+    (wrapped_found u32_part u32_item (λ n. n < 2 ^ 32) entry.Format 13 u32_law (λ w f. f) (λ w. refl) i v j bytes)
     (λ r13. one_of kind 16 _ _ i v j (zone_found i v j bytes)
     (λ r16. change_found at kind i v j bytes r16) r13) r12) r11) r4) r3) r2) r1) e
 
@@ -403,40 +418,40 @@ entry_again (entry.Format f) more at fits =
 entry_again (entry.Zone d z) more at fits =
     in_parts entry_in (u32_item 16 ∷ u32_item d ∷ u32_item z ∷ []) at (entry.Zone d z) more
     (kind_again 16 _ at _ more (omega arith)
-        (λ _. first _ _ _ _ _ u32_law d fits.0 (λ _. last _ _ _ _ u32_law z fits.1 (λ _. refl))))
+    (λ _. first _ _ _ _ _ u32_law d fits.0 (λ _. last _ _ _ _ u32_law z fits.1 (λ _. refl))))
 entry_again (entry.Change f (Size n)) more at fits =
     in_parts entry_in (u32_item 5 ∷ u32_item f ∷ u64_item n ∷ []) at (entry.Change f (Size n)) more
     (kind_again 5 _ at _ more (omega arith)
-        (λ _. first _ _ _ _ _ u32_law f fits.0 (λ _. last _ _ _ _ u64_law n fits.1 (λ _. refl))))
+    (λ _. first _ _ _ _ _ u32_law f fits.0 (λ _. last _ _ _ _ u64_law n fits.1 (λ _. refl))))
 entry_again (entry.Change f FenceStarted) more at fits =
     in_parts entry_in (u32_item 6 ∷ u32_item f ∷ []) at (entry.Change f FenceStarted) more
     (kind_again 6 _ at _ more (omega arith) (λ _. last _ _ _ _ u32_law f fits.0 (λ _. refl)))
 entry_again (entry.Change f (Fenced t m)) more at fits =
     in_parts entry_in (u32_item 7 ∷ u32_item f ∷ u32_item t ∷ u32_item m ∷ []) at (entry.Change f (Fenced t m)) more
     (kind_again 7 _ at _ more (omega arith)
-        (λ _. first _ _ _ _ _ u32_law f fits.0
-        (λ _. first _ _ _ _ _ u32_law t fits.1.0 (λ _. last _ _ _ _ u32_law m fits.1.1 (λ _. refl)))))
+    (λ _. first _ _ _ _ _ u32_law f fits.0
+    (λ _. first _ _ _ _ _ u32_law t fits.1.0 (λ _. last _ _ _ _ u32_law m fits.1.1 (λ _. refl)))))
 entry_again (entry.Change f Repaired) more at fits =
     in_parts entry_in (u32_item 8 ∷ u32_item f ∷ []) at (entry.Change f Repaired) more
     (kind_again 8 _ at _ more (omega arith) (λ _. last _ _ _ _ u32_law f fits.0 (λ _. refl)))
 entry_again (entry.Change f (Missing k)) more at fits =
     in_parts entry_in (u32_item 9 ∷ u32_item f ∷ u32_item k ∷ []) at (entry.Change f (Missing k)) more
     (kind_again 9 _ at _ more (omega arith)
-        (λ _. first _ _ _ _ _ u32_law f fits.0 (λ _. last _ _ _ _ u32_law k fits.1 (λ _. refl))))
+    (λ _. first _ _ _ _ _ u32_law f fits.0 (λ _. last _ _ _ _ u32_law k fits.1 (λ _. refl))))
 entry_again (entry.Change f (Present k d o)) more at fits =
     in_parts entry_in (u32_item 10 ∷ u32_item f ∷ u32_item k ∷ u32_item d ∷ u64_item o ∷ []) at
-        (entry.Change f (Present k d o)) more
+    (entry.Change f (Present k d o)) more
     (kind_again 10 _ at _ more (omega arith)
-        (λ _. first _ _ _ _ _ u32_law f fits.0
-        (λ _. first _ _ _ _ _ u32_law k fits.1.0
-        (λ _. first _ _ _ _ _ u32_law d fits.1.1 (λ _. last _ _ _ _ u64_law o fits.1.2 (λ _. refl))))))
+    (λ _. first _ _ _ _ _ u32_law f fits.0
+    (λ _. first _ _ _ _ _ u32_law k fits.1.0
+    (λ _. first _ _ _ _ _ u32_law d fits.1.1 (λ _. last _ _ _ _ u64_law o fits.1.2 (λ _. refl))))))
 entry_again (entry.Change f Ready) more at fits =
     in_parts entry_in (u32_item 14 ∷ u32_item f ∷ []) at (entry.Change f Ready) more
     (kind_again 14 _ at _ more (omega arith) (λ _. last _ _ _ _ u32_law f fits.0 (λ _. refl)))
 entry_again (entry.Change f (Format m)) more at fits =
     in_parts entry_in (u32_item 15 ∷ u32_item f ∷ u32_item m ∷ []) at (entry.Change f (Format m)) more
     (kind_again 15 _ at _ more (omega arith)
-        (λ _. first _ _ _ _ _ u32_law f fits.0 (λ _. last _ _ _ _ u32_law m fits.1 (λ _. refl))))
+    (λ _. first _ _ _ _ _ u32_law f fits.0 (λ _. last _ _ _ _ u32_law m fits.1 (λ _. refl))))
 entry_again (entry.Change f Zoned) more at fits =
     in_parts entry_in (u32_item 17 ∷ u32_item f ∷ []) at (entry.Change f Zoned) more
     (kind_again 17 _ at _ more (omega arith) (λ _. last _ _ _ _ u32_law f fits.0 (λ _. refl)))

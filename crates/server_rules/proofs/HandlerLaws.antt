@@ -59,7 +59,7 @@ pub leaves_fence : (kind : JobKind) (format : ℕ) (g : Going) → Leaves g.file
 unfolding fence_begins
 leaves_fence kind format g =
     left_by (ending g.file.kept format) (fences kind (keeping g (ending g.file.kept format)))
-        (ran_fences kind (keeping g (ending g.file.kept format))) refl
+    (ran_fences kind (keeping g (ending g.file.kept format))) refl
 
 pub none_in : (g : Going) (drive : ℕ) (j : Option Job) → j ≡ None → g.file.job ≡ None → (declared_in g drive j).file.job ≡ None
 none_in g drive None e n = n
@@ -130,8 +130,11 @@ ran_hears g j a r Older w h = record {
   size = refl;
   high = refl;
   grants = refl;
-  rests = (renewed a (again_in_2 a g.effects.nonce) w.0, map (renewed a (again_in_2 a g.effects.nonce)) w.1,
-      some_renewed a _ w.0 w.1 j.awaited w.2);
+  rests = (
+    renewed a (again_in_2 a g.effects.nonce) w.0,
+    map (renewed a (again_in_2 a g.effects.nonce)) w.1,
+    some_renewed a _ w.0 w.1 j.awaited w.2,
+  );
 }
 ran_hears g j a r Full w h = ran_full_up g j a j.work h
 ran_hears g j a r Done w h = ran_waits_or_on g j j.work _ _
@@ -225,7 +228,7 @@ leaves_first go next format g s = elim (cases_Bool (go.file.kept.tag == GREATEST
       (leaves_fence Revoking format go)
       (leaves_after (fence_begins Revoking format go) next g (fence_begins Revoking format go).file.job refl
       (nobody_left (fence_begins Revoking format go).file.kept.grants g.client (fence_leaves_none Revoking format go))
-          (leaves_fence Revoking format go).safe))
+      (leaves_fence Revoking format go).safe))
 ]
 
 pub leaves_grants : (go : Going) (next format now : ℕ) (g : Grant) → go.file.job ≡ None → IsSafe go.file →
@@ -287,13 +290,17 @@ pub leaves_loss : (go : Going) (ks : List ℕ) → IsSafe go.file → Leaves go.
 unfolding takes_loss
 leaves_loss go ks s =
     leaves_reports
-        (keeping go (record go.file.kept { components = lose_from ks go.file.kept.components 0 })) ks go.file.kept.components 0 s
+    (keeping go (record go.file.kept { components = lose_from ks go.file.kept.components 0 })) ks go.file.kept.components 0 s
 
 pub leaves_ended : (go : Going) (client : ℕ) → IsSafe go.file → Leaves go.file.kept (ends_grant go client)
 leaves_ended go client s = record {
   number = refl;
-  safe = record { rests = s.rests; apart = apart_without go.file.kept.grants client s.apart; alone =
-      alone_without go.file.job go.file.kept.grants client s.alone };
+  safe = record {
+    rests = s.rests;
+    apart = apart_without go.file.kept.grants client s.apart;
+    alone =
+        alone_without go.file.job go.file.kept.grants client s.alone;
+  };
 }
 
 pub leaves_return : (go : Going) (format client : ℕ) (r : Returned) → IsSafe go.file →
@@ -302,7 +309,7 @@ leaves_return go format client NoGrant s = leaves_here go s
 leaves_return go format client Clean s = leaves_ended go client s
 leaves_return go format client (Taken ks) s =
     then_leaves go.file.kept (takes_loss go ks) (ends_grant (takes_loss go ks) client) (leaves_loss go ks s)
-        (leaves_ended (takes_loss go ks) client (leaves_loss go ks s).safe)
+    (leaves_ended (takes_loss go ks) client (leaves_loss go ks s).safe)
 leaves_return go format client TooMany s = leaves_here (noting go Spent) s
 leaves_return go format client Fencing s = leaves_fence Revoking format go
 

@@ -32,10 +32,21 @@ events =
     placing (0 ∷ []) (on (Makes 0 striping 1 false) [] (creates 0 65536 1 1 1 (label striping 0 0) ∷ [])) ∷
     on (performed 0 Create 65536 1 0 []) (note 0 Ready ∷ []) [] ∷
     on (asks_at 0 0 1 0 (Get 2 0 1)) []
-        (answers 0 1 0 0 0
-        (gives_layout
-        (record { number = 1; client = 0; writes = true; expiry = 90; tag = 1; format = 1; offset = 0; len = 4; map =
-        striping; components = Usable 0 65536 0 4 ∷ [] })) ∷ []) ∷
+    (answers 0 1 0 0 0
+    (gives_layout
+    (record {
+      number = 1;
+      client = 0;
+      writes = true;
+      expiry = 90;
+      tag = 1;
+      format = 1;
+      offset = 0;
+      len = 4;
+      map =
+          striping;
+      components = Usable 0 65536 0 4 ∷ [];
+    })) ∷ []) ∷
     on (asks_at 0 0 2 0 (Commit (Some 0))) [] (answers 0 2 0 0 1 committed ∷ []) ∷
     on (Obeys ToDeclare 0) [] [] ∷
     on (Obeys ToRevoke 0) (note 0 (Fenced 2) ∷ note 0 (Repaired 1 1) ∷ []) [] ∷

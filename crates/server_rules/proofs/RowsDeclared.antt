@@ -37,22 +37,33 @@ abbrev first : Server
 first = new_server
     ((record { number = 0; key = []; capacity = 20000; online = true; zone = None })
     ∷ (record { number = 1; key = []; capacity = 20000; online = true; zone = None })
-        ∷ (record { number = 2; key = []; capacity = 20000; online = true; zone = None }) ∷ [])
+    ∷ (record { number = 2; key = []; capacity = 20000; online = true; zone = None }) ∷ [])
 
 abbrev events : List Event
 events =
     placing (0 ∷ 1 ∷ 2 ∷ [])
-        (on (Makes 0 striping 1 false) []
-        (creates 0 65536 1 1 1 (label striping 0 0) ∷ creates 1 65537 1 1 2 (label striping 0 1) ∷ creates 2 65538 1 1 3
-        (label striping 0 2) ∷ [])) ∷
+    (on (Makes 0 striping 1 false) []
+    (creates 0 65536 1 1 1 (label striping 0 0) ∷ creates 1 65537 1 1 2 (label striping 0 1) ∷ creates 2 65538 1 1 3
+    (label striping 0 2) ∷ [])) ∷
     on (performed 0 Create 65536 1 0 []) [] [] ∷
     on (performed 1 Create 65537 2 0 []) [] [] ∷
     on (performed 2 Create 65538 3 0 []) (note 0 Ready ∷ []) [] ∷
     on (asks_at 0 0 1 0 (Get 2 0 8)) []
-        (answers 0 1 0 0 0
-        (gives_layout
-        (record { number = 1; client = 0; writes = true; expiry = 90; tag = 1; format = 1; offset = 0; len = 8; map =
-        striping; components = Usable 0 65536 0 4 ∷ Usable 1 65537 0 4 ∷ Usable 2 65538 0 4 ∷ [] })) ∷ []) ∷
+    (answers 0 1 0 0 0
+    (gives_layout
+    (record {
+      number = 1;
+      client = 0;
+      writes = true;
+      expiry = 90;
+      tag = 1;
+      format = 1;
+      offset = 0;
+      len = 8;
+      map =
+          striping;
+      components = Usable 0 65536 0 4 ∷ Usable 1 65537 0 4 ∷ Usable 2 65538 0 4 ∷ [];
+    })) ∷ []) ∷
     on (Obeys ToRevoke 0) [] (raises_tag 0 65536 1 1 4 ∷ raises_tag 1 65537 1 1 5 ∷ raises_tag 2 65538 1 1 6 ∷ []) ∷
     on (performed 0 SetTag 65536 4 2 []) [] [] ∷
     on (performed 1 SetTag 65537 5 2 []) [] [] ∷

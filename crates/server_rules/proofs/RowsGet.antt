@@ -28,24 +28,46 @@ first = new_server ((record { number = 0; key = []; capacity = 20000; online = t
 abbrev events : List Event
 events =
     placing (0 ∷ [])
-        (on (Makes 0 striping 1 false) []
-        (creates 0 65536 1 1 1
-        (0 ∷ 0 ∷ 0 ∷ 0 ∷ 0 ∷ 0 ∷ 0 ∷ 0 ∷ 0 ∷ 0 ∷ 0 ∷ 1 ∷ 0 ∷ 0 ∷ 0 ∷ 0 ∷ 0 ∷ 0 ∷ 0 ∷ 4 ∷ 0 ∷ 0 ∷ 0 ∷ 0 ∷ 0 ∷ 0 ∷ 0 ∷ 0 ∷ 0 ∷ 0 ∷ 0
-        ∷ 0 ∷ 0 ∷ 0 ∷ 0 ∷ 1 ∷ []) ∷ [])) ∷
+    (on (Makes 0 striping 1 false) []
+    (creates 0 65536 1 1 1
+    (0 ∷ 0 ∷ 0 ∷ 0 ∷ 0 ∷ 0 ∷ 0 ∷ 0 ∷ 0 ∷ 0 ∷ 0 ∷ 1 ∷ 0 ∷ 0 ∷ 0 ∷ 0 ∷ 0 ∷ 0 ∷ 0 ∷ 4 ∷ 0 ∷ 0 ∷ 0 ∷ 0 ∷ 0 ∷ 0 ∷ 0 ∷ 0 ∷ 0 ∷ 0 ∷ 0
+    ∷ 0 ∷ 0 ∷ 0 ∷ 0 ∷ 1 ∷ []) ∷ [])) ∷
     on (performed 0 Create 65536 1 0 []) (note 0 Ready ∷ []) [] ∷
     on (asks_at 0 0 1 0 (Get 2 0 1)) []
-        (answers 0 1 0 0 0
-        (gives_layout
-        (record { number = 1; client = 0; writes = true; expiry = 90; tag = 1; format = 1; offset = 0; len = 4; map =
-        striping; components = Usable 0 65536 0 4 ∷ [] })) ∷ []) ∷
+    (answers 0 1 0 0 0
+    (gives_layout
+    (record {
+      number = 1;
+      client = 0;
+      writes = true;
+      expiry = 90;
+      tag = 1;
+      format = 1;
+      offset = 0;
+      len = 4;
+      map =
+          striping;
+      components = Usable 0 65536 0 4 ∷ [];
+    })) ∷ []) ∷
     on (asks_at 0 0 2 0 (Commit (Some 0))) [] (answers 0 2 0 0 1 committed ∷ []) ∷
     on (asks_at 0 1 1 0 (Get 1 0 1)) [] (recalls 0 1 0 1 ∷ answers 1 1 0 0 1 try_later ∷ []) ∷
     on (asks_at 0 0 3 0 (Return [])) [] (answers 0 3 0 0 1 returned ∷ []) ∷
     on (asks_at 0 1 2 0 (Get 1 0 1)) []
-        (answers 1 2 0 0 1
-        (gives_layout
-        (record { number = 2; client = 1; writes = false; expiry = 90; tag = 1; format = 1; offset = 0; len = 4; map =
-        striping; components = Usable 0 65536 0 4 ∷ [] })) ∷ []) ∷
+    (answers 1 2 0 0 1
+    (gives_layout
+    (record {
+      number = 2;
+      client = 1;
+      writes = false;
+      expiry = 90;
+      tag = 1;
+      format = 1;
+      offset = 0;
+      len = 4;
+      map =
+          striping;
+      components = Usable 0 65536 0 4 ∷ [];
+    })) ∷ []) ∷
     on (asks_at 0 1 3 9 (Get 1 0 1)) [] (answers 1 3 9 0 0 (no_layout NFS4ERR_NOENT) ∷ []) ∷
     []
 

@@ -27,30 +27,52 @@ abbrev first : Server
 first = new_server
     ((record { number = 0; key = []; capacity = 20000; online = true; zone = None })
     ∷ (record { number = 1; key = []; capacity = 20000; online = true; zone = None })
-        ∷ (record { number = 2; key = []; capacity = 20000; online = true; zone = None }) ∷ [])
+    ∷ (record { number = 2; key = []; capacity = 20000; online = true; zone = None }) ∷ [])
 
 abbrev events : List Event
 events =
     placing (0 ∷ 1 ∷ 2 ∷ [])
-        (on (Makes 0 striping 1 false) []
-        (creates 0 65536 1 1 1 (label striping 0 0) ∷ creates 1 65537 1 1 2 (label striping 0 1) ∷ creates 2 65538 1 1 3
-        (label striping 0 2) ∷ [])) ∷
+    (on (Makes 0 striping 1 false) []
+    (creates 0 65536 1 1 1 (label striping 0 0) ∷ creates 1 65537 1 1 2 (label striping 0 1) ∷ creates 2 65538 1 1 3
+    (label striping 0 2) ∷ [])) ∷
     on (performed 0 Create 65536 1 0 []) [] [] ∷
     on (performed 1 Create 65537 2 0 []) [] [] ∷
     on (performed 2 Create 65538 3 0 []) (note 0 Ready ∷ []) [] ∷
     on (asks_at 0 0 1 0 (Get 2 0 8)) []
-        (answers 0 1 0 0 0
-        (gives_layout
-        (record { number = 1; client = 0; writes = true; expiry = 90; tag = 1; format = 1; offset = 0; len = 8; map =
-        striping; components = Usable 0 65536 0 4 ∷ Usable 1 65537 0 4 ∷ Usable 2 65538 0 4 ∷ [] })) ∷ []) ∷
+    (answers 0 1 0 0 0
+    (gives_layout
+    (record {
+      number = 1;
+      client = 0;
+      writes = true;
+      expiry = 90;
+      tag = 1;
+      format = 1;
+      offset = 0;
+      len = 8;
+      map =
+          striping;
+      components = Usable 0 65536 0 4 ∷ Usable 1 65537 0 4 ∷ Usable 2 65538 0 4 ∷ [];
+    })) ∷ []) ∷
     on (asks_at 0 0 2 0 (Commit (Some 7))) [] (answers 0 2 0 0 8 committed ∷ []) ∷
     on (asks_at 0 0 3 0 (Return (error_at 2 65538 65538 Unreachable ∷ []))) (note 0 (Reported 2) ∷ [])
-        (answers 0 3 0 1 8 returned ∷ []) ∷
+    (answers 0 3 0 1 8 returned ∷ []) ∷
     on (asks_at 0 1 1 0 (Get 1 0 8)) []
-        (answers 1 1 0 0 8
-        (gives_layout
-        (record { number = 2; client = 1; writes = false; expiry = 90; tag = 1; format = 1; offset = 0; len = 8; map =
-        striping; components = Usable 0 65536 0 4 ∷ Usable 1 65537 0 4 ∷ Missing 2 65538 ∷ [] })) ∷ []) ∷
+    (answers 1 1 0 0 8
+    (gives_layout
+    (record {
+      number = 2;
+      client = 1;
+      writes = false;
+      expiry = 90;
+      tag = 1;
+      format = 1;
+      offset = 0;
+      len = 8;
+      map =
+          striping;
+      components = Usable 0 65536 0 4 ∷ Usable 1 65537 0 4 ∷ Missing 2 65538 ∷ [];
+    })) ∷ []) ∷
     []
 
 pub steps : done first events ≡ events

@@ -30,20 +30,42 @@ events =
     placing (0 ∷ []) (on (Makes 0 striping 1 false) [] (creates 0 65536 1 1 1 (label striping 0 0) ∷ [])) ∷
     on (performed 0 Create 65536 1 0 []) (note 0 Ready ∷ []) [] ∷
     on (asks_at 0 0 1 0 (Get 2 0 1)) []
-        (answers 0 1 0 0 0
-        (gives_layout
-        (record { number = 1; client = 0; writes = true; expiry = 90; tag = 1; format = 1; offset = 0; len = 4; map =
-        striping; components = Usable 0 65536 0 4 ∷ [] })) ∷ []) ∷
+    (answers 0 1 0 0 0
+    (gives_layout
+    (record {
+      number = 1;
+      client = 0;
+      writes = true;
+      expiry = 90;
+      tag = 1;
+      format = 1;
+      offset = 0;
+      len = 4;
+      map =
+          striping;
+      components = Usable 0 65536 0 4 ∷ [];
+    })) ∷ []) ∷
     on (asks_at 0 0 2 0 (Commit (Some 0))) [] (answers 0 2 0 0 1 committed ∷ []) ∷
     on (asks_at 0 0 3 0 (Return [])) [] (answers 0 3 0 0 1 returned ∷ []) ∷
     on (Obeys ToRevoke 0) [] (raises_tag 0 65536 1 1 2 ∷ []) ∷
     on (replied 0 SetTag OLD_FORMAT 65536 2 0) [] (raises_tag 0 65536 1 2 3 ∷ []) ∷
     on (performed 0 SetTag 65536 3 2 []) (note 0 (Fenced 2) ∷ note 0 (Repaired 0 0) ∷ []) [] ∷
     on (asks_at 0 0 4 0 (Get 1 0 1)) []
-        (answers 0 4 0 0 1
-        (gives_layout
-        (record { number = 2; client = 0; writes = false; expiry = 90; tag = 2; format = 2; offset = 0; len = 4; map =
-        striping; components = Usable 0 65536 0 4 ∷ [] })) ∷ []) ∷
+    (answers 0 4 0 0 1
+    (gives_layout
+    (record {
+      number = 2;
+      client = 0;
+      writes = false;
+      expiry = 90;
+      tag = 2;
+      format = 2;
+      offset = 0;
+      len = 4;
+      map =
+          striping;
+      components = Usable 0 65536 0 4 ∷ [];
+    })) ∷ []) ∷
     []
 
 pub steps : done first events ≡ events

@@ -21,21 +21,32 @@ abbrev events : List Event
 events =
     placing (0 ∷ []) (on (Makes 0 striping 1 false) [] (creates 0 65536 1 1 1 (label striping 0 0) ∷ [])) ∷
     on (Hears 0 FromServer (Orders (record { order = ToRevoke; target = 0 }))) (note 0 (Busy 0) ∷ [])
-        (answers_order ToRevoke IsBusy ∷ []) ∷
+    (answers_order ToRevoke IsBusy ∷ []) ∷
     on (replied 0 Create EXISTS 65536 1 0) (note 0 Ready ∷ []) [] ∷
     on (asks_at 0 5 1 0 (Get 2 0 1)) []
-        (answers 5 1 0 0 0
-        (gives_layout
-        (record { number = 1; client = 5; writes = true; expiry = 90; tag = 1; format = 1; offset = 0; len = 4; map =
-        striping; components = Usable 0 65536 0 4 ∷ [] })) ∷ []) ∷
+    (answers 5 1 0 0 0
+    (gives_layout
+    (record {
+      number = 1;
+      client = 5;
+      writes = true;
+      expiry = 90;
+      tag = 1;
+      format = 1;
+      offset = 0;
+      len = 4;
+      map =
+          striping;
+      components = Usable 0 65536 0 4 ∷ [];
+    })) ∷ []) ∷
     on (Hears 0 FromServer (Orders (record { order = ToRecall; target = 0 }))) []
-        (recalls 5 1 0 1 ∷ answers_order ToRecall HasStarted ∷ []) ∷
+    (recalls 5 1 0 1 ∷ answers_order ToRecall HasStarted ∷ []) ∷
     on (Hears 0 FromServer (Orders (record { order = ToAudit; target = 0 }))) []
-        (raises_tag 0 65536 1 1 2 ∷ answers_order ToAudit HasStarted ∷ []) ∷
+    (raises_tag 0 65536 1 1 2 ∷ answers_order ToAudit HasStarted ∷ []) ∷
     on (Hears 0 FromServer (Orders (record { order = ToRebuild; target = 7 }))) [] (answers_order ToRebuild IsUnknown ∷ []) ∷
     on (Hears 0 FromServer (Orders (record { order = ToDeclare; target = 1 }))) [] (answers_order ToDeclare IsUnknown ∷ []) ∷
     on (Hears 0 FromServer (Orders (record { order = ToDeclare; target = 0 })))
-        (note 0 (Fenced 2) ∷ note 0 (Repaired 1 1) ∷ note 0 (Audit 1 1 0 0) ∷ []) (answers_order ToDeclare HasStarted ∷ []) ∷
+    (note 0 (Fenced 2) ∷ note 0 (Repaired 1 1) ∷ note 0 (Audit 1 1 0 0) ∷ []) (answers_order ToDeclare HasStarted ∷ []) ∷
     on (Hears 0 (FromClient 5) (Orders (record { order = ToRevoke; target = 0 }))) [] [] ∷
     []
 

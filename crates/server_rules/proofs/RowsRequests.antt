@@ -27,14 +27,14 @@ abbrev first : Server
 first = new_server
     ((record { number = 0; key = []; capacity = 1000; online = true; zone = None })
     ∷ (record { number = 1; key = []; capacity = 1000; online = true; zone = None })
-        ∷ (record { number = 2; key = []; capacity = 1000; online = true; zone = None }) ∷ [])
+    ∷ (record { number = 2; key = []; capacity = 1000; online = true; zone = None }) ∷ [])
 
 abbrev events : List Event
 events =
     placing (0 ∷ 1 ∷ 2 ∷ [])
-        (on (Makes 0 striping 4294967294 false) []
-        (creates 0 65536 4294967294 1 1 (label striping 0 0) ∷ creates 1 65537 4294967294 1 2
-        (label striping 0 1) ∷ creates 2 65538 4294967294 1 3 (label striping 0 2) ∷ [])) ∷
+    (on (Makes 0 striping 4294967294 false) []
+    (creates 0 65536 4294967294 1 1 (label striping 0 0) ∷ creates 1 65537 4294967294 1 2
+    (label striping 0 1) ∷ creates 2 65538 4294967294 1 3 (label striping 0 2) ∷ [])) ∷
     on (performed 0 Create 65536 1 0 []) [] [] ∷
     on (replied 1 Create EXISTS 65537 2 0) [] [] ∷
     on (asks_at 0 0 1 0 (Get 2 0 1)) [] (answers 0 1 0 2 0 (no_layout NFS4ERR_RECALLCONFLICT) ∷ []) ∷
@@ -47,52 +47,96 @@ events =
     on (asks_at 0 0 7 0 (Get 2 0 1)) [] (answers 0 7 0 6 0 (no_layout NFS4ERR_SEQ_MISORDERED) ∷ []) ∷
     on (asks_at 0 1 2 0 (Get 1 0 1)) [] (answers 1 2 0 1 0 (no_layout NFS4ERR_SEQ_MISORDERED) ∷ []) ∷
     on (asks_at 0 0 6 0 (Get 2 0 1)) []
-        (answers 0 6 0 0 0
-        (gives_layout
-        (record { number = 1; client = 0; writes = true; expiry = 90; tag = 4294967294; format = 1; offset = 0; len = 8; map =
-        striping; components = Usable 0 65536 0 4 ∷ Usable 1 65537 0 4 ∷ Usable 2 65538 0 4 ∷ [] })) ∷ []) ∷
+    (answers 0 6 0 0 0
+    (gives_layout
+    (record {
+      number = 1;
+      client = 0;
+      writes = true;
+      expiry = 90;
+      tag = 4294967294;
+      format = 1;
+      offset = 0;
+      len = 8;
+      map =
+          striping;
+      components = Usable 0 65536 0 4 ∷ Usable 1 65537 0 4 ∷ Usable 2 65538 0 4 ∷ [];
+    })) ∷ []) ∷
     on (asks_at 0 1 1 0 (Get 1 0 1)) [] (recalls 0 1 0 1 ∷ answers 1 1 0 0 0 try_later ∷ []) ∷
     on (asks_at 0 1 2 0 (Commit (Some 0))) [] (answers 1 2 0 0 0 (not_committed NFS4ERR_BADLAYOUT) ∷ []) ∷
     on (asks_at 0 0 7 0 (Commit (Some 8))) [] (answers 0 7 0 0 0 (not_committed NFS4ERR_INVAL) ∷ []) ∷
     on (asks_at 0 0 8 0 (Commit None)) [] (answers 0 8 0 0 0 (not_committed NFS4ERR_INVAL) ∷ []) ∷
     on (asks_at 0 0 9 0 (Commit (Some 7))) [] (answers 0 9 0 0 8 committed ∷ []) ∷
     on (asks_at 91 2 1 0 (Get 1 0 1)) []
-        (raises_tag 0 65536 4294967294 1 4 ∷ raises_tag 1 65537 4294967294 1 5 ∷ raises_tag 2 65538 4294967294 1 6
-        ∷ answers 2 1 0 0 8 (no_layout NFS4ERR_RECALLCONFLICT) ∷ []) ∷
+    (raises_tag 0 65536 4294967294 1 4 ∷ raises_tag 1 65537 4294967294 1 5 ∷ raises_tag 2 65538 4294967294 1 6
+    ∷ answers 2 1 0 0 8 (no_layout NFS4ERR_RECALLCONFLICT) ∷ []) ∷
     on (asks_at 0 1 3 0 (Get 1 0 1)) [] (answers 1 3 0 0 8 (no_layout NFS4ERR_RECALLCONFLICT) ∷ []) ∷
     on (performed 0 SetTag 65536 4 4294967295 []) [] [] ∷
     on (replied 1 SetTag OTHER_TAG 65537 5 4294967295) [] [] ∷
     on (replied 2 SetTag OTHER_TAG 65538 6 7) [] [] ∷
     on (performed 2 SetTag 65538 6 4294967295 []) (note 0 (Fenced 4294967295) ∷ [])
-        (reads_from 0 65536 4294967295 1 7 0 4 ∷ reads_from 1 65537 4294967295 1 8 0 4 ∷ reads_from 2 65538 4294967295 1 9 0 4
-        ∷ []) ∷
+    (reads_from 0 65536 4294967295 1 7 0 4 ∷ reads_from 1 65537 4294967295 1 8 0 4 ∷ reads_from 2 65538 4294967295 1 9 0 4
+    ∷ []) ∷
     on (performed 0 Read 65536 7 0 []) [] [] ∷
     on (performed 1 Read 65537 8 0 []) [] [] ∷
     on (performed 2 Read 65538 9 0 []) (note 0 (Repaired 1 0) ∷ []) [] ∷
     on (asks_at 0 0 10 0 (Get 2 0 1)) []
-        (answers 0 10 0 0 8
-        (gives_layout
-        (record { number = 2; client = 0; writes = true; expiry = 90; tag = 4294967295; format = 1; offset = 0; len = 8; map =
-        striping; components = Usable 0 65536 0 4 ∷ Usable 1 65537 0 4 ∷ Usable 2 65538 0 4 ∷ [] })) ∷ []) ∷
+    (answers 0 10 0 0 8
+    (gives_layout
+    (record {
+      number = 2;
+      client = 0;
+      writes = true;
+      expiry = 90;
+      tag = 4294967295;
+      format = 1;
+      offset = 0;
+      len = 8;
+      map =
+          striping;
+      components = Usable 0 65536 0 4 ∷ Usable 1 65537 0 4 ∷ Usable 2 65538 0 4 ∷ [];
+    })) ∷ []) ∷
     on (asks_at 0 0 11 0 (Return (error_at 1 65537 65537 Eio ∷ []))) (note 0 Spent ∷ [])
-        (answers 0 11 0 4294967295 8 (not_returned NFS4ERR_LAYOUTUNAVAILABLE) ∷ []) ∷
+    (answers 0 11 0 4294967295 8 (not_returned NFS4ERR_LAYOUTUNAVAILABLE) ∷ []) ∷
     on (asks_at 0 0 12 0 (Return (error_at 1 65537 65537 Unreachable ∷ error_at 0 65536 65536 Unreachable ∷ [])))
-        (note 0 Spent ∷ []) (answers 0 12 0 4294967295 8 (not_returned NFS4ERR_LAYOUTUNAVAILABLE) ∷ []) ∷
+    (note 0 Spent ∷ []) (answers 0 12 0 4294967295 8 (not_returned NFS4ERR_LAYOUTUNAVAILABLE) ∷ []) ∷
     on (asks_at 0 0 13 0 (Return (error_at 2 65538 65538 Unreachable ∷ []))) (note 0 (Reported 2) ∷ [])
-        (answers 0 13 0 1 8 returned ∷ []) ∷
+    (answers 0 13 0 1 8 returned ∷ []) ∷
     on (asks_at 0 0 14 0 (Get 2 0 1)) []
-        (answers 0 14 0 0 8
-        (gives_layout
-        (record { number = 3; client = 0; writes = true; expiry = 90; tag = 4294967295; format = 1; offset = 0; len = 8; map =
-        striping; components = Usable 0 65536 0 4 ∷ Usable 1 65537 0 4 ∷ Missing 2 65538 ∷ [] })) ∷ []) ∷
+    (answers 0 14 0 0 8
+    (gives_layout
+    (record {
+      number = 3;
+      client = 0;
+      writes = true;
+      expiry = 90;
+      tag = 4294967295;
+      format = 1;
+      offset = 0;
+      len = 8;
+      map =
+          striping;
+      components = Usable 0 65536 0 4 ∷ Usable 1 65537 0 4 ∷ Missing 2 65538 ∷ [];
+    })) ∷ []) ∷
     on (asks_at 0 0 15 0 (Return [])) [] (answers 0 15 0 0 8 returned ∷ []) ∷
     on (Obeys ToDeclare 0) [] [] ∷
     on (asks_at 0 0 16 0 (Get 2 0 1)) [] (answers 0 16 0 0 8 (no_layout NFS4ERR_LAYOUTUNAVAILABLE) ∷ []) ∷
     on (asks_at 0 0 17 0 (Get 1 0 1)) []
-        (answers 0 17 0 0 8
-        (gives_layout
-        (record { number = 4; client = 0; writes = false; expiry = 90; tag = 4294967295; format = 1; offset = 0; len = 8; map =
-        striping; components = Missing 0 65536 ∷ Usable 1 65537 0 4 ∷ Missing 2 65538 ∷ [] })) ∷ []) ∷
+    (answers 0 17 0 0 8
+    (gives_layout
+    (record {
+      number = 4;
+      client = 0;
+      writes = false;
+      expiry = 90;
+      tag = 4294967295;
+      format = 1;
+      offset = 0;
+      len = 8;
+      map =
+          striping;
+      components = Missing 0 65536 ∷ Usable 1 65537 0 4 ∷ Missing 2 65538 ∷ [];
+    })) ∷ []) ∷
     []
 
 pub steps : done first events ≡ events

@@ -32,24 +32,35 @@ abbrev first : Server
 first = new_server
     ((record { number = 0; key = []; capacity = 20000; online = true; zone = None })
     ∷ (record { number = 1; key = []; capacity = 20000; online = true; zone = None })
-        ∷ (record { number = 2; key = []; capacity = 20000; online = true; zone = None })
-        ∷ (record { number = 3; key = []; capacity = 20000; online = true; zone = None }) ∷ [])
+    ∷ (record { number = 2; key = []; capacity = 20000; online = true; zone = None })
+    ∷ (record { number = 3; key = []; capacity = 20000; online = true; zone = None }) ∷ [])
 
 abbrev events : List Event
 events =
     placing (0 ∷ 1 ∷ 2 ∷ 3 ∷ [])
-        (on (Makes 0 striping 1 false) []
-        (creates 0 65536 1 1 1 (label striping 0 0) ∷ creates 1 65537 1 1 2 (label striping 0 1) ∷ creates 2 65538 1 1 3
-        (label striping 0 2) ∷ creates 3 65539 1 1 4 (label striping 0 3) ∷ [])) ∷
+    (on (Makes 0 striping 1 false) []
+    (creates 0 65536 1 1 1 (label striping 0 0) ∷ creates 1 65537 1 1 2 (label striping 0 1) ∷ creates 2 65538 1 1 3
+    (label striping 0 2) ∷ creates 3 65539 1 1 4 (label striping 0 3) ∷ [])) ∷
     on (performed 0 Create 65536 1 0 []) [] [] ∷
     on (performed 1 Create 65537 2 0 []) [] [] ∷
     on (performed 2 Create 65538 3 0 []) [] [] ∷
     on (performed 3 Create 65539 4 0 []) (note 0 Ready ∷ []) [] ∷
     on (asks_at 0 0 1 0 (Get 2 0 4)) []
-        (answers 0 1 0 0 0
-        (gives_layout
-        (record { number = 1; client = 0; writes = true; expiry = 90; tag = 1; format = 1; offset = 0; len = 4; map =
-        striping; components = Usable 0 65536 0 2 ∷ Usable 1 65537 0 2 ∷ Usable 2 65538 0 2 ∷ Usable 3 65539 0 2 ∷ [] })) ∷ []) ∷
+    (answers 0 1 0 0 0
+    (gives_layout
+    (record {
+      number = 1;
+      client = 0;
+      writes = true;
+      expiry = 90;
+      tag = 1;
+      format = 1;
+      offset = 0;
+      len = 4;
+      map =
+          striping;
+      components = Usable 0 65536 0 2 ∷ Usable 1 65537 0 2 ∷ Usable 2 65538 0 2 ∷ Usable 3 65539 0 2 ∷ [];
+    })) ∷ []) ∷
     on (asks_at 0 0 2 0 (Commit (Some 3))) [] (answers 0 2 0 0 4 committed ∷ []) ∷
     on (Obeys ToDeclare 0) [] [] ∷
     on (Obeys ToDeclare 1) [] [] ∷
@@ -58,15 +69,15 @@ events =
     on (Obeys ToRebuild 0) [] (raises_tag 2 65538 1 1 5 ∷ raises_tag 3 65539 1 1 6 ∷ []) ∷
     on (performed 2 SetTag 65538 5 2 []) [] [] ∷
     placing (4 ∷ [])
-        (on (performed 3 SetTag 65539 6 2 []) (note 0 (Fenced 2) ∷ note 0 (Repaired 1 1) ∷ [])
-        (creates 4 65540 2 1 7 (label striping 0 0) ∷ [])) ∷
+    (on (performed 3 SetTag 65539 6 2 []) (note 0 (Fenced 2) ∷ note 0 (Repaired 1 1) ∷ [])
+    (creates 4 65540 2 1 7 (label striping 0 0) ∷ [])) ∷
     on (performed 4 Create 65540 7 0 []) [] (reads_from 2 65538 2 1 8 0 2 ∷ reads_from 3 65539 2 1 9 0 2 ∷ []) ∷
     on (performed 2 Read 65538 8 2 (2 ∷ 6 ∷ [])) [] [] ∷
     on (performed 3 Read 65539 9 2 (7 ∷ 10 ∷ [])) [] (writes_to 4 65540 2 1 10 0 (1 ∷ 2 ∷ []) ∷ []) ∷
     placing (5 ∷ [])
-        (on (performed 4 Write 65540 10 0 []) (note 0 (Rebuilt 0 4) ∷ []) (creates 5 65541 2 1 11 (label striping 0 1) ∷ [])) ∷
+    (on (performed 4 Write 65540 10 0 []) (note 0 (Rebuilt 0 4) ∷ []) (creates 5 65541 2 1 11 (label striping 0 1) ∷ [])) ∷
     on (performed 5 Create 65541 11 0 []) []
-        (reads_from 4 65540 2 1 12 0 2 ∷ reads_from 2 65538 2 1 13 0 2 ∷ reads_from 3 65539 2 1 14 0 2 ∷ []) ∷
+    (reads_from 4 65540 2 1 12 0 2 ∷ reads_from 2 65538 2 1 13 0 2 ∷ reads_from 3 65539 2 1 14 0 2 ∷ []) ∷
     on (performed 4 Read 65540 12 2 (1 ∷ 2 ∷ [])) [] [] ∷
     on (performed 2 Read 65538 13 2 (2 ∷ 6 ∷ [])) [] [] ∷
     on (performed 3 Read 65539 14 2 (7 ∷ 10 ∷ [])) [] (writes_to 5 65541 2 1 15 0 (3 ∷ 4 ∷ []) ∷ []) ∷

@@ -82,12 +82,12 @@ pub admit_new : (o : Option Slot) (n : ℕ) → admit o n ≡ New → n ≡ last
 unfolding admit admit_after
 admit_new None n e =
     elim (cases_Bool ((n == 0 + 1) && nat_lt 0 GREATEST_SEQUENCE))
-        [ inl t ↦ grind (arith, nat_tests, t) | inr z ↦ absurd (cc (rw z at e)) ]
+    [ inl t ↦ grind (arith, nat_tests, t) | inr z ↦ absurd (cc (rw z at e)) ]
 admit_new (Some t) n e = elim (cases_Bool (n == t.last)) [
   | inl x ↦ absurd (cc (rw x at e))
   | inr y ↦ elim
       (cases_Bool ((n == t.last + 1) && nat_lt t.last GREATEST_SEQUENCE))
-          [ inl x ↦ grind (arith, nat_tests, x) | inr z ↦ absurd (cc (rw (y, z) at e)) ]
+      [ inl x ↦ grind (arith, nat_tests, x) | inr z ↦ absurd (cc (rw (y, z) at e)) ]
 ]
 
 -- the last number again
@@ -147,8 +147,12 @@ other_kept s now chosen q client None z =
     keep_other s.slots (record { client = q.client; last = q.sequence; kept = answer_without q }) client z
 other_kept s now chosen q client (Some f) z =
     keep_other s.slots
-        (record { client = q.client; last = q.sequence; kept =
-        answer_with s q (serves (at_file s chosen f) s.next_grant s.format now q.client q.args) }) client z
+    (record {
+      client = q.client;
+      last = q.sequence;
+      kept =
+          answer_with s q (serves (at_file s chosen f) s.next_grant s.format now q.client q.args);
+    }) client z
 
 pub other_admitted : (s : Server) (now : ℕ) (chosen : List ℕ) (q : ClientRequest) (client : ℕ) (a : Admit) →
     (q.client == client) ≡ false →
@@ -182,8 +186,12 @@ pub own_counts : (s : Server) (now : ℕ) (chosen : List ℕ) (q : ClientRequest
     Counts s q.client (where_new a q.sequence) (on_request s now chosen q).state
 own_counts s now chosen q New e =
     let w : IsCarriedOut s q (on_request s now chosen q) = carried_out s now chosen q e
-    in inr (q.sequence, refl, admit_new (slot_of s.slots q.client) q.sequence e,
-        slot_last (slot_of (on_request s now chosen q).state.slots q.client) _ w.3)
+    in inr (
+      q.sequence,
+      refl,
+      admit_new (slot_of s.slots q.client) q.sequence e,
+      slot_last (slot_of (on_request s now chosen q).state.slots q.client) _ w.3,
+    )
 own_counts s now chosen q (Again kept) e = inl (refl, ap (λ t. slot_of t.slots q.client) (not_carried s now chosen q (rw e refl)))
 own_counts s now chosen q (Misordered expected) e =
     inl (refl, ap (λ t. slot_of t.slots q.client) (not_carried s now chosen q (rw e refl)))
@@ -191,18 +199,18 @@ own_counts s now chosen q (Misordered expected) e =
 -- of a request that is taken, the client's or another's
 pub request_counts : (s : Server) (now client : ℕ) (chosen : List ℕ) (q : ClientRequest) → (b : Bool) → (q.client == client) ≡ b →
     Counts s client (if b then where_new (admit (slot_of s.slots client) q.sequence) q.sequence else [])
-        (on_request s now chosen q).state
+    (on_request s now chosen q).state
 request_counts s now client chosen q true e =
     subst (λ c. Counts s c (where_new (admit (slot_of s.slots c) q.sequence) q.sequence) (on_request s now chosen q).state)
-        (eqb-true q.client client e)
+    (eqb-true q.client client e)
     (own_counts s now chosen q (admit (slot_of s.slots q.client) q.sequence) refl)
 request_counts s now client chosen q false e = inl (refl, other_slot s now chosen q client e)
 
 -- a request from client c, once the counters have room
 pub taken_counts : (s : Server) (now client c : ℕ) (chosen : List ℕ) (q : ClientRequest) →
     Counts s client
-        (if (c == client) && ((q.client == c) && nat_le c MAX_CLIENT) then where_new
-        (admit (slot_of s.slots client) q.sequence) q.sequence else [])
+    (if (c == client) && ((q.client == c) && nat_le c MAX_CLIENT) then where_new
+    (admit (slot_of s.slots client) q.sequence) q.sequence else [])
     (handled s now chosen (FromClient c) (Asks q)).state
 taken_counts s now client c chosen q = elim (cases_Bool ((q.client == c) && nat_le c MAX_CLIENT)) [
   | inl y ↦ elim (cases_Bool (c == client)) [
@@ -211,7 +219,7 @@ taken_counts s now client c chosen q = elim (cases_Bool ((q.client == c) && nat_
   ]
   | inr y ↦ elim
       (cases_Bool (c == client))
-          [ inl x ↦ rw (x, y) (none_counts s client s refl) | inr x ↦ rw (x, y) (none_counts s client s refl) ]
+      [ inl x ↦ rw (x, y) (none_counts s client s refl) | inr x ↦ rw (x, y) (none_counts s client s refl) ]
 ]
 
 pub message_counts : (s : Server) (now client : ℕ) (chosen : List ℕ) (from : Node) (m : Message) →
@@ -221,7 +229,7 @@ message_counts s now client chosen (FromClient c) (Asks q) = elim (cases_Bool (c
   | inl l ↦ rw l (taken_counts s now client c chosen q)
   | inr z ↦ elim
       (cases_Bool (c == client))
-          [ inl x ↦ rw (x, z) (none_counts s client s refl) | inr x ↦ rw (x, z) (none_counts s client s refl) ]
+      [ inl x ↦ rw (x, z) (none_counts s client s refl) | inr x ↦ rw (x, z) (none_counts s client s refl) ]
 ]
 message_counts s now client chosen (FromDrive d) (Replies r) =
     none_counts s client (on_message s now chosen (FromDrive d) (Replies r)).state
@@ -231,7 +239,7 @@ message_counts s now client chosen FromServer (Orders o) =
     (elim (cases_Bool (counters_have_room s)) [ inl t ↦ rw t (same_ordered s chosen o.order o.target) | inr z ↦ rw z refl ])
 message_counts s now client chosen from m =
     none_counts s client (on_message s now chosen from m).state
-        (elim (cases_Bool (counters_have_room s)) [ inl t ↦ rw t refl | inr z ↦ rw z refl ])
+    (elim (cases_Bool (counters_have_room s)) [ inl t ↦ rw t refl | inr z ↦ rw z refl ])
 
 pub step_counts : (s : Server) (client : ℕ) (chosen : List ℕ) (i : Input) →
     Counts s client (carried_by s client i) (step s chosen i).state
@@ -260,7 +268,7 @@ unfolding carried
 count_on s client [] = tt
 count_on s client (a ∷ acts) =
     add_counts s (step s a.chosen a.input).state client (carried_by s client a.input)
-        (carried (step s a.chosen a.input).state client acts)
+    (carried (step s a.chosen a.input).state client acts)
     (step_counts s client a.chosen a.input) (count_on (step s a.chosen a.input).state client acts)
 
 pub others_change_nothing : OtherRequestsChangeNothing
@@ -299,15 +307,15 @@ slot_after s client [] e = refl
 slot_after s client (a ∷ acts) e =
     slot_after (step s a.chosen a.input).state client acts (both_empty (carried_by s client a.input) _ e).1
     ∙ stays_by s (step s a.chosen a.input).state client (carried_by s client a.input)
-        (both_empty (carried_by s client a.input) _ e).0 (step_counts s client a.chosen a.input)
+    (both_empty (carried_by s client a.input) _ e).0 (step_counts s client a.chosen a.input)
 
 pub answers_again : (s : Server) (q : ClientRequest) (a : Answer) →
     slot_of s.slots q.client ≡ Some (record { client = q.client; last = q.sequence; kept = a }) → IsAnsweredAgain s q a
 unfolding on_request
 answers_again s q a e = λ now chosen r c n.
     ap (by_admit s now chosen r)
-        (admit_again (slot_of s.slots r.client) (record { client = q.client; last = q.sequence; kept = a }) r.sequence
-        (ap (slot_of s.slots) c ∙ e) n)
+    (admit_again (slot_of s.slots r.client) (record { client = q.client; last = q.sequence; kept = a }) r.sequence
+    (ap (slot_of s.slots) c ∙ e) n)
 
 pub repeats_alike : RepeatsAreAnsweredAlike
 repeats_alike s now chosen q e =

@@ -30,7 +30,7 @@ pub safe_carried : (s : Server) (now : ℕ) (chosen : List ℕ) (q : ClientReque
 safe_carried s now chosen q None e h = h
 safe_carried s now chosen q (Some f) e h =
     safe_put s.files q.file _ h
-        (leaves_served (at_file s chosen f) s.next_grant s.format now q.client q.args (safe_at s.files q.file f h e)).safe
+    (leaves_served (at_file s chosen f) s.next_grant s.format now q.client q.args (safe_at s.files q.file f h e)).safe
 
 pub safe_admitted : (s : Server) (now : ℕ) (chosen : List ℕ) (q : ClientRequest) (a : Admit) → AreSafe s.files →
     AreSafe (by_admit s now chosen q a).state.files
@@ -50,7 +50,7 @@ others_carried s now chosen q None e h = λ n z. refl
 others_carried s now chosen q (Some f) e h =
     put_other s.files q.file (serves (at_file s chosen f) s.next_grant s.format now q.client q.args).going.file
     ((leaves_served (at_file s chosen f) s.next_grant s.format now q.client q.args (safe_at s.files q.file f h e)).number
-        ∙ number_at s.files q.file f e)
+    ∙ number_at s.files q.file f e)
 
 pub others_admitted : (s : Server) (now : ℕ) (chosen : List ℕ) (q : ClientRequest) (a : Admit) → AreSafe s.files →
     OthersStay q.file s.files (by_admit s now chosen q a).state.files
@@ -84,8 +84,8 @@ unfolding heard_at
 safe_heard s chosen drive r [] h = tt
 safe_heard s chosen drive r (f ∷ fs) h =
     safe_either (on_reply (at_file s chosen f) drive r) _
-        (safe_from f.kept (on_reply (at_file s chosen f) drive r) (leaves_reply (at_file s chosen f) drive r h.0))
-            (safe_heard s chosen drive r fs h.1)
+    (safe_from f.kept (on_reply (at_file s chosen f) drive r) (leaves_reply (at_file s chosen f) drive r h.0))
+    (safe_heard s chosen drive r fs h.1)
 
 pub safe_by_heard : (s : Server) (o : Option Going) → AreSafe s.files → Safe_out o → AreSafe (by_heard s o).state.files
 safe_by_heard s None h i = h
@@ -131,8 +131,10 @@ unfolding declares_each
 safe_each drive ds [] m chosen h = tt
 safe_each drive ds (f ∷ fs) m chosen h =
     let g : Going = declares (record { file = f; effects = m; drives = ds; chosen = chosen }) drive
-    in ((leaves_declared (record { file = f; effects = m; drives = ds; chosen = chosen }) drive h.0).safe,
-        safe_each drive ds fs g.effects g.chosen h.1)
+    in (
+      (leaves_declared (record { file = f; effects = m; drives = ds; chosen = chosen }) drive h.0).safe,
+      safe_each drive ds fs g.effects g.chosen h.1,
+    )
 
 pub safe_declared : (s : Server) (chosen : List ℕ) (drive : ℕ) (b : Bool) → AreSafe s.files →
     AreSafe (declares_known s chosen drive b).step.state.files
@@ -176,7 +178,7 @@ pub safe_made : (s : Server) (n : ℕ) (m : RawMap) (tag : ℕ) (zoned : Bool) (
 safe_made s n m tag zoned ds (Some r) h = h
 safe_made s n m tag zoned ds None h =
     safe_put _ n _ (safe_add s.files _ h (record { rests = tt; apart = apart_none; alone = tt }))
-        (leaves_new (at_file (with_file s (unmade s n m tag zoned ds)) [] (unmade s n m tag zoned ds)) refl).safe
+    (leaves_new (at_file (with_file s (unmade s n m tag zoned ds)) [] (unmade s n m tag zoned ds)) refl).safe
 
 pub safe_create : (s : Server) (n : ℕ) (m : RawMap) (tag : ℕ) (zoned : Bool) (chosen : List ℕ) → AreSafe s.files →
     AreSafe (unless_made s (create_file s n m tag zoned chosen)).state.files
@@ -193,8 +195,10 @@ unfolding opens_each
 safe_opened format ds [] m h = tt
 safe_opened format ds (f ∷ fs) m h =
     let g : Going = opens format (record { file = f; effects = m; drives = ds; chosen = [] })
-    in ((leaves_opened format (record { file = f; effects = m; drives = ds; chosen = [] }) h.0).safe,
-        safe_opened format ds fs g.effects h.1)
+    in (
+      (leaves_opened format (record { file = f; effects = m; drives = ds; chosen = [] }) h.0).safe,
+      safe_opened format ds fs g.effects h.1,
+    )
 
 pub safe_reopened : (s : Server) → AreSafe s.files → AreSafe (reopen s).state.files
 unfolding reopen
@@ -288,8 +292,11 @@ one_made s n m tag zoned ds (Some r) = one_of_none s.files
 one_made s n m tag zoned ds None =
     let f : File = unmade s n m tag zoned ds
     in let made : Leaves f.kept (making (at_file (with_file s f) [] f)) = leaves_new (at_file (with_file s f) [] f) refl
-    in (n, λ k z. put_other (with_file s f).files n (making (at_file (with_file s f) [] f)).file made.number k z
-        ∙ add_other s.files f k z)
+    in (
+      n,
+      λ k z. put_other (with_file s f).files n (making (at_file (with_file s f) [] f)).file made.number k z
+          ∙ add_other s.files f k z,
+    )
 
 pub one_created : (s : Server) (n : ℕ) (m : RawMap) (tag : ℕ) (zoned : Bool) (chosen : List ℕ) →
     One s.files (unless_made s (create_file s n m tag zoned chosen)).state.files

@@ -33,7 +33,7 @@ Adds left file now old x d m all = (((file == m) && are_to left x d) || now) ≡
 
 pub adds_on : (left rest all : List Awaited) (a : Awaited) (file x d m : ℕ) (now next old : Bool) → left ≡ a ∷ rest →
     next ≡ (is_of a.command.nonce a.drive file x d m || now) → Adds left file now old x d m all →
-        Adds rest file next old x d m all
+    Adds rest file next old x d m all
 adds_on left rest all a file x d m now next old e n h =
     ap (λ (z : Bool). ((file == m) && are_to rest x d) || z) n
     ∙ one_of ((a.command.nonce == x) && (a.drive == d)) (file == m) (are_to rest x d) now
@@ -57,7 +57,7 @@ Removes left file now old x d m all = (not ((file == m) && are_to left x d) && n
 
 pub removes_on : (left rest all : List Awaited) (a : Awaited) (file x d m : ℕ) (now next old : Bool) → left ≡ a ∷ rest →
     next ≡ (not (is_of a.command.nonce a.drive file x d m) && now) → Removes left file now old x d m all →
-        Removes rest file next old x d m all
+    Removes rest file next old x d m all
 removes_on left rest all a file x d m now next old e n h =
     ap (λ (z : Bool). not ((file == m) && are_to rest x d) && z) n
     ∙ none_of ((a.command.nonce == x) && (a.drive == d)) (file == m) (are_to rest x d) now

@@ -18,7 +18,7 @@ both : (t : Table) (n d : ℕ) (o : Option FileState) → entry_at t n ≡ o →
     standing_in d (without n t) + standing_if d o ≡ standing_in d t
 both t n d o e =
     subst (λ (p : Option FileState). standing_in d (without n t) + standing_if d p ≡ standing_in d t) e
-        (sum_by-remove_entry (standing_of d) (is_at (nat_cmp n)) t)
+    (sum_by-remove_entry (standing_of d) (is_at (nat_cmp n)) t)
 
 -- what stands of a file was counted
 pub file_counted : (t : Table) (old : Counts) (n : ℕ) (f : FileState) → entry_at t n ≡ Some f → AreCounted old t →

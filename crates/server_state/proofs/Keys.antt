@@ -68,7 +68,7 @@ pub added : (old new : BTreeSet Key) (was : Keys) (nonce drive file : ℕ) → o
     (x d m : ℕ) → has new.keys x d m ≡ (is_of nonce drive file x d m || has was x d m)
 added old new was nonce drive file v u x d m =
     has_key new.keys x d m ∙ u.0 (x, d, m)
-        ∙ or_cond (is_eq (in_order (nonce, drive, file) (x, d, m))) (list_any (is_at (in_order (x, d, m))) old.keys)
+    ∙ or_cond (is_eq (in_order (nonce, drive, file) (x, d, m))) (list_any (is_at (in_order (x, d, m))) old.keys)
     ∙ either _ _ _ _ (at_query (nonce, drive, file) (x, d, m)) (sym (has_key old.keys x d m) ∙ ap (λ (ks : Keys). has ks x d m) v)
 
 both : (a b x y : Bool) → a ≡ x → b ≡ y → (not a && b) ≡ (not x && y)
@@ -79,7 +79,7 @@ pub removed : (old new : BTreeSet Key) (was : Keys) (nonce drive file : ℕ) →
     (x d m : ℕ) → has new.keys x d m ≡ (not (is_of nonce drive file x d m) && has was x d m)
 removed old new was nonce drive file v u x d m =
     has_key new.keys x d m ∙ u.0 (x, d, m)
-        ∙ and_cond (is_eq (in_order (nonce, drive, file) (x, d, m))) (list_any (is_at (in_order (x, d, m))) old.keys)
+    ∙ and_cond (is_eq (in_order (nonce, drive, file) (x, d, m))) (list_any (is_at (in_order (x, d, m))) old.keys)
     ∙ both _ _ _ _ (at_query (nonce, drive, file) (x, d, m)) (sym (has_key old.keys x d m) ∙ ap (λ (ks : Keys). has ks x d m) v)
 
 -- ---- the first from a key on

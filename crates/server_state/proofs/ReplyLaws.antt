@@ -127,7 +127,7 @@ at_first t s = record { listed = λ x d m. or-false (file_awaits (entry_at t m) 
 
 next_listed : (n m x d : ℕ) (f : FileState) (rest : Table) (old : Bool) → entry_at rest n ≡ None →
     (file_awaits (entry_at rest m) x d || (((n == m) && job_awaits f.job x d) || old))
-        ≡ (file_awaits (entry_at ((n, f) ∷ rest) m) x d || old)
+    ≡ (file_awaits (entry_at ((n, f) ∷ rest) m) x d || old)
 next_listed n m x d f rest old none = elim (cases_Bool (n == m)) [
   | inl here ↦ rw (found n m here, here, sym (same_number n m here), none) refl
   | inr there ↦ rw (missed n m there, there) refl
@@ -141,7 +141,7 @@ next_listed n m x d f rest old none = elim (cases_Bool (n == m)) [
 
 pub one_more : (ks next : Keys) (n : ℕ) (f : FileState) (left rest all : Table) → left ≡ (n, f) ∷ rest →
     ((x d m : ℕ) → has next x d m ≡ (((n == m) && job_awaits f.job x d) || has ks x d m)) → AreToList ks left all →
-        AreToList next rest all
+    AreToList next rest all
 one_more ks next n f left rest all e h a =
     let b : AreToList ks ((n, f) ∷ rest) all = subst (λ (t : Table). AreToList ks t all) e a in
     let order = sorted_rest n (keys_of rest) b.sorted in

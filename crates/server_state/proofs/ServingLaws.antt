@@ -42,21 +42,21 @@ reports_as f ks (c ∷ cs) k m ds chosen = elim (cases_Bool (among k ks)) [
 -- components become missing by a report
 pub loss_steps : (f new : FileState) (ks : List ℕ) (was is : Effects) →
     new ≡ record f { kept = record f.kept { components = lose_from ks f.kept.components 0 } } →
-        is ≡ reported ks f.kept.components 0 f.kept.number was →
+    is ≡ reported ks f.kept.components 0 f.kept.number was →
     Steps (λ go. takes_loss go ks) f was new is
 unfolding takes_loss
 loss_steps f new ks was is e h =
     λ ds chosen. rw (e, h)
-        (sym (reports_as
-        (record f { kept = record f.kept { components = lose_from ks f.kept.components 0 } }) ks f.kept.components 0 was ds
-            chosen))
+    (sym (reports_as
+    (record f { kept = record f.kept { components = lose_from ks f.kept.components 0 } }) ks f.kept.components 0 was ds
+    chosen))
 
 -- ---- rows
 
 -- where this is what the function does at the file
 pub serves_as : (F G : Going → Served) (r : Result Outcome Memory) (f new : FileState) (was is : Effects) →
     ((ds : List Drive) (chosen : List ℕ) → F (at f was ds chosen) ≡ G (at f was ds chosen)) →
-        IfOk r (λ o. Serves F f was o new is) → IfOk r (λ o. Serves G f was o new is)
+    IfOk r (λ o. Serves F f was o new is) → IfOk r (λ o. Serves G f was o new is)
 serves_as F G (Ok o) f new was is e s = λ ds chosen. s ds chosen ∙ e ds chosen
 serves_as F G (Err m) f new was is e s = tt
 
@@ -74,12 +74,12 @@ pub gets_by : (f : FileState) (was : Effects) (q : Asking) (w : Wanted) (e : Ear
     e ≡ early_of f.spent (waited f.job) w.iomode w.offset w.length →
     (ds : List Drive) (chosen : List ℕ) →
     by_early (at f was ds chosen) q.next_grant q.format q.time
-        (asked f.kept q.next_grant q.client q.time w.offset w.length (is_rw w.iomode)) e ≡ gets_for q w (at f was ds chosen)
+    (asked f.kept q.next_grant q.client q.time w.offset w.length (is_rw w.iomode)) e ≡ gets_for q w (at f was ds chosen)
 unfolding gets
 gets_by f was q w e h ds chosen =
     ap (by_early (at f was ds chosen) q.next_grant q.format q.time
-        (asked f.kept q.next_grant q.client q.time w.offset w.length (is_rw w.iomode)))
-        (h ∙ early_is f w.iomode w.offset w.length)
+    (asked f.kept q.next_grant q.client q.time w.offset w.length (is_rw w.iomode)))
+    (h ∙ early_is f w.iomode w.offset w.length)
 
 not_spent_loss : (f : Kept) (o : Option (List ℕ)) → by_loss f o ≡ Fencing → f.tag ≡ GREATEST_TAG → ⊥
 not_spent_loss f (Some ks) e t = absurd (cc e)
@@ -103,7 +103,7 @@ not_spent f client report e t = not_spent_grant f report (grant_of f.grants clie
 -- one more
 pub noted_more : (ks : List ℕ) (cs : List Component) (file i component : ℕ) (is now all : Effects) → i < length cs →
     now ≡ (if among component ks then noted is file (Reported component) else is) →
-        reported ks (drop i cs) component file is ≡ all →
+    reported ks (drop i cs) component file is ≡ all →
     reported ks (drop (i + 1) cs) (component + 1) file now ≡ all
 unfolding reported
 noted_more ks cs file i component is now all l e h =
@@ -111,7 +111,7 @@ noted_more ks cs file i component is now all l e h =
     let next : i + 1 ≡ suc i = omega arith in
     ap (λ m. reported ks (drop (i + 1) cs) (component + 1) file m) e
     ∙ ap (λ j. reported ks (drop j cs) (component + 1) file
-        (if among component ks then noted is file (Reported component) else is)) next
+    (if among component ks then noted is file (Reported component) else is)) next
     ∙ ap (λ rest. reported ks rest component file is) (sym (drop-cons cs i d l)) ∙ h
 
 -- what is served without a look at what the step did

@@ -62,7 +62,7 @@ high_low high g l e = elim (cases_Bool g.rw) [ inl t ↦ rw t (omega (arith, l, 
 pub sound_given : (f : FileState) (g : Grant) (k : Kept) → g.first ≤ g.end → g.end ≤ MAX_FILE_SIZE → f.job ≡ None →
     IsSoundFile f →
     k ≡ record f.kept { grants = f.kept.grants ++ (g ∷ []); high = high_after f.kept.high g } →
-        IsSoundFile (record f { kept = k })
+    IsSoundFile (record f { kept = k })
 sound_given f g k r l i s e = record {
   kept = rw e (record {
     few = s.kept.few;
@@ -79,8 +79,14 @@ sound_given f g k r l i s e = record {
 pub sound_without : (f : FileState) (client : ℕ) → IsSoundFile f →
     IsSoundFile (record f { kept = record f.kept { grants = without f.kept.grants client } })
 sound_without f client s = record {
-  kept = record { few = s.kept.few; whole = s.kept.whole; high = s.kept.high; live =
-      ends_without f.kept.grants client s.kept.live; ended = s.kept.ended };
+  kept = record {
+    few = s.kept.few;
+    whole = s.kept.whole;
+    high = s.kept.high;
+    live =
+        ends_without f.kept.grants client s.kept.live;
+    ended = s.kept.ended;
+  };
   alone = alone_without f.kept client f.job s.alone;
   job = job_same f.kept (record f.kept { grants = without f.kept.grants client }) f.job refl refl refl s.job;
 }
@@ -89,8 +95,14 @@ sound_without f client s = record {
 pub sound_lost : (f : FileState) (ks : List ℕ) → f.job ≡ None → IsSoundFile f →
     IsSoundFile (record f { kept = record f.kept { components = lose_from ks f.kept.components 0 } })
 sound_lost f ks i s = record {
-  kept = record { few = rw (length_lost ks f.kept.components 0) s.kept.few; whole =
-      rw (length_lost ks f.kept.components 0) s.kept.whole; high = s.kept.high; live = s.kept.live; ended = s.kept.ended };
+  kept = record {
+    few = rw (length_lost ks f.kept.components 0) s.kept.few;
+    whole =
+        rw (length_lost ks f.kept.components 0) s.kept.whole;
+    high = s.kept.high;
+    live = s.kept.live;
+    ended = s.kept.ended;
+  };
   alone = alone_idle (record f.kept { components = lose_from ks f.kept.components 0 }) f.job i;
   job = job_idle (record f.kept { components = lose_from ks f.kept.components 0 }) f.job i;
 }
@@ -142,4 +154,4 @@ pub on_idle : (spent : Bool) (j : Option Job) (iomode offset count : ℕ) → On
 unfolding early_of
 on_idle spent j iomode offset count e =
     on_waits j (behind_all (not ((iomode == LAYOUTIOMODE4_READ) || (iomode == LAYOUTIOMODE4_RW)))
-        ((count == 0) || nat_lt MAX_FILE_SIZE (offset + count)) spent (by_waits (waited j)) e)
+    ((count == 0) || nat_lt MAX_FILE_SIZE (offset + count)) spent (by_waits (waited j)) e)

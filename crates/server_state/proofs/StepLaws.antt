@@ -68,18 +68,18 @@ on_ok (Err e) f p = tt
 pub done_at : (old : State) (files : BTreeMap ℕ FileState) (new : State) (m : Effects) (q : Asking) (r : ClientRequest) (now : ℕ)
     (chosen : List ℕ) (v : Served) (f g : FileState) (out : Step) →
     q ≡ record { client = r.client; time = now; next_grant = old.next_grant; format = old.format } →
-        AreEntries old.files.entries →
+    AreEntries old.files.entries →
     files.entries ≡ set_value (is_at (nat_cmp r.file)) old.files.entries g → entry_at old.files.entries r.file ≡ Some f →
     ServedAt q r old.drives f (begins (server_of old)) v g m → Finishes (record old { files = files }) m v new out →
-        Did out (server_of new) (carried_in (server_of old) now chosen r)
+    Did out (server_of new) (carried_in (server_of old) now chosen r)
 done_at old files new m q r now chosen v f g out e good put_in found served fin =
     let s : Server = server_of old in
     let there : file_at (files_in old.files.entries) r.file ≡ Some (file_of f) =
-        file_at-files old.files.entries r.file good ∙ ap (option_map file_of) found in
+    file_at-files old.files.entries r.file good ∙ ap (option_map file_of) found in
     let put : files_in files.entries ≡ put_file (files_in old.files.entries) r.file (file_of g) =
-        ap files_in put_in ∙ sym (put_file-files old.files.entries r.file g good) in
+    ap files_in put_in ∙ sym (put_file-files old.files.entries r.file g good) in
     let rule : served_by v.outcome (at g m old.drives chosen) ≡ serves
-        (at_file s chosen (file_of f)) old.next_grant old.format now r.client r.args =
+    (at_file s chosen (file_of f)) old.next_grant old.format now r.client r.args =
     served.rule old.drives chosen ∙ ap (λ (z : Asking). serves_for z r.args (at f (begins s) old.drives chosen)) e in
     subst (λ (x : Option File). Did out (server_of new) (carries_out s now chosen r x)) (sym there)
     (subst (λ (w : RulesServed). Did out (server_of new) (carried_out s r w)) rule (record {
@@ -102,11 +102,11 @@ after_settling old fs m = record (server_of old) { files = fs; next_nonce = m.no
 pub settled_at : (old : State) (files : BTreeMap ℕ FileState) (new : State) (m : Effects) (n : ℕ) (g : FileState)
     (chosen : List ℕ) (go : Going) (out : Step) →
     AreEntries old.files.entries → files.entries ≡ set_value (is_at (nat_cmp n)) old.files.entries g →
-        at g m old.drives chosen ≡ go →
+    at g m old.drives chosen ≡ go →
     Settles (record old { files = files }) m new out → Did out (server_of new) (step_at (server_of old) n go)
 settled_at old files new m n g chosen go out good put_in e fin =
     let put : files_in files.entries ≡ put_file (files_in old.files.entries) n (file_of g) =
-        ap files_in put_in ∙ sym (put_file-files old.files.entries n g good) in
+    ap files_in put_in ∙ sym (put_file-files old.files.entries n g good) in
     subst (λ (z : Going). Did out (server_of new) (step_at (server_of old) n z)) e (record {
       state = ap server_of fin.state ∙ ap (λ (fs : List File). after_settling old fs m) put;
       sends = fin.sends;
@@ -117,7 +117,7 @@ settled_at old files new m n g chosen go out good put_in e fin =
 -- behind its file all is ready again
 pub good_settled : (n : ℕ) (old : State) (files : BTreeMap ℕ FileState) (new : State) (m : Effects) (out : Step) →
     IsGoodBut n old → AreEntries files.entries → OthersStay n old.files.entries files.entries →
-        Settles (record old { files = files }) m new out → IsGoodBut n new
+    Settles (record old { files = files }) m new out → IsGoodBut n new
 good_settled n old files new m out good entries others fin =
     subst (λ (z : State). IsGoodBut n z) (sym fin.state) (record {
       files = entries;
@@ -129,7 +129,7 @@ good_settled n old files new m out good entries others fin =
 
 pub good_finished : (n : ℕ) (old : State) (files : BTreeMap ℕ FileState) (new : State) (m : Effects) (v : Served) (out : Step) →
     IsGoodBut n old → AreEntries files.entries → OthersStay n old.files.entries files.entries →
-        old.next_grant + v.outcome.numbers ≤ GREATEST_GRANT + 1 →
+    old.next_grant + v.outcome.numbers ≤ GREATEST_GRANT + 1 →
     Finishes (record old { files = files }) m v new out → IsGoodBut n new
 good_finished n old files new m v out good entries others numbers fin =
     subst (λ (z : State). IsGoodBut n z) (sym fin.state) (record {
@@ -144,7 +144,7 @@ good_finished n old files new m v out good entries others numbers fin =
 pub good_still : (n : ℕ) (old : State) (files : BTreeMap ℕ FileState) (new : State) → IsGoodBut n old →
     files.entries ≡ old.files.entries →
     new.files ≡ files → new.next_grant ≡ old.next_grant → new.drives ≡ old.drives → new.replies ≡ old.replies →
-        new.counts ≡ old.counts → IsGoodBut n new
+    new.counts ≡ old.counts → IsGoodBut n new
 good_still n old files new good same f g d r h =
     let t : new.files.entries ≡ old.files.entries = ap (λ (z : BTreeMap ℕ FileState). z.entries) f ∙ same in
     record {
@@ -162,9 +162,9 @@ pub refused_at : (old : State) (files : BTreeMap ℕ FileState) (new : State) (r
     (out : Step) →
     AreEntries old.files.entries → entry_at old.files.entries r.file ≡ None → files.entries ≡ old.files.entries →
     Did out (server_of new) (carries_out (server_of (record old { files = files })) now chosen r None) →
-        Did out (server_of new) (carried_in (server_of old) now chosen r)
+    Did out (server_of new) (carried_in (server_of old) now chosen r)
 refused_at old files new r now chosen out good none same did =
     subst (λ (x : Option File). Did out (server_of new) (carries_out (server_of old) now chosen r x))
-        (sym (no_file_there old.files.entries r.file good none))
+    (sym (no_file_there old.files.entries r.file good none))
     (subst (λ (t : Table). Did out (server_of new)
-        (carries_out (record (server_of old) { files = files_in t }) now chosen r None)) same did)
+    (carries_out (record (server_of old) { files = files_in t }) now chosen r None)) same did)

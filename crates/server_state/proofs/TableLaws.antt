@@ -65,8 +65,11 @@ entry_found (x ∷ xs) n f a e = elim (cases_Bool (is_at (nat_cmp n) x.0)) [
         IsEntry (n, f)
     found_here n x f i t e =
         let same : x.1 ≡ f = cc e in
-        record { number = ap (λ (y : FileState). y.kept.number) (sym same) ∙ i.number ∙ sym (same_key n x.0 t); sound =
-            subst (λ y. IsSoundFile y) same i.sound }
+        record {
+          number = ap (λ (y : FileState). y.kept.number) (sym same) ∙ i.number ∙ sym (same_key n x.0 t);
+          sound =
+              subst (λ y. IsSoundFile y) same i.sound;
+        }
 
 -- it stays at its number
 pub entries_left : (t : Table) (n : ℕ) (f g : FileState) → AreEntries t → entry_at t n ≡ Some f → LeavesFile f g →

@@ -76,7 +76,7 @@ unit_piece m r got out s c i low is lt =
     ∙ sym (shifted (answer_at m got out) start i.first (i.end - i.first))
     ∙ ap (λ (n : ℕ). map (answer_at m got out) (range_with_len (start + i.first) n)) (sym long)
     ∙ ap (λ (a : ℕ). map (answer_at m got out) (range_with_len a (clamped r (unit_start m s (c + 1)) - clamped r start)))
-        (sym from)
+    (sym from)
 
 -- nothing, where the range has no byte in it
 pub unit_none : (m : RawMap) (r : Span) (got : List Column) (out : List ℕ) (s c : ℕ) (i : Interval) → IsChecked m →
@@ -88,7 +88,7 @@ unit_none m r got out s c i ch is le =
     let first : i.first ≡ max r.offset start - start = ap (λ (j : Interval). j.first) is in
     let end : i.end ≡ min (end_of r) (start + m.unit) - start = ap (λ (j : Interval). j.end) is in
     between_none m got out (clamped r start) (clamped r (unit_start m s (c + 1)))
-        (omega (arith, first, end, le, unit_next m s c, ch.some_unit))
+    (omega (arith, first, end, le, unit_next m s c, ch.some_unit))
 
 -- ---- all stripes
 
@@ -106,9 +106,9 @@ clamp_last m r end s ch is le = elim (cases_lt 0 r.length) [
       let last = div-add-mod' (end_of r - 1) (stripe_length m) in
       let rest = mod_below (end_of r - 1) (stripe_length m) (some_stripe m ch) in
       let next : (stripe_of m (end_of r - 1) + 1) * stripe_length m ≡ stripe_of m
-          (end_of r - 1) * stripe_length m + stripe_length m = omega arith in
+      (end_of r - 1) * stripe_length m + stripe_length m = omega arith in
       let up : (stripe_of m (end_of r - 1) + 1) * stripe_length m ≤ s * stripe_length m =
-          mul-le-mul_right (stripe_length m) (omega (arith, is some, le)) in
+      mul-le-mul_right (stripe_length m) (omega (arith, is some, le)) in
       omega (arith, last, rest, next, up, some)
   | inr none ↦ omega (arith, none)
 ]

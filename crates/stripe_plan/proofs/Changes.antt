@@ -33,7 +33,7 @@ exchange : (x d p v : ℕ) → bit_xor (bit_xor (bit_xor x (bit_xor d p)) d) v �
 exchange x d p v =
     let out : bit_xor (bit_xor x (bit_xor d p)) d ≡ bit_xor x p =
     ap (λ (n : ℕ). bit_xor n d) (sym (xor_assoc x d p)) ∙ xor_right_comm (bit_xor x d) p d
-        ∙ ap (λ (n : ℕ). bit_xor n p) (xor_assoc x d d ∙ ap (bit_xor x) (xor_self d) ∙ xor_zero_r x) in
+    ∙ ap (λ (n : ℕ). bit_xor n p) (xor_assoc x d d ∙ ap (bit_xor x) (xor_self d) ∙ xor_zero_r x) in
     ap (λ (n : ℕ). bit_xor n v) out ∙ xor_right_comm x p v
 
 p_follows : (x : ℕ) (news : List (Option ℕ)) (olds ds : List ℕ) → AreOld news olds ds →
@@ -43,11 +43,11 @@ p_follows x (n ∷ ns) [] ds e = absurd e
 p_follows x (n ∷ ns) (o ∷ os) [] e = absurd e
 p_follows x (None ∷ ns) (o ∷ os) (d ∷ ds) e =
     ap (p_changed ns os) (sym (xor_assoc x d (p_of ds))) ∙ p_follows (bit_xor x d) ns os ds e
-        ∙ xor_assoc x d (p_of (overlaid ns ds))
+    ∙ xor_assoc x d (p_of (overlaid ns ds))
 p_follows x (Some v ∷ ns) (o ∷ os) (d ∷ ds) e =
     ap (λ (a : ℕ). p_changed ns os (bit_xor (bit_xor (bit_xor x (bit_xor d (p_of ds))) a) v)) e.0
     ∙ ap (p_changed ns os) (exchange x d (p_of ds) v) ∙ p_follows (bit_xor x v) ns os ds e.1
-        ∙ xor_assoc x v (p_of (overlaid ns ds))
+    ∙ xor_assoc x v (p_of (overlaid ns ds))
 
 q_follows : (i x : ℕ) (news : List (Option ℕ)) (olds ds : List ℕ) → AreOld news olds ds →
     q_changed i news olds (bit_xor x (q_from i ds)) ≡ bit_xor x (q_from i (overlaid news ds))
@@ -56,14 +56,14 @@ q_follows i x (n ∷ ns) [] ds e = absurd e
 q_follows i x (n ∷ ns) (o ∷ os) [] e = absurd e
 q_follows i x (None ∷ ns) (o ∷ os) (d ∷ ds) e =
     ap (q_changed (i + 1) ns os) (sym (xor_assoc x (product (two_to i) d) (q_from (i + 1) ds)))
-        ∙ q_follows (i + 1) (bit_xor x (product (two_to i) d)) ns os ds e
+    ∙ q_follows (i + 1) (bit_xor x (product (two_to i) d)) ns os ds e
     ∙ xor_assoc x (product (two_to i) d) (q_from (i + 1) (overlaid ns ds))
 q_follows i x (Some v ∷ ns) (o ∷ os) (d ∷ ds) e =
     ap (λ (a : ℕ). q_changed (i + 1) ns os
-        (bit_xor (bit_xor (bit_xor x (bit_xor (product (two_to i) d) (q_from (i + 1) ds))) (product (two_to i) a))
-        (product (two_to i) v))) e.0
+    (bit_xor (bit_xor (bit_xor x (bit_xor (product (two_to i) d) (q_from (i + 1) ds))) (product (two_to i) a))
+    (product (two_to i) v))) e.0
     ∙ ap (q_changed (i + 1) ns os) (exchange x (product (two_to i) d) (q_from (i + 1) ds) (product (two_to i) v))
-        ∙ q_follows (i + 1) (bit_xor x (product (two_to i) v)) ns os ds e.1
+    ∙ q_follows (i + 1) (bit_xor x (product (two_to i) v)) ns os ds e.1
     ∙ xor_assoc x (product (two_to i) v) (q_from (i + 1) (overlaid ns ds))
 
 pub delta_follows : (news : List (Option ℕ)) (olds ds : List ℕ) → AreOld news olds ds →

@@ -81,11 +81,11 @@ known_at m got out s b c (suc n) (suc k) lt = let z : c + suc k ≡ c + 1 + k = 
 pub known_agrees : (m : RawMap) (got : List Column) (out : List ℕ) (d : ℕ → ℕ) (s b : ℕ) → IsChecked m →
     ((c : ℕ) → c < group_width m → is_out m out (position_of m s c) ≡ false → got_at m got s b c ≡ word_of m d s b c) →
     AgreeOutside (lost_from m out s 0 (group_width m)) (codeword (code_of m) (data_at m d s b))
-        (known_from m got out s b 0 (group_width m))
+    (known_from m got out s b 0 (group_width m))
 known_agrees m got out d s b ch had =
     let cw = codeword (code_of m) (data_at m d s b) in
     let wide : length cw ≡ group_width m =
-        length_codeword (code_of m) (data_at m d s b) ∙ omega (arith, data_long m d s b, code_count m, ch.some_data) in
+    length_codeword (code_of m) (data_at m d s b) ∙ omega (arith, data_long m d s b, code_count m, ch.some_data) in
     let known = known_long m got out s b 0 (group_width m) in
     record {
       long = wide ∙ sym known;
@@ -93,9 +93,9 @@ known_agrees m got out d s b ch had =
         | inl low ↦
             let zk : 0 + k ≡ k = omega arith in
             let left : get_or
-                (known_from m got out s b 0 (group_width m)) k 0
-                    ≡ (if is_out m out (position_of m s k) then 0 else got_at m got s b k) =
-                    rw zk at (known_at m got out s b 0 (group_width m) k low) in
+            (known_from m got out s b 0 (group_width m)) k 0
+            ≡ (if is_out m out (position_of m s k) then 0 else got_at m got s b k) =
+            rw zk at (known_at m got out s b 0 (group_width m) k low) in
             elim (cases_Bool (is_out m out (position_of m s k))) [
               | inl gone ↦ absurd
                   (none (contained k (lost_from m out s 0 (group_width m))
@@ -116,10 +116,10 @@ decoded_is m got out d s b ch bytes had few =
     let long = data_long m d s b in
     let lost = lost_from m out s 0 (group_width m) in
     let end : 0 + group_width m ≡ length (data_at m d s b) + count_of (code_of m) =
-        omega (arith, long, code_count m, ch.some_data) in
+    omega (arith, long, code_count m, ch.some_data) in
     let are : AreLost (code_of m) (length (data_at m d s b)) lost =
-        are_lost (code_of m) (length (data_at m d s b)) lost (rw end at (lost_rises m out s 0 (group_width m)))
-            (omega (arith, few, code_count m)) (count_most (code_of m)) in
+    are_lost (code_of m) (length (data_at m d s b)) lost (rw end at (lost_rises m out s 0 (group_width m)))
+    (omega (arith, few, code_count m)) (count_most (code_of m)) in
     ap (λ (n : ℕ). decoded n lost (known_from m got out s b 0 (group_width m))) (sym long)
     ∙ decoded_back (code_of m) (data_at m d s b) lost (known_from m got out s b 0 (group_width m)) (data_bytes m d s b bytes)
-        (omega (arith, long, ch.narrow)) are (known_agrees m got out d s b ch had)
+    (omega (arith, long, ch.narrow)) are (known_agrees m got out d s b ch had)

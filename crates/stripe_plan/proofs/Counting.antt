@@ -21,9 +21,9 @@ unfolding lost_from out_from
 run m out s c p zero e = refl
 run m out s c p (suc n) e =
     let here : position_of m s c ≡ p = let z : c + 0 ≡ c = omega arith in let y : p + 0 ≡ p = omega arith in
-        rw (z, y) at (e 0 (omega arith)) in
+    rw (z, y) at (e 0 (omega arith)) in
     let rest = run m out s (c + 1) (p + 1) n (λ j lt. let z : c + 1 + j ≡ c + (j + 1) = omega arith in
-        let y : p + 1 + j ≡ p + (j + 1) = omega arith in rw (z, y) (e (j + 1) (omega (arith, lt)))) in
+    let y : p + 1 + j ≡ p + (j + 1) = omega arith in rw (z, y) (e (j + 1) (omega (arith, lt)))) in
     rw here (elim (cases_Bool (is_out m out p)) [ inl t ↦ rw t (omega (arith, rest)) | inr f ↦ rw f rest ])
 
 pub lost_split : (m : RawMap) (out : List ℕ) (s c a b : ℕ) →
@@ -76,12 +76,12 @@ counted m out s ch = elim (cases_eq m.algorithm 3) [
       let second = run m out s t (group_of m s * group_width m) (group_width m - t)
       (λ j lt. omega (arith, turned_high m s (t + j) turns (omega arith) (omega (arith, lt, wide)))) in
       let beyond : length (lost_from m out s (0 + t) (group_width m - t)) ≡ length
-          (out_from m out (group_of m s * group_width m) (group_width m - t)) = rw z second in
+      (out_from m out (group_of m s * group_width m) (group_width m - t)) = rw z second in
       let sum : length (lost_from m out s 0 t) + length (lost_from m out s (0 + t) (group_width m - t)) ≡ length
-          (out_from m out (group_of m s * group_width m) (group_width m - t + t)) =
+      (out_from m out (group_of m s * group_width m) (group_width m - t + t)) =
       omega (arith, first, beyond, out_split m out (group_of m s * group_width m) (group_width m - t) t) in
       ap (λ (n : ℕ). length (lost_from m out s 0 n)) up ∙ lost_split m out s 0 t (group_width m - t) ∙ sum
-          ∙ ap (λ (n : ℕ). length (out_from m out (group_of m s * group_width m) n)) (sym down)
+      ∙ ap (λ (n : ℕ). length (out_from m out (group_of m s * group_width m) n)) (sym down)
 ]
 
 -- ---- rising

@@ -25,7 +25,7 @@ numbers_more test [] t n = elim (cases_Bool (test t)) [
 numbers_more test (x ∷ ts) t n =
     let at : n + 1 + length ts ≡ n + suc (length ts) = omega arith in
     let more : numbers_from test (ts ++ t ∷ []) (n + 1) ≡ numbers_from test ts
-        (n + 1) ++ (if test t then (n + suc (length ts)) ∷ [] else []) =
+    (n + 1) ++ (if test t then (n + suc (length ts)) ∷ [] else []) =
     numbers_more test ts t (n + 1) ∙ ap (λ (z : ℕ). numbers_from test ts (n + 1) ++ (if test t then z ∷ [] else [])) at in
     elim (cases_Bool (test x)) [
       | inl holds ↦ rw holds (ap (λ (ns : List ℕ). n ∷ ns) more)
@@ -45,11 +45,16 @@ unfolding numbers_from Sifts
 sifted test p i [] n all = refl
 sifted test p i (t ∷ ts) n all = elim (cases_Bool (test t)) [
   | inl holds ↦ rw holds
-      (inl (numbers_from test ts (n + 1), refl,
-      sifted test p i ts (n + 1) (All-tail (λ (x : Stretch). test x ≡ false → IsApart p i x) t ts all)))
+      (inl (
+        numbers_from test ts (n + 1),
+        refl,
+        sifted test p i ts (n + 1) (All-tail (λ (x : Stretch). test x ≡ false → IsApart p i x) t ts all),
+      ))
   | inr fails ↦ rw fails
-      (inr (All-head (λ (x : Stretch). test x ≡ false → IsApart p i x) t ts all fails,
-      sifted test p i ts (n + 1) (All-tail (λ (x : Stretch). test x ≡ false → IsApart p i x) t ts all)))
+      (inr (
+        All-head (λ (x : Stretch). test x ≡ false → IsApart p i x) t ts all fails,
+        sifted test p i ts (n + 1) (All-tail (λ (x : Stretch). test x ≡ false → IsApart p i x) t ts all),
+      ))
 ]
 
 -- each number is one of them
@@ -105,8 +110,12 @@ row_apart lists unit p i t short inside other_list = elim (cases_eq t.position p
         | inl lt ↦ inl
             (omega (arith, inside.1, rows_rise (t.first / unit) (i.first / unit) unit lt, div-mul-le_self i.first unit))
         | inr le ↦ inr
-            (omega (arith, short, rows_rise (i.first / unit) (t.first / unit) unit (omega (arith, le, differ)),
-            div-mul-le_self t.first unit))
+            (omega (
+              arith,
+              short,
+              rows_rise (i.first / unit) (t.first / unit) unit (omega (arith, le, differ)),
+              div-mul-le_self t.first unit,
+            ))
       ],
     )
   ]
@@ -118,17 +127,17 @@ found_every p i ts =
 
 pub found_list : (x : RowIndex) (p : ℕ) (i : Interval) (ts : List Stretch) (list lists : ℕ) (ns : List ℕ) → Indexes ts x →
     (x.is_regular ≡ true) × IsInRow x.unit (record { position = 0; first = i.first; end = i.end }) → lists ≡ length x.lists →
-        list ≡ list_of lists p (i.first / x.unit) → list < lists → ns ≡ get_or x.lists list [] →
+    list ≡ list_of lists p (i.first / x.unit) → list < lists → ns ≡ get_or x.lists list [] →
     Sifts p i ts 0 ns
 found_list x p i ts list lists ns k w is_lists is_list lt is =
     let at : list ≡ list_of (length x.lists) p (i.first / x.unit) =
-        is_list ∙ ap (λ (z : ℕ). list_of z p (i.first / x.unit)) is_lists in
+    is_list ∙ ap (λ (z : ℕ). list_of z p (i.first / x.unit)) is_lists in
     rw (is ∙ k.each list (omega (arith, lt, is_lists))
-        ∙ ap (λ (z : ℕ). numbers_from (stands_in (length x.lists) x.unit z) ts 0) at)
+    ∙ ap (λ (z : ℕ). numbers_from (stands_in (length x.lists) x.unit z) ts 0) at)
     (sifted (stands_in (length x.lists) x.unit (list_of (length x.lists) p (i.first / x.unit))) p i ts 0
     (all_weaker (IsInRow x.unit)
-        (λ (t : Stretch). stands_in (length x.lists) x.unit (list_of (length x.lists) p (i.first / x.unit)) t ≡ false →
-        IsApart p i t) (λ t inside. row_apart (length x.lists) x.unit p i t w.1.1 inside) ts (k.rows w.0)))
+    (λ (t : Stretch). stands_in (length x.lists) x.unit (list_of (length x.lists) p (i.first / x.unit)) t ≡ false →
+    IsApart p i t) (λ t inside. row_apart (length x.lists) x.unit p i t w.1.1 inside) ts (k.rows w.0)))
 
 pub fresh : (unit n : ℕ) (regular : Bool) (every : List ℕ) (lists : List (List ℕ)) → 0 < unit → (regular ≡ true → 0 < n) →
     n ≤ MOST_LISTS → every ≡ [] → AreEmpty n lists →
@@ -146,18 +155,18 @@ one_list : (ts : List Stretch) (t : Stretch) (x : RowIndex) (list number j : ℕ
     list ≡ list_of (length x.lists) t.position (t.first / x.unit) → list < length x.lists → j < length x.lists →
     get_or (set x.lists list (get_or x.lists list [] ++ number ∷ [])) j []
     ≡ numbers_from
-        (stands_in (length x.lists) x.unit j) ts 0 ++ (if stands_in (length x.lists) x.unit j t then (0 + length ts) ∷ [] else [])
+    (stands_in (length x.lists) x.unit j) ts 0 ++ (if stands_in (length x.lists) x.unit j t then (0 + length ts) ∷ [] else [])
 one_list ts t x list number j k at is_list lt l = elim (cases_eq list j) [
   | inl same ↦
       rw (eq-eqb (list_of (length x.lists) t.position (t.first / x.unit)) j (sym is_list ∙ same))
       (get_or-set_at x.lists list j (get_or x.lists list [] ++ number ∷ []) [] (sym same) lt
       ∙ ap (λ (ns : List ℕ). ns ++ number ∷ [])
-          (k.each list lt ∙ ap (λ (z : ℕ). numbers_from (stands_in (length x.lists) x.unit z) ts 0) same)
+      (k.each list lt ∙ ap (λ (z : ℕ). numbers_from (stands_in (length x.lists) x.unit z) ts 0) same)
       ∙ ap (λ (z : ℕ). numbers_from (stands_in (length x.lists) x.unit j) ts 0 ++ z ∷ []) at)
   | inr other ↦
       rw (ne_eqb (list_of (length x.lists) t.position (t.first / x.unit)) j (λ e. other (is_list ∙ e)))
       (get_or-set_other x.lists list j (get_or x.lists list [] ++ number ∷ []) [] (λ e. other (sym e)) ∙ k.each j l
-          ∙ sym (append-nil (numbers_from (stands_in (length x.lists) x.unit j) ts 0)))
+      ∙ sym (append-nil (numbers_from (stands_in (length x.lists) x.unit j) ts 0)))
 ]
 
 pub pushed : (ts : List Stretch) (t : Stretch) (x : RowIndex) (regular : Bool) (every : List ℕ) (lists : List (List ℕ))
@@ -165,8 +174,8 @@ pub pushed : (ts : List Stretch) (t : Stretch) (x : RowIndex) (regular : Bool) (
     (regular ≡ true → (x.is_regular ≡ true) × IsInRow x.unit t) → number ≡ length x.every → every ≡ x.every ++ number ∷ [] →
     (length x.lists ≡ 0 → lists ≡ x.lists) →
     (0 < length x.lists →
-        lists ≡ set x.lists (list_of (length x.lists) t.position (t.first / x.unit))
-            (get_or x.lists (list_of (length x.lists) t.position (t.first / x.unit)) [] ++ number ∷ [])) →
+    lists ≡ set x.lists (list_of (length x.lists) t.position (t.first / x.unit))
+    (get_or x.lists (list_of (length x.lists) t.position (t.first / x.unit)) [] ++ number ∷ [])) →
     (0 < length x.lists → list_of (length x.lists) t.position (t.first / x.unit) < length x.lists) →
     Indexes (ts ++ t ∷ []) (record { unit = x.unit; is_regular = regular; every = every; lists = lists })
 pushed ts t x regular every lists number k keeps is_number is_every no_lists is_lists lt =
@@ -183,8 +192,8 @@ pushed ts t x regular every lists number k keeps is_number is_every no_lists is_
       each = λ j l.
           let some : 0 < length x.lists = omega (arith, l, long) in
           rw long (ap (λ (ls : List (List ℕ)). get_or ls j []) (is_lists some)
-              ∙ one_list ts t x list number j k at refl (lt some) (omega (arith, l, long))
-              ∙ sym (numbers_more (stands_in (length x.lists) x.unit j) ts t 0));
+          ∙ one_list ts t x list number j k at refl (lt some) (omega (arith, l, long))
+          ∙ sym (numbers_more (stands_in (length x.lists) x.unit j) ts t 0));
       rows = λ e. All-append (IsInRow x.unit) ts (t ∷ []) (k.rows (keeps e).0)
           (All-cons (IsInRow x.unit) t [] (keeps e).1 (All-nil (IsInRow x.unit)));
     }

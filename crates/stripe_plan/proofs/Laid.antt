@@ -13,7 +13,7 @@ pub put_before : (old part : List ℕ) (a k : ℕ) → a + length part ≤ lengt
     get_or (take a old ++ (part ++ drop (a + length part) old)) k 0 ≡ get_or old k 0
 put_before old part a k room lt =
     get_or_append_left (take a old) (part ++ drop (a + length part) old) 0 k
-        (omega (arith, lt, length-take-le a old (omega (arith, room)))) ∙ get_or-take a old k 0 lt
+    (omega (arith, lt, length-take-le a old (omega (arith, room)))) ∙ get_or-take a old k 0 lt
 
 pub put_in : (old part : List ℕ) (a k : ℕ) → a + length part ≤ length old → a ≤ k → k < a + length part →
     get_or (take a old ++ (part ++ drop (a + length part) old)) k 0 ≡ get_or part (k - a) 0
@@ -26,29 +26,34 @@ pub put_behind : (old part : List ℕ) (a k : ℕ) → a + length part ≤ lengt
 put_behind old part a k room le =
     let at : a + length part + (k - a - length part) ≡ k = omega (arith, le) in
     get_or-append_right (take a old) (part ++ drop (a + length part) old) a k 0 (length-take-le a old (omega (arith, room)))
-        (omega (arith, le))
+    (omega (arith, le))
     ∙ get_or-append_right part (drop (a + length part) old) (length part) (k - a) 0 refl (omega (arith, le))
     ∙ get_or-drop (a + length part) old (k - a - length part) 0 ∙ ap (λ (z : ℕ). get_or old z 0) at
 
 laid_long : (old part : List ℕ) (a : ℕ) → a + length part ≤ length old →
     length (take a old ++ (part ++ drop (a + length part) old)) ≡ length old
 laid_long old part a room =
-    omega (arith, length-append (take a old) (part ++ drop (a + length part) old),
-        length-append part (drop (a + length part) old), length-take-le a old (omega (arith, room)),
-        length-drop (a + length part) old, room)
+    omega (
+      arith,
+      length-append (take a old) (part ++ drop (a + length part) old),
+      length-append part (drop (a + length part) old),
+      length-take-le a old (omega (arith, room)),
+      length-drop (a + length part) old,
+      room,
+    )
 
 -- where the bytes and the buffer meet, from start to end
 laid_part : (offset from start end : ℕ) (bytes old part : List ℕ) (k : ℕ) → start ≡ max offset from →
     end ≡ min (offset + length old) (from + length bytes) → start < end → k < length old →
     part ≡ take (end - start) (drop (start - from) bytes) →
     get_or (take (start - offset) old ++ (part ++ drop (start - offset + length part) old)) k 0 ≡ laid_at from bytes (offset + k)
-        (get_or old k 0)
+    (get_or old k 0)
 unfolding laid_at
 laid_part offset from start end bytes old part k is_start is_end lt k_lt is_part =
     let long : length part ≡ end - start =
-        ap length is_part
-        ∙ length-take-le (end - start) (drop (start - from) bytes)
-            (omega (arith, length-drop (start - from) bytes, is_start, is_end, lt)) in
+    ap length is_part
+    ∙ length-take-le (end - start) (drop (start - from) bytes)
+    (omega (arith, length-drop (start - from) bytes, is_start, is_end, lt)) in
     let room : start - offset + length part ≤ length old = omega (arith, long, is_start, is_end, lt) in
     elim (cases_lt (offset + k) from) [
       | inl before ↦ rw (lt-leb from (offset + k) before)
@@ -58,10 +63,10 @@ laid_part offset from start end bytes old part k is_start is_end lt k_lt is_part
             let at : start - from + (k - (start - offset)) ≡ offset + k - from = omega (arith, is_start, after) in
             rw (le-leb from (offset + k) after, lt-ltb (offset + k) (from + length bytes) inside)
             (put_in old part (start - offset) k room (omega (arith, is_start, after))
-                (omega (arith, long, is_start, is_end, lt, inside, k_lt))
+            (omega (arith, long, is_start, is_end, lt, inside, k_lt))
             ∙ ap (λ (xs : List ℕ). get_or xs (k - (start - offset)) 0) is_part
             ∙ get_or-take (end - start) (drop (start - from) bytes) (k - (start - offset)) 0
-                (omega (arith, is_start, is_end, lt, inside, after, k_lt))
+            (omega (arith, is_start, is_end, lt, inside, after, k_lt))
             ∙ get_or-drop (start - from) bytes (k - (start - offset)) 0 ∙ ap (λ (z : ℕ). get_or bytes z 0) at)
         | inr past ↦ rw (le-leb from (offset + k) after, le-ltb (offset + k) (from + length bytes) past)
             (put_behind old part (start - offset) k room (omega (arith, long, is_start, is_end, lt, past)))
@@ -84,12 +89,12 @@ laid_none offset from start end bytes old k is_start is_end le k_lt = elim (case
 pub laid_all : (offset from start end : ℕ) (bytes old part new : List ℕ) → start ≡ max offset from →
     end ≡ min (offset + length old) (from + length bytes) → start < end →
     part ≡ take (end - start) (drop (start - from) bytes) →
-        new ≡ take (start - offset) old ++ (part ++ drop (start - offset + length part) old) → Laid offset from bytes old new
+    new ≡ take (start - offset) old ++ (part ++ drop (start - offset + length part) old) → Laid offset from bytes old new
 laid_all offset from start end bytes old part new is_start is_end lt is_part is_new =
     let long : length part ≡ end - start =
-        ap length is_part
-        ∙ length-take-le (end - start) (drop (start - from) bytes)
-            (omega (arith, length-drop (start - from) bytes, is_start, is_end, lt)) in
+    ap length is_part
+    ∙ length-take-le (end - start) (drop (start - from) bytes)
+    (omega (arith, length-drop (start - from) bytes, is_start, is_end, lt)) in
     record {
       long = ap length is_new ∙ laid_long old part (start - offset) (omega (arith, long, is_start, is_end, lt));
       each = λ k k_lt. ap (λ (xs : List ℕ). get_or xs k 0) is_new
@@ -133,4 +138,4 @@ pub all_filled : (cols : List Column) (p offset n : ℕ) (bytes : List ℕ) → 
 all_filled cols p offset n bytes f =
     same_number_lists bytes (bytes_at cols p offset n) (f.long ∙ sym (length-map-range_with_len (byte_at cols p) offset n))
     (λ k lt. f.each k (omega (arith, lt, f.long))
-        ∙ sym (get_or-map-range_with_len (byte_at cols p) offset n k (offset + k) 0 (omega (arith, lt, f.long)) refl))
+    ∙ sym (get_or-map-range_with_len (byte_at cols p) offset n k (offset + k) 0 (omega (arith, lt, f.long)) refl))

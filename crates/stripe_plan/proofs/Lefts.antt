@@ -12,8 +12,11 @@ pub empty : (ts : List Stretch) (p : ℕ) (i : Interval) → i.end ≤ i.first �
 unfolding without
 empty [] p i le = rw (le-ltb i.first i.end le) refl
 empty (t ∷ ts) p i le = elim (cases_eq t.position p) [
-  | inl same ↦ rw (eq-eqb t.position p same, empty ts p (before t i) (omega (arith, le)),
-      empty ts p (behind t i) (omega (arith, le))) refl
+  | inl same ↦ rw (
+    eq-eqb t.position p same,
+    empty ts p (before t i) (omega (arith, le)),
+    empty ts p (behind t i) (omega (arith, le)),
+  ) refl
   | inr other ↦ rw (ne_eqb t.position p other) (empty ts p i le)
 ]
 
@@ -34,9 +37,9 @@ cut_again t [] = refl
 cut_again t (i ∷ is) =
     flat_map-append some_of (cut t i) (flat_map (cut t) is)
     ∙ ap (λ xs. xs ++ flat_map some_of (flat_map (cut t) is))
-        (flat_map-append some_of (some_of (before t i)) (some_of (behind t i))
-        ∙ ap (λ xs. xs ++ flat_map some_of (some_of (behind t i))) (some_again (before t i))
-        ∙ ap (λ xs. some_of (before t i) ++ xs) (some_again (behind t i)))
+    (flat_map-append some_of (some_of (before t i)) (some_of (behind t i))
+    ∙ ap (λ xs. xs ++ flat_map some_of (some_of (behind t i))) (some_again (before t i))
+    ∙ ap (λ xs. some_of (before t i) ++ xs) (some_again (behind t i)))
     ∙ ap (λ xs. cut t i ++ xs) (cut_again t is)
 
 -- one stretch more
@@ -47,9 +50,9 @@ cut_out t ts p [] same = refl
 cut_out t ts p (i ∷ is) same =
     flat_map-append (without ts p) (cut t i) (flat_map (cut t) is)
     ∙ ap (λ xs. xs ++ flat_map (without ts p) (flat_map (cut t) is))
-        (flat_map-append (without ts p) (some_of (before t i)) (some_of (behind t i))
-        ∙ ap (λ xs. xs ++ flat_map (without ts p) (some_of (behind t i))) (of_some ts p (before t i))
-        ∙ ap (λ xs. without ts p (before t i) ++ xs) (of_some ts p (behind t i)))
+    (flat_map-append (without ts p) (some_of (before t i)) (some_of (behind t i))
+    ∙ ap (λ xs. xs ++ flat_map (without ts p) (some_of (behind t i))) (of_some ts p (before t i))
+    ∙ ap (λ xs. without ts p (before t i) ++ xs) (of_some ts p (behind t i)))
     ∙ ap (λ xs. (without ts p (before t i) ++ without ts p (behind t i)) ++ xs) (cut_out t ts p is same)
     ∙ sym (rw (eq-eqb t.position p same) refl)
 

@@ -70,16 +70,16 @@ parities_more n is f j all rows d lt h one =
             | inl same ↦
                 let at : k ≡ length all + 0 = omega (arith, same, had) in
                 let there : get_or (all ++ (rows ∷ [])) k [] ≡ rows =
-                    ap (λ (z : ℕ). get_or (all ++ (rows ∷ [])) z []) at ∙ get_or-append-add all (rows ∷ []) 0 [] in
+                ap (λ (z : ℕ). get_or (all ++ (rows ∷ [])) z []) at ∙ get_or-append-add all (rows ∷ []) 0 [] in
                 let here : get_or (take (j + 1) is) k e ≡ get_or is j d =
-                    get_or-take (j + 1) is k e low ∙ ap (λ (z : ℕ). get_or is z e) same ∙ any_default is j e d lt in
+                get_or-take (j + 1) is k e low ∙ ap (λ (z : ℕ). get_or is z e) same ∙ any_default is j e d lt in
                 rw (there, here) one
             | inr other ↦
                 let less : k < j = omega (arith, low, other) in
                 let there : get_or (all ++ (rows ∷ [])) k [] ≡ get_or all k [] =
-                    get_or_append_left all (rows ∷ []) [] k (omega (arith, less, had)) in
+                get_or_append_left all (rows ∷ []) [] k (omega (arith, less, had)) in
                 let here : get_or (take (j + 1) is) k e ≡ get_or (take j is) k e =
-                    get_or-take (j + 1) is k e low ∙ sym (get_or-take j is k e less) in
+                get_or-take (j + 1) is k e low ∙ sym (get_or-take j is k e less) in
                 rw (there, here) (h.each k e (omega (arith, less, had, h.long)))
           ];
     }
@@ -112,15 +112,19 @@ data_written m r bytes got out s c p low =
     each : (is : List Interval) → written_columns m r bytes got out s c p is ≡ map (data_column m r bytes s c p) is
     each [] = refl
     each (i ∷ is) =
-        ap (λ xs. record { position = p; offset = offset_of m s i.first; bytes =
-            xs } ∷ written_columns m r bytes got out s c p is)
+        ap (λ xs. record {
+          position = p;
+          offset = offset_of m s i.first;
+          bytes =
+              xs;
+        } ∷ written_columns m r bytes got out s c p is)
         (same_range (λ (b : ℕ). word_at m r bytes got out s b c) (λ (b : ℕ). unwrap_or (new_at m r bytes s b c) 0) i.first
-            (i.end - i.first) (λ b le l. word_data m r bytes got out s b c low))
+        (i.end - i.first) (λ b le l. word_data m r bytes got out s b c low))
         ∙ ap (λ xs. data_column m r bytes s c p i ∷ xs) (each is)
 
 pub parity_written : (m : RawMap) (r : Span) (bytes : List ℕ) (got : List Column) (out : List ℕ) (s c p : ℕ) → data_units m ≤ c →
     written_columns m r bytes got out s c p (changed m r s c) ≡ parity_columns m s p (parity_at m r bytes got out s)
-        (c - data_units m) (columns m r s)
+    (c - data_units m) (columns m r s)
 parity_written m r bytes got out s c p past =
     ap (λ is. written_columns m r bytes got out s c p is) (changed_all m r s c past) ∙ each (columns m r s)
   where
@@ -128,11 +132,15 @@ parity_written m r bytes got out s c p past =
         written_columns m r bytes got out s c p is ≡ parity_columns m s p (parity_at m r bytes got out s) (c - data_units m) is
     each [] = refl
     each (i ∷ is) =
-        ap (λ xs. record { position = p; offset = offset_of m s i.first; bytes =
-            xs } ∷ written_columns m r bytes got out s c p is)
+        ap (λ xs. record {
+          position = p;
+          offset = offset_of m s i.first;
+          bytes =
+              xs;
+        } ∷ written_columns m r bytes got out s c p is)
         (same_range (λ (b : ℕ). word_at m r bytes got out s b c)
-            (λ (b : ℕ). parity_at m r bytes got out s b (c - data_units m)) i.first (i.end - i.first)
-                (λ b le l. word_parity m r bytes got out s b c past))
+        (λ (b : ℕ). parity_at m r bytes got out s b (c - data_units m)) i.first (i.end - i.first)
+        (λ b le l. word_parity m r bytes got out s b c past))
         ∙ ap (λ xs. parity_column m s p (parity_at m r bytes got out s) (c - data_units m) i ∷ xs) (each is)
 
 -- the range's own columns of a data unit
@@ -158,30 +166,30 @@ own_bytes m r bytes s c i part size is lt is_part =
     let end = own_end m r s c i is in
     let long : length part ≡ i.end - i.first =
     ap length is_part
-        ∙ length-take-le (i.end - i.first) (drop (unit_start m s c + i.first - r.offset) bytes)
-            (omega (arith, length-drop (unit_start m s c + i.first - r.offset) bytes, size, first, end, lt)) in
+    ∙ length-take-le (i.end - i.first) (drop (unit_start m s c + i.first - r.offset) bytes)
+    (omega (arith, length-drop (unit_start m s c + i.first - r.offset) bytes, size, first, end, lt)) in
     same_number_lists part _
-        (long ∙ sym (length-map-range_with_len (λ (b : ℕ). unwrap_or (new_at m r bytes s b c) 0) i.first (i.end - i.first)))
+    (long ∙ sym (length-map-range_with_len (λ (b : ℕ). unwrap_or (new_at m r bytes s b c) 0) i.first (i.end - i.first)))
     (λ k k_lt.
     let low : k < i.end - i.first = omega (arith, k_lt, long) in
     let at : unit_start m s c + i.first - r.offset + k ≡ unit_start m s c + (i.first + k) - r.offset = omega (arith, first, lt) in
     ap (λ (xs : List ℕ). get_or xs k 0) is_part
-        ∙ get_or-take (i.end - i.first) (drop (unit_start m s c + i.first - r.offset) bytes) k 0 low
-        ∙ get_or-drop (unit_start m s c + i.first - r.offset) bytes k 0
+    ∙ get_or-take (i.end - i.first) (drop (unit_start m s c + i.first - r.offset) bytes) k 0 low
+    ∙ get_or-drop (unit_start m s c + i.first - r.offset) bytes k 0
     ∙ ap (λ (z : ℕ). get_or bytes z 0) at
-        ∙ sym (ap (λ (n : Option ℕ). unwrap_or n 0)
-        (new_inside m r bytes s (i.first + k) c i is (omega arith) (omega (arith, low))))
+    ∙ sym (ap (λ (n : Option ℕ). unwrap_or n 0)
+    (new_inside m r bytes s (i.first + k) c i is (omega arith) (omega (arith, low))))
     ∙ sym (get_or-map-range_with_len (λ (b : ℕ). unwrap_or (new_at m r bytes s b c) 0) i.first (i.end - i.first) k
-        (i.first + k) 0 low refl))
+    (i.first + k) 0 low refl))
 
 pub data_pushed : (m : RawMap) (r : Span) (bytes : List ℕ) (s c p o : ℕ) (i : Interval) (part : List ℕ) (made new : List Column) →
     c < data_units m → i ≡ own m r s c → i.first < i.end →
     part ≡ new_in m r bytes s c i → o ≡ offset_of m s i.first →
-        new ≡ made ++ (record { position = p; offset = o; bytes = part } ∷ []) → new ≡ made ++ data_columns m r bytes s c p
+    new ≡ made ++ (record { position = p; offset = o; bytes = part } ∷ []) → new ≡ made ++ data_columns m r bytes s c p
 data_pushed m r bytes s c p o i part made new low is lt is_part at e =
     e ∙ ap (λ (z : ℕ). made ++ (record { position = p; offset = z; bytes = part } ∷ [])) at
     ∙ ap (λ (xs : List ℕ). made ++ (record { position = p; offset = offset_of m s i.first; bytes = xs } ∷ [])) is_part
-        ∙ ap (λ is. made ++ map (data_column m r bytes s c p) is) (sym (own_one m r s c i low is lt))
+    ∙ ap (λ is. made ++ map (data_column m r bytes s c p) is) (sym (own_one m r s c i low is lt))
 
 -- ---- one place
 
@@ -192,20 +200,20 @@ unfolding written_place
 place_data m r bytes got out s i c p is_c is_p there low =
     let here : is_out m out (group_of m s * group_width m + i) ≡ false = rw is_p at there in
     rw here (sym (data_written m r bytes got out s c p low)
-        ∙ ap (λ (z : ℕ). written_columns m r bytes got out s z p (changed m r s z)) is_c
+    ∙ ap (λ (z : ℕ). written_columns m r bytes got out s z p (changed m r s z)) is_c
     ∙ ap (λ (z : ℕ). written_columns m r bytes got out s (unit_in m s i) z (changed m r s (unit_in m s i))) is_p)
 
 pub place_parity : (m : RawMap) (r : Span) (bytes : List ℕ) (got : List Column) (out : List ℕ) (s i c p row : ℕ)
     (is : List Interval) → c ≡ unit_in m s i → p ≡ group_of m s * group_width m + i → is_out m out p ≡ false → data_units m ≤ c →
     row ≡ c - data_units m → is ≡ columns m r s →
-        parity_columns m s p (parity_at m r bytes got out s) row is ≡ written_place m r bytes got out s i
+    parity_columns m s p (parity_at m r bytes got out s) row is ≡ written_place m r bytes got out s i
 unfolding written_place
 place_parity m r bytes got out s i c p row is is_c is_p there past is_row all =
     let here : is_out m out (group_of m s * group_width m + i) ≡ false = rw is_p at there in
     rw here (ap (λ (z : ℕ). parity_columns m s p (parity_at m r bytes got out s) z is) is_row
-        ∙ ap (parity_columns m s p (parity_at m r bytes got out s) (c - data_units m)) all
+    ∙ ap (parity_columns m s p (parity_at m r bytes got out s) (c - data_units m)) all
     ∙ sym (parity_written m r bytes got out s c p past)
-        ∙ ap (λ (z : ℕ). written_columns m r bytes got out s z p (changed m r s z)) is_c
+    ∙ ap (λ (z : ℕ). written_columns m r bytes got out s z p (changed m r s z)) is_c
     ∙ ap (λ (z : ℕ). written_columns m r bytes got out s (unit_in m s i) z (changed m r s (unit_in m s i))) is_p)
 
 -- ---- all places and stripes
@@ -215,7 +223,7 @@ left i e lt = omega (arith, lt)
 
 pub written_step : (m : RawMap) (r : Span) (bytes : List ℕ) (got : List Column) (out : List ℕ) (s i e : ℕ) → i < e →
     written_stripe m r bytes got out s i (e - i) ≡ written_place m r bytes got out s i ++ written_stripe m r bytes got out s
-        (i + 1) (e - (i + 1))
+    (i + 1) (e - (i + 1))
 unfolding written_stripe
 written_step m r bytes got out s i e lt = rw (left i e lt) refl
 
@@ -226,7 +234,7 @@ written_end m r bytes got out s i e le = let z : e - i ≡ 0 = omega (arith, le)
 
 pub stripes_step : (m : RawMap) (r : Span) (bytes : List ℕ) (got : List Column) (out : List ℕ) (s e : ℕ) → s < e →
     written m r bytes got out (range_with_len s (e - s)) ≡ written_stripe m r bytes got out s 0
-        (group_width m) ++ written m r bytes got out (range_with_len (s + 1) (e - (s + 1)))
+    (group_width m) ++ written m r bytes got out (range_with_len (s + 1) (e - (s + 1)))
 unfolding written
 stripes_step m r bytes got out s e lt = rw (left s e lt) refl
 

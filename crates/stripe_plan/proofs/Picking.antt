@@ -38,8 +38,11 @@ apart_column c p i o old apart from up = elim (cases_eq c.position p) [
     | inr w ↦ elim w.1 [
       | inl below ↦ elim (cases_lt o c.offset) [
         | inl lt ↦ rw (eq-eqb c.position p same, lt-leb c.offset o lt) refl
-        | inr le ↦ rw (eq-eqb c.position p same, le-leb c.offset o le,
-            le-ltb o (c.offset + length c.bytes) (omega (arith, below, from))) refl
+        | inr le ↦ rw (
+          eq-eqb c.position p same,
+          le-leb c.offset o le,
+          le-ltb o (c.offset + length c.bytes) (omega (arith, below, from)),
+        ) refl
       ]
       | inr above ↦ rw (eq-eqb c.position p same, lt-leb c.offset o (omega (arith, above, up))) refl
     ]
@@ -106,8 +109,13 @@ sifted_without all (t ∷ ts) n at p i ns s j inside = elim s [
         (sifted_without all ts (n + 1) (next all ts t n no_stretch at) p i w.0 w.2 j inside)
     | inl same ↦
         let rest = sifted_without all ts (n + 1) (next all ts t n no_stretch at) p i w.0 w.2 in
-        rw (w.1, here all ts t n no_stretch at, eq-eqb t.position p same, rest (before t j) (inside.0, omega (arith, inside.1)),
-            rest (behind t j) (omega (arith, inside.0), inside.1)) refl
+        rw (
+          w.1,
+          here all ts t n no_stretch at,
+          eq-eqb t.position p same,
+          rest (before t j) (inside.0, omega (arith, inside.1)),
+          rest (behind t j) (omega (arith, inside.0), inside.1),
+        ) refl
   ]
   | inr w ↦ sifted_without all ts (n + 1) (next all ts t n no_stretch at) p i ns w.1 j inside
       ∙ sym (apart_stretch t ts p i j w.0 inside)
@@ -142,7 +150,7 @@ pub part_picked : (m : RawMap) (parts : List Part) (ns : List ℕ) (i : ℕ) (t 
     picked (columns_of m parts) (drop (i - 1) ns) ≡ part_column m t ∷ picked (columns_of m parts) (drop i ns)
 part_picked m parts ns i t some lt below is =
     one_picked (columns_of m parts) ns i (part_column m t) some lt (omega (arith, below, length-map parts (part_column m)))
-        (ap (part_column m) is ∙ sym (get_or-map (part_column m) parts (get_or ns (i - 1) 0) t (part_column m t) below))
+    (ap (part_column m) is ∙ sym (get_or-map (part_column m) parts (get_or ns (i - 1) 0) t (part_column m t) below))
 
 pub all_picked : (cols : List Column) (p offset n : ℕ) (ns bytes : List ℕ) →
     Sifts p (record { first = offset; end = offset + n }) (stretches_of cols) 0 ns → Filled (picked cols ns) p offset n bytes →

@@ -60,9 +60,10 @@ readable m r out a (suc n) s can le lt hit = elim (cases_eq a s) [
 
 pub stripe_touched : (m : RawMap) (r : Span) (l : ℕ) → IsChecked m → r.offset ≤ l → l < end_of r →
     IsTouchedStripe m r (stripe_of m l)
-stripe_touched m r l ch from to =
-    (div_mono r.offset l (stripe_length m) (some_stripe m ch) from,
-    div_mono l (end_of r - 1) (stripe_length m) (some_stripe m ch) (omega (arith, to)))
+stripe_touched m r l ch from to = (
+  div_mono r.offset l (stripe_length m) (some_stripe m ch) from,
+  div_mono l (end_of r - 1) (stripe_length m) (some_stripe m ch) (omega (arith, to)),
+)
 
 pub stripes_are : (m : RawMap) (r : Span) → 0 < r.length →
     stripes m r ≡ range_with_len (stripe_of m r.offset) (stripe_of m (end_of r - 1) + 1 - stripe_of m r.offset)
@@ -76,7 +77,7 @@ unfolding is_short
 few_lost m r out s ch some can touched hit =
     let short : nat_lt (parities m) (length (positions_out m out (group_of m s))) ≡ false =
     readable m r out (stripe_of m r.offset) (stripe_of m (end_of r - 1) + 1 - stripe_of m r.offset) s
-        (rw (stripes_are m r some) at can) touched.0 (omega (arith, touched.0, touched.1)) hit in
+    (rw (stripes_are m r some) at can) touched.0 (omega (arith, touched.0, touched.1)) hit in
     elim (cases_lt (parities m) (length (positions_out m out (group_of m s)))) [
       | inl more ↦ absurd (cc (sym (lt-ltb (parities m) (length (positions_out m out (group_of m s))) more) ∙ short))
       | inr less ↦ omega (arith, less, counted m out s ch)
@@ -101,10 +102,10 @@ read_right m r got out d ch bytes can fetched agrees l from to =
       | inl gone ↦
           let hit : is_hit m r out s ≡ true = hit_is m r out s 0 (data_units m) c (omega arith) (omega (arith, low)) touch gone in
           let had : (k : ℕ) → k < group_width m → is_out m out (position_of m s k) ≡ false →
-              got_at m got s b k ≡ word_of m d s b k =
+          got_at m got s b k ≡ word_of m d s b k =
           λ k lt there. agrees s b k lt (fetched s b k stripe lt there (rw hit (column_touched m r l ch from to))) in
           rw gone (ap (λ (xs : List ℕ). slice_index xs c)
-              (decoded_is m got out d s b ch bytes had (few_lost m r out s ch (omega (arith, from, to)) can stripe hit)) ∙ is)
+          (decoded_is m got out d s b ch bytes had (few_lost m r out s ch (omega (arith, from, to)) can stripe hit)) ∙ is)
       | inr there ↦
           let within : IsWithin b (needed Reads m r out s c) = elim (cases_Bool (is_hit m r out s)) [
             | inl hit ↦ rw hit (column_touched m r l ch from to)
@@ -118,7 +119,7 @@ pub read_follows : (m : RawMap) (r : Span) (got : List Column) (out : List ℕ) 
 unfolding answered
 read_follows m r got out ch can =
     λ d bytes fetched agrees. same r.offset r.length d
-        (λ l from to. read_right m r got out d ch bytes can fetched agrees l from to)
+    (λ l from to. read_right m r got out d ch bytes can fetched agrees l from to)
   where
     same : (a n : ℕ) (d : ℕ → ℕ) → ((l : ℕ) → a ≤ l → l < a + n → answer_at m got out l ≡ d l) →
         map (answer_at m got out) (range_with_len a n) ≡ map d (range_with_len a n)

@@ -38,7 +38,7 @@ source_end out k e le = rw (none k e le) refl
 
 pub out_step : (m : RawMap) (out : List ℕ) (p e : ℕ) → p < e →
     out_from m out p
-        (e - p) ≡ (if is_out m out p then p ∷ out_from m out (p + 1) (e - (p + 1)) else out_from m out (p + 1) (e - (p + 1)))
+    (e - p) ≡ (if is_out m out p then p ∷ out_from m out (p + 1) (e - (p + 1)) else out_from m out (p + 1) (e - (p + 1)))
 unfolding out_from
 out_step m out p e lt = rw (left p e lt) refl
 
@@ -48,7 +48,7 @@ out_end m out p e le = rw (none p e le) refl
 
 pub hit_step : (m : RawMap) (r : Span) (out : List ℕ) (s c e : ℕ) → c < e →
     hit_from m r out s c
-        (e - c) ≡ ((touches m r s c && is_out m out (position_of m s c)) || hit_from m r out s (c + 1) (e - (c + 1)))
+    (e - c) ≡ ((touches m r s c && is_out m out (position_of m s c)) || hit_from m r out s (c + 1) (e - (c + 1)))
 unfolding hit_from
 hit_step m r out s c e lt = rw (left c e lt) refl
 
@@ -58,9 +58,9 @@ hit_end m r out s c e le = rw (none c e le) refl
 
 pub writable_step : (m : RawMap) (out : List ℕ) (s e : ℕ) → s < e →
     unwritable m out
-        (range_with_len s (e - s))
-            ≡ (if is_short m out s then Some (positions_out m out (group_of m s)) else unwritable m out
-            (range_with_len (s + 1) (e - (s + 1))))
+    (range_with_len s (e - s))
+    ≡ (if is_short m out s then Some (positions_out m out (group_of m s)) else unwritable m out
+    (range_with_len (s + 1) (e - (s + 1))))
 unfolding unwritable
 writable_step m out s e lt = rw (left s e lt) refl
 
@@ -71,7 +71,7 @@ writable_end m out s e le = rw (none s e le) refl
 pub readable_step : (m : RawMap) (r : Span) (out : List ℕ) (s e : ℕ) → s < e →
     unreadable m r out (range_with_len s (e - s))
     ≡ (if is_hit m r out s && is_short m out s then Some (positions_out m out (group_of m s)) else unreadable m r out
-        (range_with_len (s + 1) (e - (s + 1))))
+    (range_with_len (s + 1) (e - (s + 1))))
 unfolding unreadable
 readable_step m r out s e lt = rw (left s e lt) refl
 
@@ -84,8 +84,8 @@ each_first out s p k n is = let e : k + n - k ≡ n = omega arith in rw e refl
 
 pub each_step : (out : List ℕ) (s p k e : ℕ) (is : List Interval) → k < e →
     asks_each out s p k
-        (e - k) is ≡ (if among k out then asks_each out s p (k + 1) (e - (k + 1)) is else asks_of s p k is ++ asks_each out s p
-        (k + 1) (e - (k + 1)) is)
+    (e - k) is ≡ (if among k out then asks_each out s p (k + 1) (e - (k + 1)) is else asks_of s p k is ++ asks_each out s p
+    (k + 1) (e - (k + 1)) is)
 unfolding asks_each
 each_step out s p k e is lt = rw (left k e lt) refl
 
@@ -95,7 +95,7 @@ each_end out s p k e is le = rw (none k e le) refl
 
 pub place_step : (aim : Aim) (m : RawMap) (r : Span) (out : List ℕ) (had : List Stretch) (s i e : ℕ) → i < e →
     asks_stripe aim m r out had s i (e - i) ≡ asks_place aim m r out had s i ++ asks_stripe aim m r out had s (i + 1)
-        (e - (i + 1))
+    (e - (i + 1))
 unfolding asks_stripe
 place_step aim m r out had s i e lt = rw (left i e lt) refl
 
@@ -106,7 +106,7 @@ place_end aim m r out had s i e le = rw (none i e le) refl
 
 pub stripe_step : (aim : Aim) (m : RawMap) (r : Span) (out : List ℕ) (had : List Stretch) (s e : ℕ) → s < e →
     asks aim m r out had (range_with_len s (e - s)) ≡ asks_stripe aim m r out had s 0 (group_width m) ++ asks aim m r out had
-        (range_with_len (s + 1) (e - (s + 1)))
+    (range_with_len (s + 1) (e - (s + 1)))
 unfolding asks
 stripe_step aim m r out had s e lt = rw (left s e lt) refl
 
@@ -117,8 +117,8 @@ stripe_end aim m r out had s e le = rw (none s e le) refl
 
 pub lost_step : (m : RawMap) (out : List ℕ) (s c e : ℕ) → c < e →
     lost_from m out s c
-        (e - c) ≡ (if is_out m out (position_of m s c) then c ∷ lost_from m out s (c + 1) (e - (c + 1)) else lost_from m out s
-        (c + 1) (e - (c + 1)))
+    (e - c) ≡ (if is_out m out (position_of m s c) then c ∷ lost_from m out s (c + 1) (e - (c + 1)) else lost_from m out s
+    (c + 1) (e - (c + 1)))
 unfolding lost_from
 lost_step m out s c e lt = rw (left c e lt) refl
 
@@ -166,7 +166,7 @@ given (Some ps) x y z (inr e) = absurd (cc e)
 pub scattered : {Y : Type 0} (m : RawMap) (r : Span) (cols : List Column) (out : List ℕ) (y z : Y) (xs : List Ask)
     (stores : List Store) (ws : List Part) →
     Gives (unless_lost (unwritable m out (stripes m r)) y) (Ok z) → xs ≡ writes m r out → stores ≡ filled_each cols xs →
-        ws ≡ parts_of stores → Gives (plan_scatter m r cols out) (Ok ws)
+    ws ≡ parts_of stores → Gives (plan_scatter m r cols out) (Ok ws)
 unfolding plan_scatter
 scattered m r cols out y z xs stores ws g asked made is =
     let all : ws ≡ writes_of cols (writes m r out) = is ∙ ap parts_of made ∙ parts_told cols xs ∙ ap (writes_of cols) asked in

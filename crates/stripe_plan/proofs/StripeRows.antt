@@ -27,7 +27,7 @@ pub same_range : {A : Type 0} (f g : ℕ → A) (a n : ℕ) → ((b : ℕ) → a
 same_range f g a zero e = refl
 same_range f g a (suc n) e =
     ap (λ x. x ∷ map f (range_with_len (a + 1) n)) (e a (omega arith) (omega arith))
-        ∙ ap (λ xs. g a ∷ xs) (same_range f g (a + 1) n (λ b le lt. e b (omega (arith, le)) (omega (arith, lt))))
+    ∙ ap (λ xs. g a ∷ xs) (same_range f g (a + 1) n (λ b le lt. e b (omega (arith, le)) (omega (arith, lt))))
 
 pub shifted : {A : Type 0} (f : ℕ → A) (x a n : ℕ) →
     map f (range_with_len (x + a) n) ≡ map (λ (b : ℕ). f (x + b)) (range_with_len a n)
@@ -62,7 +62,7 @@ known_column m got out s k i c zero lt = refl
 known_column m got out s k i c (suc n) lt =
     ap (λ (x : ℕ). x ∷ column (map (known_in m got out s i) (range_with_len (c + 1) n)) k) (known_at m got out s c k i lt)
     ∙ ap (λ xs. (if is_out m out (position_of m s c) then 0 else got_at m got s (i.first + k) c) ∷ xs)
-        (known_column m got out s k i (c + 1) n lt)
+    (known_column m got out s k i (c + 1) n lt)
 
 known_even : (m : RawMap) (got : List Column) (out : List ℕ) (s : ℕ) (i : Interval) (c n : ℕ) →
     All (λ row. length row ≡ i.end - i.first) (map (known_in m got out s i) (range_with_len c n))
@@ -78,8 +78,8 @@ pub known_width : (m : RawMap) (got : List Column) (out : List ℕ) (s : ℕ) (i
     width_of (known_rows m got out s i) ≡ i.end - i.first
 known_width m got out s i ch =
     width_is (i.end - i.first) (known_rows m got out s i)
-        (omega (arith, length-map-range_with_len (known_in m got out s i) 0 (group_width m), ch.some_data))
-            (known_even m got out s i 0 (group_width m))
+    (omega (arith, length-map-range_with_len (known_in m got out s i) 0 (group_width m), ch.some_data))
+    (known_even m got out s i 0 (group_width m))
 
 -- they can be decoded
 pub known_are_rows : (m : RawMap) (got : List Column) (out : List ℕ) (s : ℕ) (i : Interval) → IsChecked m →
@@ -110,7 +110,7 @@ pub lost_positions : (m : RawMap) (got : List Column) (out : List ℕ) (s : ℕ)
     ArePositions (length (known_rows m got out s i)) (lost_from m out s 0 (group_width m))
 lost_positions m got out s i =
     let long : length (known_rows m got out s i) ≡ 0 + group_width m =
-        length-map-range_with_len (known_in m got out s i) 0 (group_width m) ∙ omega arith in
+    length-map-range_with_len (known_in m got out s i) 0 (group_width m) ∙ omega arith in
     let rises = lost_rises m out s 0 (group_width m) in
     record {
       rising = λ k lt. rising_at 0 (0 + group_width m) _ k rises lt;
@@ -126,21 +126,21 @@ pub decoded_columns : (m : RawMap) (got : List Column) (out : List ℕ) (s : ℕ
     IsChecked m → map length rows ≡ map length (known_rows m got out s i) →
     ((k : ℕ) → k < width_of (known_rows m got out s i)
     → column rows k ≡ decoded (length (known_rows m got out s i) - count_of (code_of m)) (lost_from m out s 0 (group_width m))
-        (column (known_rows m got out s i) k)) →
+    (column (known_rows m got out s i) k)) →
     HasColumns (group_width m) i (decoded_at m got out s) rows
 unfolding decoded_at
 decoded_columns m got out s i rows ch shape exact =
     let long = length-map-range_with_len (known_in m got out s i) 0 (group_width m) in
     let units : length (known_rows m got out s i) - count_of (code_of m) ≡ data_units m = omega (arith, long, code_count m) in
     let count : length rows ≡ length (known_rows m got out s i) =
-        sym (length-map rows length) ∙ ap length shape ∙ length-map (known_rows m got out s i) length in
+    sym (length-map rows length) ∙ ap length shape ∙ length-map (known_rows m got out s i) length in
     record {
       long = count ∙ long;
       even = λ k d lt. row_long rows (known_rows m got out s i) k d shape (omega (arith, lt)) (omega (arith, lt, count))
           ∙ known_even m got out s i 0 (group_width m) k d (omega (arith, lt, count));
       each = λ k lt.
           exact k (rw (known_width m got out s i ch) lt)
-              ∙ ap (λ (u : ℕ). decoded u (lost_from m out s 0 (group_width m)) (column (known_rows m got out s i) k)) units
+          ∙ ap (λ (u : ℕ). decoded u (lost_from m out s 0 (group_width m)) (column (known_rows m got out s i) k)) units
           ∙ ap (decoded (data_units m) (lost_from m out s 0 (group_width m))) (known_column m got out s k i 0 (group_width m) lt);
     }
   where
@@ -162,18 +162,18 @@ row_is n i f rows c row h lt is =
     (λ k k_lt.
     let low : k < i.end - i.first = omega (arith, k_lt, long) in
     ap (λ (xs : List ℕ). get_or xs k 0) (sym there) ∙ sym (get_or-map (λ (xs : List ℕ). get_or xs k 0) rows c [] 0 here)
-        ∙ ap (λ (xs : List ℕ). get_or xs c 0) (h.each k low)
+    ∙ ap (λ (xs : List ℕ). get_or xs c 0) (h.each k low)
     ∙ sym (get_or-map-range_with_len (λ (b : ℕ). get_or (f b) c 0) i.first (i.end - i.first) k (i.first + k) 0 low refl))
 
 -- a unit that is out is answered from what was decoded, one that isn't from what was got
 pub answered_out : (m : RawMap) (got : List Column) (out : List ℕ) (s c : ℕ) (i : Interval) →
     is_out m out (position_of m s c) ≡ true →
     map (λ (b : ℕ). get_or (decoded_at m got out s b) c 0)
-        (range_with_len i.first (i.end - i.first)) ≡ answered_in m got out s c i
+    (range_with_len i.first (i.end - i.first)) ≡ answered_in m got out s c i
 unfolding answer_in
 answered_out m got out s c i gone =
     same_range (λ (b : ℕ). get_or (decoded_at m got out s b) c 0) (answer_in m got out s c) i.first (i.end - i.first)
-        (λ b le lt. rw gone refl)
+    (λ b le lt. rw gone refl)
 
 pub answered_got : (m : RawMap) (got : List Column) (out : List ℕ) (s c : ℕ) (i : Interval) →
     is_out m out (position_of m s c) ≡ false → got_in m got s c i ≡ answered_in m got out s c i
@@ -181,4 +181,4 @@ unfolding answer_in
 answered_got m got out s c i there =
     shifted (byte_at got (position_of m s c)) (row_of m s * m.unit) i.first (i.end - i.first)
     ∙ same_range (λ (b : ℕ). byte_at got (position_of m s c) (row_of m s * m.unit + b)) (answer_in m got out s c) i.first
-        (i.end - i.first) (λ b le lt. rw there refl)
+    (i.end - i.first) (λ b le lt. rw there refl)

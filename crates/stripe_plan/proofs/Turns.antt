@@ -60,8 +60,8 @@ seen_more m out t n stripe seen turn fine = λ k lt s e. elim (cases_lt k n) [
   | inr le ↦
       let last : k ≡ n = omega (arith, lt, le) in
       same_group m out s stripe
-          (e ∙ ap (λ (j : ℕ). (t + j) % groups m) last ∙ ap (λ (j : ℕ). j % groups m) (sym turn) ∙ sym (turn_group m stripe))
-          ∙ fine
+      (e ∙ ap (λ (j : ℕ). (t + j) % groups m) last ∙ ap (λ (j : ℕ). j % groups m) (sym turn) ∙ sym (turn_group m stripe))
+      ∙ fine
 ]
 
 round : (t u g : ℕ) → t ≤ u → (t + (u - t) % g) % g ≡ u % g
@@ -83,7 +83,7 @@ pub skip_turn : (m : RawMap) (out : List ℕ) (s next e : ℕ) → s < next → 
 skip_turn m out s next e lt le fine same =
     let at : s + (next - s) ≡ next = omega (arith, lt) in
     skip m out s (next - s) e (omega (arith, lt, le))
-        (λ k low up. same_turn m out k s (same k low (omega (arith, up, lt))) ∙ fine)
+    (λ k low up. same_turn m out k s (same k low (omega (arith, up, lt))) ∙ fine)
     ∙ ap (λ (j : ℕ). unwritable m out (range_with_len j (e - j))) at
 
 -- a whole round has seen all
@@ -97,6 +97,6 @@ all_seen m out t n s e c some whole turn seen = elim (cases_lt s e) [
       skip m out s (e - s) e (omega (arith, lt)) (λ k low up.
       let le : t ≤ turn_of m k = omega (arith, turn lt, turn_rises m s k c low) in
       seen ((turn_of m k - t) % groups m) (omega (arith, whole, mod_below (turn_of m k - t) (groups m) some)) k
-          (turn_group m k ∙ sym (round t (turn_of m k) (groups m) le)))
+      (turn_group m k ∙ sym (round t (turn_of m k) (groups m) le)))
       ∙ writable_end m out (s + (e - s)) e (omega arith)
 ]

@@ -66,7 +66,7 @@ changed_whole m r s c ch all = elim (cases_lt c (data_units m)) [
 pub whole_place : (m : RawMap) (r : Span) (bytes : List ℕ) (got : List Column) (out : List ℕ) (s i : ℕ) (row : List ℕ) →
     IsChecked m → whole m r s ≡ true →
     row ≡ words_in m r bytes got out s (unit_in m s i) (all_columns m) →
-        place_column m out s i row ≡ written_place m r bytes got out s i
+    place_column m out s i row ≡ written_place m r bytes got out s i
 unfolding written_place
 whole_place m r bytes got out s i row ch all is = rw (is, changed_whole m r s (unit_in m s i) ch all) refl
 
@@ -78,28 +78,31 @@ row_data : (m : RawMap) (r : Span) (bytes : List ℕ) (s : ℕ) (rows : List (Li
 row_data m r bytes s rows k had lt =
     let zeros : List ℕ = replicate (data_units m) 0 in
     let cut : length (take (data_units m) (column rows k)) ≡ data_units m =
-        length-take-le (data_units m) (column rows k) (omega (arith, length_column rows k, had.count)) in
+    length-take-le (data_units m) (column rows k) (omega (arith, length_column rows k, had.count)) in
     let none : length zeros ≡ data_units m = length-replicate (data_units m) 0 in
     same_number_lists _ _
-        (cut ∙ sym (overlaid_long (news_at m r bytes s k) zeros (news_long m r bytes s k 0 (data_units m) ∙ sym none) ∙ none))
+    (cut ∙ sym (overlaid_long (news_at m r bytes s k) zeros (news_long m r bytes s k 0 (data_units m) ∙ sym none) ∙ none))
     (λ c c_lt.
     let low : c < data_units m = omega (arith, c_lt, cut) in
     let here : c < length rows = omega (arith, low, had.count) in
     let z : 0 + c ≡ c = omega arith in
     let zero : get_or zeros c 0 ≡ 0 = get_or-replicate (data_units m) c 0 0 low in
     get_or-take (data_units m) (column rows k) c 0 low ∙ cell rows c k [] here
-        ∙ ap (λ (xs : List ℕ). get_or xs k 0) ((had.each c (omega (arith, low))).fresh low)
+    ∙ ap (λ (xs : List ℕ). get_or xs k 0) ((had.each c (omega (arith, low))).fresh low)
     ∙ get_or-map-range_with_len (λ (b : ℕ). unwrap_or (new_at m r bytes s b c) 0) 0 (m.unit - 0) k k 0 (omega (arith, lt))
-        (omega arith)
+    (omega arith)
     ∙ sym (overlaid_at m r bytes s k 0 (data_units m) zeros c low none ∙ rw (z, zero) refl))
 
 pub row_new : (m : RawMap) (r : Span) (bytes : List ℕ) (s c : ℕ) (i : Interval) (row : List ℕ) → whole m r s ≡ true →
     c < data_units m → i ≡ own m r s c → row ≡ new_in m r bytes s c i → IsNewRow m r bytes s c row
 row_new m r bytes s c i row all low is e =
     let here : row ≡ new_in m r bytes s c (all_columns m) = e ∙ ap (new_in m r bytes s c) (is ∙ own_all m r s c all low) in
-    record { long =
-        ap length here ∙ length-map-range_with_len (λ (b : ℕ). unwrap_or (new_at m r bytes s b c) 0) 0 (m.unit - 0)
-        ∙ omega arith; fresh = λ lt. here }
+    record {
+      long =
+          ap length here ∙ length-map-range_with_len (λ (b : ℕ). unwrap_or (new_at m r bytes s b c) 0) 0 (m.unit - 0)
+          ∙ omega arith;
+      fresh = λ lt. here;
+    }
 
 pub even_rows : (m : RawMap) (r : Span) (bytes : List ℕ) (s : ℕ) (rows : List (List ℕ)) →
     NewRows m r bytes s (group_width m) rows → All (λ row. length row ≡ m.unit - 0) rows
@@ -110,32 +113,32 @@ even_rows m r bytes s rows had =
 pub whole_words : (m : RawMap) (r : Span) (bytes : List ℕ) (s : ℕ) (old new : List (List ℕ)) (got : List Column) (out : List ℕ) →
     IsChecked m → whole m r s ≡ true →
     NewRows m r bytes s (group_width m) old → map length new ≡ map length old →
-        ((j : ℕ) → j < length old - count_of (code_of m) → slice_get new j ≡ slice_get old j) →
+    ((j : ℕ) → j < length old - count_of (code_of m) → slice_get new j ≡ slice_get old j) →
     ((k : ℕ) → k < width_of old → column new k ≡ codeword (code_of m) (take (length old - count_of (code_of m)) (column old k))) →
     AreWords m r bytes got out s new
 whole_words m r bytes s old new got out ch all had shape kept coded =
     let count : length new ≡ group_width m = same_count old new shape ∙ had.count in
     let parity : HasParity (parities m) (all_columns m) (parity_at m r bytes got out s) new =
     has_same (parities m) (all_columns m)
-        (λ (b row : ℕ). parity_of row (overlaid (news_at m r bytes s b) (replicate (data_units m) 0)))
-            (parity_at m r bytes got out s) new (λ b row. by_whole m r bytes got out s b row all)
+    (λ (b row : ℕ). parity_of row (overlaid (news_at m r bytes s b) (replicate (data_units m) 0)))
+    (parity_at m r bytes got out s) new (λ b row. by_whole m r bytes got out s b row all)
     (parity_coded m (all_columns m)
-        (λ (b : ℕ). overlaid (news_at m r bytes s b) (replicate (data_units m) 0)) old new ch had.count
-            (even_rows m r bytes s old had) (λ k lt. let z : 0 + k ≡ k = omega arith in
-            rw z (row_data m r bytes s old k had (omega (arith, lt)))) shape coded) in
+    (λ (b : ℕ). overlaid (news_at m r bytes s b) (replicate (data_units m) 0)) old new ch had.count
+    (even_rows m r bytes s old had) (λ k lt. let z : 0 + k ≡ k = omega arith in
+    rw z (row_data m r bytes s old k had (omega (arith, lt)))) shape coded) in
     record {
       count = count;
       each = λ c lt. elim (cases_lt c (data_units m)) [
         | inl low ↦
             get_same new old c (kept c (omega (arith, low, had.count, code_count m))) ∙ (had.each c lt).fresh low
             ∙ same_range (λ (b : ℕ). unwrap_or (new_at m r bytes s b c) 0) (λ (b : ℕ). word_at m r bytes got out s b c) 0
-                (m.unit - 0) (λ b le l. sym (word_data m r bytes got out s b c low))
+            (m.unit - 0) (λ b le l. sym (word_data m r bytes got out s b c low))
         | inr past ↦
             let at : length new - parities m + (c - data_units m) ≡ c = omega (arith, count, past, lt) in
             (rw at at (parity.each (c - data_units m) (omega (arith, past, lt))))
             ∙ same_range (λ (b : ℕ). parity_at m r bytes got out s b (c - data_units m))
-                (λ (b : ℕ). word_at m r bytes got out s b c) 0 (m.unit - 0)
-                    (λ b le l. sym (word_parity m r bytes got out s b c past))
+            (λ (b : ℕ). word_at m r bytes got out s b c) 0 (m.unit - 0)
+            (λ b le l. sym (word_parity m r bytes got out s b c past))
       ];
     }
   where
@@ -153,5 +156,5 @@ pub taken_one : (m : RawMap) (s i : ℕ) (f : ℕ → List ℕ) (rows : List (Li
     Untaken m s (i + 1) f (set rows (unit_in m s i) [])
 taken_one m s i f rows lt had = λ j le j_lt.
     let other : (unit_in m s j ≡ unit_in m s i) → ⊥ =
-        λ e. absurd (omega (arith, le, sym (turned_again m s j j_lt) ∙ ap (turned m s) e ∙ turned_again m s i lt)) in
+    λ e. absurd (omega (arith, le, sym (turned_again m s j j_lt) ∙ ap (turned m s) e ∙ turned_again m s i lt)) in
     get_or-set_other rows (unit_in m s i) (unit_in m s j) [] [] other ∙ had j (omega (arith, le)) j_lt

@@ -65,32 +65,39 @@ columns_hold m r bytes got out d s c p ch wide is_p right = λ j x lt.
     let none : Interval = record { first = 0; end = 0 } in
     let here : j < length is = omega (arith, lt, length-map is (λ (i : Interval). column_of i)) in
     rw (get_or-map (λ (i : Interval). column_of i) is j none x here)
-        (hold (get_or is j none) (λ b le bl. within_at is j b none here le bl))
+    (hold (get_or is j none) (λ b le bl. within_at is j b none here le bl))
   where
     column_of : Interval → Column
     column_of i =
-        record { position = p; offset = offset_of m s i.first; bytes =
-        map (λ (b : ℕ). word_at m r bytes got out s b c) (range_with_len i.first (i.end - i.first)) }
+        record {
+          position = p;
+          offset = offset_of m s i.first;
+          bytes =
+              map (λ (b : ℕ). word_at m r bytes got out s b c) (range_with_len i.first (i.end - i.first));
+        }
 
     hold : (i : Interval) → ((b : ℕ) → i.first ≤ b → b < i.end → IsWithin b (changed m r s c)) →
         HoldsWords m (over r bytes d) (column_of i)
     hold i within =
         let long : length
-            (map (λ (b : ℕ). word_at m r bytes got out s b c) (range_with_len i.first (i.end - i.first))) ≡ i.end - i.first =
-            length-map-range_with_len (λ (b : ℕ). word_at m r bytes got out s b c) i.first (i.end - i.first) in
+        (map (λ (b : ℕ). word_at m r bytes got out s b c) (range_with_len i.first (i.end - i.first))) ≡ i.end - i.first =
+        length-map-range_with_len (λ (b : ℕ). word_at m r bytes got out s b c) i.first (i.end - i.first) in
         record {
           stripe = s;
           unit = c;
           first = i.first;
           below = wide;
-          inside = λ some. omega
-              (arith, long, some,
-              within_changed m r s c (i.end - 1) ch (within (i.end - 1) (omega (arith, long, some)) (omega (arith, long, some))));
+          inside = λ some. omega (
+            arith,
+            long,
+            some,
+            within_changed m r s c (i.end - 1) ch (within (i.end - 1) (omega (arith, long, some)) (omega (arith, long, some))),
+          );
           position = is_p;
           offset = refl;
           each = λ k lt.
               get_or-map-range_with_len (λ (b : ℕ). word_at m r bytes got out s b c) i.first (i.end - i.first) k (i.first + k) 0
-                  (omega (arith, lt, long)) refl
+              (omega (arith, lt, long)) refl
               ∙ right (i.first + k) (within (i.first + k) (omega arith) (omega (arith, lt, long)));
         }
 
@@ -122,7 +129,7 @@ unfolding written_stripe
 stripe_holds m r bytes got out d s i zero ch le right = all_none (HoldsWords m (over r bytes d))
 stripe_holds m r bytes got out d s i (suc n) ch le right =
     All-append (HoldsWords m (over r bytes d)) (written_place m r bytes got out s i)
-        (written_stripe m r bytes got out s (i + 1) n) (place_holds m r bytes got out d s i ch (omega (arith, le)) right)
+    (written_stripe m r bytes got out s (i + 1) n) (place_holds m r bytes got out d s i ch (omega (arith, le)) right)
     (stripe_holds m r bytes got out d s (i + 1) n ch (omega (arith, le)) right)
 
 stripes_hold : (m : RawMap) (r : Span) (bytes : List ℕ) (got : List Column) (out : List ℕ) (d : ℕ → ℕ) (a n : ℕ) → IsChecked m →
@@ -132,7 +139,7 @@ unfolding written
 stripes_hold m r bytes got out d a zero ch right = all_none (HoldsWords m (over r bytes d))
 stripes_hold m r bytes got out d a (suc n) ch right =
     All-append (HoldsWords m (over r bytes d)) (written_stripe m r bytes got out a 0 (group_width m))
-        (written m r bytes got out (range_with_len (a + 1) n))
+    (written m r bytes got out (range_with_len (a + 1) n))
     (stripe_holds m r bytes got out d a 0 (group_width m) ch (omega arith) (right a (omega arith) (omega arith)))
     (stripes_hold m r bytes got out d (a + 1) n ch (λ s le lt. right s (omega (arith, le)) (omega (arith, lt))))
 
@@ -150,9 +157,9 @@ pub write_follows : (m : RawMap) (r : Span) (bytes : List ℕ) (got : List Colum
 write_follows m r bytes got out ch long can = λ d db fetched agrees. elim (cases_lt 0 r.length) [
   | inl some ↦
       rw (stripes_are m r some)
-          (stripes_hold m r bytes got out d (stripe_of m r.offset) (stripe_of m (end_of r - 1) + 1 - stripe_of m r.offset) ch
+      (stripes_hold m r bytes got out d (stripe_of m r.offset) (stripe_of m (end_of r - 1) + 1 - stripe_of m r.offset) ch
       (λ s le lt b c wide there w. payload_right m r bytes got out d ch db long can fetched agrees some s b c
-          (le, omega (arith, lt, le)) wide there w))
+      (le, omega (arith, lt, le)) wide there w))
   | inr none ↦ rw (no_stripes m r (omega (arith, none)), nothing_written m r bytes got out)
       (all_none (HoldsWords m (over r bytes d)))
 ]

@@ -57,19 +57,22 @@ pub new_some : (m : RawMap) (r : Span) (bytes : List ℕ) (s b c : ℕ) → b < 
     unit_start m s c + b < end_of r → new_at m r bytes s b c ≡ Some (slice_index bytes (unit_start m s c + b - r.offset))
 unfolding new_at own
 new_some m r bytes s b c bl from to =
-    rw (le-leb (max r.offset (unit_start m s c) - unit_start m s c) b (omega (arith, from)),
-        lt-ltb b (min (end_of r) (unit_start m s c + m.unit) - unit_start m s c) (omega (arith, to, bl))) refl
+    rw (
+      le-leb (max r.offset (unit_start m s c) - unit_start m s c) b (omega (arith, from)),
+      lt-ltb b (min (end_of r) (unit_start m s c + m.unit) - unit_start m s c) (omega (arith, to, bl)),
+    ) refl
 
 -- the byte of a column is the call's, or the old one
 pub new_is : (m : RawMap) (r : Span) (bytes : List ℕ) (d : ℕ → ℕ) (s b c : ℕ) → b < m.unit →
     (((own m r s c).first ≤ b) × (b < (own m r s c).end) ×
-        (new_at m r bytes s b c ≡ Some (over r bytes d (unit_start m s c + b))))
+    (new_at m r bytes s b c ≡ Some (over r bytes d (unit_start m s c + b))))
     ⊎ ((new_at m r bytes s b c ≡ None) × (over r bytes d (unit_start m s c + b) ≡ d (unit_start m s c + b)))
 unfolding new_at own
 new_is m r bytes d s b c bl = elim (cases_lt (unit_start m s c + b) r.offset) [
-  | inl before ↦ inr
-      (rw (lt-leb (max r.offset (unit_start m s c) - unit_start m s c) b (omega (arith, before))) refl,
-      rw (lt-leb r.offset (unit_start m s c + b) before) refl)
+  | inl before ↦ inr (
+    rw (lt-leb (max r.offset (unit_start m s c) - unit_start m s c) b (omega (arith, before))) refl,
+    rw (lt-leb r.offset (unit_start m s c + b) before) refl,
+  )
   | inr from ↦ elim (cases_lt (unit_start m s c + b) (end_of r)) [
     | inl to ↦ inl (
       omega (arith, from),
@@ -82,8 +85,10 @@ new_is m r bytes d s b c bl = elim (cases_lt (unit_start m s c + b) r.offset) [
       ) refl,
     )
     | inr past ↦ inr (
-      rw (le-leb (max r.offset (unit_start m s c) - unit_start m s c) b (omega (arith, from)),
-          le-ltb b (min (end_of r) (unit_start m s c + m.unit) - unit_start m s c) (omega (arith, past))) refl,
+      rw (
+        le-leb (max r.offset (unit_start m s c) - unit_start m s c) b (omega (arith, from)),
+        le-ltb b (min (end_of r) (unit_start m s c + m.unit) - unit_start m s c) (omega (arith, past)),
+      ) refl,
       rw (le-leb r.offset (unit_start m s c + b) from, le-ltb (unit_start m s c + b) (end_of r) past) refl,
     )
   ]
@@ -92,7 +97,7 @@ new_is m r bytes d s b c bl = elim (cases_lt (unit_start m s c + b) r.offset) [
 -- so the data with the new bytes put in are those of the file after the write
 pub overlaid_is : (m : RawMap) (r : Span) (bytes : List ℕ) (d : ℕ → ℕ) (s b c n : ℕ) → b < m.unit →
     overlaid (news_from m r bytes s b c n) (map (λ (k : ℕ). d (unit_start m s k + b)) (range_with_len c n)) ≡ map
-        (λ (k : ℕ). over r bytes d (unit_start m s k + b)) (range_with_len c n)
+    (λ (k : ℕ). over r bytes d (unit_start m s k + b)) (range_with_len c n)
 unfolding news_from
 overlaid_is m r bytes d s b c zero bl = refl
 overlaid_is m r bytes d s b c (suc n) bl = elim (new_is m r bytes d s b c bl) [
@@ -124,7 +129,7 @@ pub parity_is : (m : RawMap) (d : ℕ → ℕ) (s b c : ℕ) → IsChecked m →
 parity_is m d s b c ch le lt =
     let at : c ≡ length (data_at m d s b) + (c - data_units m) = omega (arith, data_long m d s b, le) in
     ap (λ (k : ℕ). get_or (codeword (code_of m) (data_at m d s b)) k 0) at
-        ∙ parity_word (code_of m) (data_at m d s b) (c - data_units m) (omega (arith, code_count m, le, lt, ch.some_data))
+    ∙ parity_word (code_of m) (data_at m d s b) (c - data_units m) (omega (arith, code_count m, le, lt, ch.some_data))
 
 -- ---- a whole stripe
 
@@ -136,7 +141,7 @@ all_new m r bytes s b c (suc n) bl le from to =
     let inside = two_digits m.unit (data_units m) c b (omega (arith, le)) bl in
     let next : (s + 1) * stripe_length m ≡ s * stripe_length m + stripe_length m = omega arith in
     rw (new_some m r bytes s b c bl (omega (arith, from)) (omega (arith, inside, next, to)))
-        (all_new m r bytes s b (c + 1) n bl (omega (arith, le)) from to)
+    (all_new m r bytes s b (c + 1) n bl (omega (arith, le)) from to)
 
 -- ---- a stripe that can be written
 
@@ -167,7 +172,7 @@ unfolding is_short
 few_out m r out s ch some can touched =
     let short : nat_lt (parities m) (length (positions_out m out (group_of m s))) ≡ false =
     can_write m out (stripe_of m r.offset) (stripe_of m (end_of r - 1) + 1 - stripe_of m r.offset) s
-        (rw (stripes_are m r some) at can) touched.0 (omega (arith, touched.0, touched.1)) in
+    (rw (stripes_are m r some) at can) touched.0 (omega (arith, touched.0, touched.1)) in
     elim (cases_lt (parities m) (length (positions_out m out (group_of m s)))) [
       | inl more ↦ absurd (cc (sym (lt-ltb (parities m) (length (positions_out m out (group_of m s))) more) ∙ short))
       | inr less ↦ omega (arith, less, counted m out s ch)
@@ -179,7 +184,7 @@ pub all_there : (m : RawMap) (out : List ℕ) (s k : ℕ) → IsChecked m → is
 unfolding is_degraded
 all_there m out s k ch free lt =
     let long : length (lost_from m out s 0 (group_width m)) ≡ 0 =
-        elim (cases_lt 0 (length (positions_out m out (group_of m s)))) [
+    elim (cases_lt 0 (length (positions_out m out (group_of m s)))) [
       | inl more ↦ absurd (cc (sym (lt-ltb 0 (length (positions_out m out (group_of m s))) more) ∙ free))
       | inr less ↦ omega (arith, less, counted m out s ch)
     ] in
@@ -191,9 +196,9 @@ all_there m out s k ch free lt =
 -- the old bytes that a delta uses are the data's
 pub old_is : (m : RawMap) (r : Span) (bytes : List ℕ) (got : List Column) (d : ℕ → ℕ) (s b c n : ℕ) → b < m.unit →
     ((k : ℕ) → c ≤ k → k < c + n → (own m r s k).first ≤ b → b < (own m r s k).end →
-        got_at m got s b k ≡ d (unit_start m s k + b)) →
+    got_at m got s b k ≡ d (unit_start m s k + b)) →
     AreOld (news_from m r bytes s b c n) (known_from m got [] s b c n)
-        (map (λ (k : ℕ). d (unit_start m s k + b)) (range_with_len c n))
+    (map (λ (k : ℕ). d (unit_start m s k + b)) (range_with_len c n))
 unfolding news_from known_from
 old_is m r bytes got d s b c zero bl had = tt
 old_is m r bytes got d s b c (suc n) bl had =
@@ -240,7 +245,7 @@ needs_parity m r out s b k part free le w = rw (part, free, le-ltb k (data_units
 parity_right : (m : RawMap) (r : Span) (bytes : List ℕ) (got : List Column) (out : List ℕ) (d : ℕ → ℕ) (s b row : ℕ) →
     IsChecked m → AreBytes d → 0 < r.length →
     unwritable m out (stripes m r) ≡ None → IsFetched Gathers m r got out → Agrees m got d → IsTouchedStripe m r s → b < m.unit →
-        data_units m + row < group_width m →
+    data_units m + row < group_width m →
     is_out m out (position_of m s (data_units m + row)) ≡ false → IsWithin b (columns m r s) →
     parity_at m r bytes got out s b row ≡ parity_of row (data_at m (over r bytes d) s b)
 unfolding parity_at
@@ -251,31 +256,31 @@ parity_right m r bytes got out d s b row ch db some can fetched agrees stripe bl
       | inl all ↦ rw all (ap (parity_of row) (whole_forgets news (replicate (data_units m) 0) (data_at m d s b)
           (let w = whole_means m r s all in all_new m r bytes s b 0 (data_units m) bl (omega arith) w.0 w.1)
           (length-replicate (data_units m) 0 ∙ sym (news_long m r bytes s b 0 (data_units m)))
-              (data_long m d s b ∙ sym (news_long m r bytes s b 0 (data_units m))) ∙ new))
+          (data_long m d s b ∙ sym (news_long m r bytes s b 0 (data_units m))) ∙ new))
       | inr part ↦ elim (cases_Bool (is_degraded m out s)) [
         | inl less ↦ rw (part, less)
             (ap (parity_of row)
             (ap (λ (xs : List ℕ). overlaid news (take (data_units m) xs))
             (decoded_is m got out d s b ch db
             (λ k lt th. agrees s b k lt (fetched s b k stripe lt th (needs_all m r out s b k part less within)))
-                (few_out m r out s ch some can stripe))
+            (few_out m r out s ch some can stripe))
             ∙ ap (overlaid news)
-                (ap (λ (z : ℕ). take z (codeword (code_of m) (data_at m d s b))) (sym (data_long m d s b))
-                ∙ data_first (code_of m) (data_at m d s b)) ∙ new))
+            (ap (λ (z : ℕ). take z (codeword (code_of m) (data_at m d s b))) (sym (data_long m d s b))
+            ∙ data_first (code_of m) (data_at m d s b)) ∙ new))
         | inr free ↦ rw (part, free)
             (delta_is news (known_from m got [] s b 0 (data_units m)) (data_at m d s b) row
             (got_at m got s b (data_units m + row))
             (old_is m r bytes got d s b 0 (data_units m) bl (λ k le lt f e.
             agrees s b k (omega (arith, lt))
-                (fetched s b k stripe (omega (arith, lt)) (all_there m out s k ch free (omega (arith, lt)))
-                (needs_own m r out s b k part free (omega (arith, lt)) f e))
+            (fetched s b k stripe (omega (arith, lt)) (all_there m out s k ch free (omega (arith, lt)))
+            (needs_own m r out s b k part free (omega (arith, lt)) f e))
             ∙ word_is m d s b k (omega (arith, lt))))
             (agrees s b (data_units m + row) wide
-                (fetched s b (data_units m + row) stripe wide there
-                (needs_parity m r out s b (data_units m + row) part free (omega arith) within))
+            (fetched s b (data_units m + row) stripe wide there
+            (needs_parity m r out s b (data_units m + row) part free (omega arith) within))
             ∙ parity_is m d s b (data_units m + row) ch (omega arith) wide
-                ∙ ap (λ (z : ℕ). parity_of z (data_at m d s b)) (let z : data_units m + row - data_units m ≡ row = omega arith in
-                z))
+            ∙ ap (λ (z : ℕ). parity_of z (data_at m d s b)) (let z : data_units m + row - data_units m ≡ row = omega arith in
+            z))
             ∙ ap (parity_of row) new)
       ]
     ]
@@ -300,23 +305,24 @@ data_right m r bytes d s b c low w = elim (cases_Bool (touches m r s c)) [
         let to : unit_start m s c + b < end_of r = omega (arith, x.1) in
         let bl : b < m.unit = omega (arith, x.1) in
         rw (new_some m r bytes s b c bl from to) (sym (over_is r bytes d (unit_start m s c + b) from to))
-            ∙ sym (word_is m (over r bytes d) s b c low)
+        ∙ sym (word_is m (over r bytes d) s b c low)
     inside (inr x) = absurd x
 
 pub payload_right : (m : RawMap) (r : Span) (bytes : List ℕ) (got : List Column) (out : List ℕ) (d : ℕ → ℕ) → IsChecked m →
     AreBytes d → length bytes ≡ r.length
     → unwritable m out (stripes m r) ≡ None → (0 < parities m → IsFetched Gathers m r got out) → Agrees m got d
     → 0 < r.length → (s b c : ℕ) → IsTouchedStripe m r s → c < group_width m → is_out m out (position_of m s c) ≡ false →
-        IsWithin b (changed m r s c) → word_at m r bytes got out s b c ≡ word_of m (over r bytes d) s b c
+    IsWithin b (changed m r s c) → word_at m r bytes got out s b c ≡ word_of m (over r bytes d) s b c
 unfolding word_at changed columns
 payload_right m r bytes got out d ch db long can fetched agrees some s b c stripe wide there within =
     elim (cases_lt c (data_units m)) [
-  | inl low ↦ rw (lt-ltb c (data_units m) low) (data_right m r bytes d s b c low (rw (lt-ltb c (data_units m) low) at within))
-  | inr past ↦
-      let inside : IsWithin b (columns m r s) = rw (le-ltb c (data_units m) past) at within in
-      let at : data_units m + (c - data_units m) ≡ c = omega (arith, past) in
-      rw (le-ltb c (data_units m) past)
-      (parity_right m r bytes got out d s b (c - data_units m) ch db some can (fetched (omega (arith, past, wide))) agrees stripe
+      | inl low ↦ rw (lt-ltb c (data_units m) low) (data_right m r bytes d s b c low (rw (lt-ltb c (data_units m) low) at within))
+      | inr past ↦
+          let inside : IsWithin b (columns m r s) = rw (le-ltb c (data_units m) past) at within in
+          let at : data_units m + (c - data_units m) ≡ c = omega (arith, past) in
+          rw (le-ltb c (data_units m) past)
+          (parity_right m r bytes got out d s b (c - data_units m) ch db some can
+          (fetched (omega (arith, past, wide))) agrees stripe
           (within_unit m.unit (low m r s) (high m r s) b ch.some_unit inside) (omega (arith, at, wide)) (rw at there) inside
-      ∙ sym (parity_is m (over r bytes d) s b c ch past wide))
-]
+          ∙ sym (parity_is m (over r bytes d) s b c ch past wide))
+    ]

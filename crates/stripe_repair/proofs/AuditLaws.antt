@@ -52,29 +52,35 @@ pick : (rs : List Awaited) (todo : List Piece) (short : List ℕ) (later : Inspe
     x ≡ rests_auditing later.reads g (record { todo = later.todo; tally = record t { short = later.short } }) →
     rests_or rs g Auditing (Checks todo (record t { short = short })) x
     ≡ rests_auditing (inspects_or rs todo short later).reads g
-        (record { todo = (inspects_or rs todo short later).todo; tally =
-        record t { short = (inspects_or rs todo short later).short } })
+    (record {
+      todo = (inspects_or rs todo short later).todo;
+      tally =
+          record t { short = (inspects_or rs todo short later).short };
+    })
 pick [] todo short later g t x e = e
 pick (c ∷ cs) todo short later g t x e = refl
 
 goes_there : (g : Going) (todo : List Piece) (t : Tally) →
     audits g todo t
     ≡ rests_auditing (inspects g.file.kept g.effects.nonce todo t.short).reads g
-    (record { todo = (inspects g.file.kept g.effects.nonce todo t.short).todo; tally =
-        record t { short = (inspects g.file.kept g.effects.nonce todo t.short).short } })
+    (record {
+      todo = (inspects g.file.kept g.effects.nonce todo t.short).todo;
+      tally =
+          record t { short = (inspects g.file.kept g.effects.nonce todo t.short).short };
+    })
 unfolding inspects audits
 goes_there g [] t = refl
 goes_there g (p ∷ ps) t =
     pick (reads g.file.kept p g.effects.nonce) (p ∷ ps) (short_with g.file.kept p t.short)
-        (inspects g.file.kept g.effects.nonce ps (short_with g.file.kept p t.short)) g t
+    (inspects g.file.kept g.effects.nonce ps (short_with g.file.kept p t.short)) g t
     (audits g ps (record t { short = short_with g.file.kept p t.short }))
-        (goes_there g ps (record t { short = short_with g.file.kept p t.short }))
+    (goes_there g ps (record t { short = short_with g.file.kept p t.short }))
 
 pub next_audits : (r : Result (List Awaited) Memory) (f : Kept) (nonce : ℕ) (todo left : List Piece) (t : Tally)
     (marked : List ℕ) →
     IfOk r (λ cs. record { todo = left; short = marked; reads = cs } ≡ inspects f nonce todo t.short) →
     IfOk r (λ cs. (g : Going) → IsAt f nonce g →
-        audits g todo t ≡ rests_auditing cs g (record { todo = left; tally = record t { short = marked } }))
+    audits g todo t ≡ rests_auditing cs g (record { todo = left; tally = record t { short = marked } }))
 next_audits (Ok cs) f nonce todo left t marked e = λ g at.
     goes_there g todo t
     ∙ ap (λ (o : Inspecting). rests_auditing o.reads g (record { todo = o.todo; tally = record t { short = o.short } }))
@@ -104,7 +110,7 @@ audited_past f nonce g [] t heard p at e = absurd (cc e)
 audited_past f nonce g (q ∷ ps) t heard p at e =
     let same : q ≡ p = cc e in
     ap (λ (x : Piece). audits g ps (checked g.file.kept x heard t)) same
-        ∙ ap (λ (k : Kept). audits g ps (checked k p heard t)) at.kept
+    ∙ ap (λ (k : Kept). audits g ps (checked k p heard t)) at.kept
     ∙ ap (λ (u : Tally). audits g ps u) (checked_by f p heard t)
 
 pub audited_ends : (g : Going) (todo : List Piece) (t : Tally) (heard : List Heard) → slice_get todo 0 ≡ None →
@@ -116,6 +122,6 @@ audited_ends g (q ∷ ps) t heard e = absurd (cc e)
 pub same_audit : (r : Result (List Awaited) Memory) (f : Kept) (nonce : ℕ) (x y : Going → Going) (s : AuditState) →
     ((g : Going) → IsAt f nonce g → x g ≡ y g) →
     IfOk r (λ cs. (g : Going) → IsAt f nonce g → y g ≡ rests_auditing cs g s) →
-        IfOk r (λ cs. (g : Going) → IsAt f nonce g → x g ≡ rests_auditing cs g s)
+    IfOk r (λ cs. (g : Going) → IsAt f nonce g → x g ≡ rests_auditing cs g s)
 same_audit (Ok cs) f nonce x y s same e = λ g at. same g at ∙ e g at
 same_audit (Err z) f nonce x y s same e = tt

@@ -37,7 +37,7 @@ code_count m = elim (cases_eq m.algorithm 1) [
 filled_long : (bytes : List ℕ) (count : ℕ) → length (filled bytes count) ≡ count
 filled_long bytes count =
     let zeros : length {A = ℕ} (replicate (count - length bytes) 0) ≡ count - length bytes =
-        length-replicate (count - length bytes) 0 in
+    length-replicate (count - length bytes) 0 in
     length-append (take count bytes) (replicate (count - length bytes) 0) ∙ omega (arith, length-take count bytes, zeros)
 
 pub row_long : (hs : List Heard) (k count : ℕ) → length (row_from hs k count) ≡ count
@@ -63,7 +63,7 @@ unfolding unit_rows
 rows_even m cs s hs count = λ k d lt.
     let low : k < group_width m = omega (arith, lt, rows_count m cs s hs count) in
     ap length (get_or-map-range_with_len (λ c. row_at hs (replica m cs (position_of m s c)) count) 0 (group_width m) k k d low
-        (omega arith))
+    (omega arith))
     ∙ row_at_long hs (replica m cs (position_of m s k)) count
 
 pub are_rows : (m : RawMap) (cs : List Component) (s : ℕ) (hs : List Heard) (count : ℕ) → IsChecked m →
@@ -81,7 +81,7 @@ pub width_is : (m : RawMap) (cs : List Component) (s : ℕ) (hs : List Heard) (c
 width_is m cs s hs count ch =
     let long = rows_count m cs s hs count in
     sym ((are_rows m cs s hs count ch).even 0 [] (omega (arith, long, ch.some_data)))
-        ∙ rows_even m cs s hs count 0 [] (omega (arith, long, ch.some_data))
+    ∙ rows_even m cs s hs count 0 [] (omega (arith, long, ch.some_data))
 
 -- ---- rows by their columns
 
@@ -89,12 +89,12 @@ width_is m cs s hs count ch =
 pub row_by_columns : (n count : ℕ) (f : ℕ → List ℕ) (rows : List (List ℕ)) (c : ℕ) → length rows ≡ n →
     All (λ row. length row ≡ count) rows →
     ((k : ℕ) → k < count → column rows k ≡ f k) → c < n → (d : List ℕ) →
-        get_or rows c d ≡ map (λ j. get_or (f j) c 0) (range_with_len 0 count)
+    get_or rows c d ≡ map (λ j. get_or (f j) c 0) (range_with_len 0 count)
 row_by_columns n count f rows c long even each lt d =
     let inside : c < length rows = omega (arith, lt, long) in
     let wide : length (get_or rows c d) ≡ count = even c d inside in
     same_number_lists (get_or rows c d) (map (λ j. get_or (f j) c 0) (range_with_len 0 count))
-        (wide ∙ sym (length-map-range_with_len (λ j. get_or (f j) c 0) 0 count))
+    (wide ∙ sym (length-map-range_with_len (λ j. get_or (f j) c 0) 0 count))
     (λ k l.
     let low : k < count = omega (arith, l, wide) in
     sym (cell rows c k d inside) ∙ ap (λ (col : List ℕ). get_or col c 0) (each k low)
@@ -104,7 +104,7 @@ row_by_columns n count f rows c long even each lt d =
 pub rows_by_columns : (n count : ℕ) (f : ℕ → List ℕ) (rows : List (List ℕ)) → length rows ≡ n →
     All (λ row. length row ≡ count) rows →
     ((k : ℕ) → k < count → column rows k ≡ f k) →
-        rows ≡ map (λ c. map (λ j. get_or (f j) c 0) (range_with_len 0 count)) (range_with_len 0 n)
+    rows ≡ map (λ c. map (λ j. get_or (f j) c 0) (range_with_len 0 count)) (range_with_len 0 n)
 rows_by_columns n count f rows long even each =
     same_lists rows (map (λ c. map (λ j. get_or (f j) c 0) (range_with_len 0 count)) (range_with_len 0 n))
     (long ∙ sym (length-map-range_with_len (λ c. map (λ j. get_or (f j) c 0) (range_with_len 0 count)) 0 n))
@@ -127,8 +127,8 @@ same_shape m cs s hs count rows shape =
 pub encoded_are : (m : RawMap) (cs : List Component) (s : ℕ) (hs : List Heard) (count : ℕ) (rows : List (List ℕ)) → IsChecked m →
     map length rows ≡ map length (unit_rows m cs s hs count) →
     ((k : ℕ) → k < width_of (unit_rows m cs s hs count) →
-        column rows k ≡ codeword (code_of m)
-            (take (length (unit_rows m cs s hs count) - count_of (code_of m)) (column (unit_rows m cs s hs count) k))) →
+    column rows k ≡ codeword (code_of m)
+    (take (length (unit_rows m cs s hs count) - count_of (code_of m)) (column (unit_rows m cs s hs count) k))) →
     rows ≡ wanted_rows m (unit_rows m cs s hs count) count
 unfolding wanted
 encoded_are m cs s hs count rows ch shape coded =
@@ -145,7 +145,7 @@ pub wanted_is : (m : RawMap) (rows : List (List ℕ)) (count c : ℕ) (row : Lis
     slice_get (wanted_rows m rows count) c ≡ Some row → row ≡ wanted m rows c count
 wanted_is m rows count c row lt e =
     sym (get_or_from_slice_get (wanted_rows m rows count) c row [] e)
-        ∙ get_or-map-range_with_len (λ k. wanted m rows k count) 0 (group_width m) c c [] lt (omega arith)
+    ∙ get_or-map-range_with_len (λ k. wanted m rows k count) 0 (group_width m) c c [] lt (omega arith)
 
 pub wanted_long : (m : RawMap) (rows : List (List ℕ)) (c count : ℕ) → length (wanted m rows c count) ≡ count
 unfolding wanted

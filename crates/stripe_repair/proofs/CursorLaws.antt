@@ -28,8 +28,8 @@ less_again unit column = omega arith
 -- the first piece, and those behind it
 rest_first : (unit stripe column : ℕ) → column < unit →
     rest_of unit stripe column
-        ≡ (record { stripe = stripe; column = column; count = min MAX_PIECE (unit - column) } ∷ rest_of unit stripe
-        (column + MAX_PIECE))
+    ≡ (record { stripe = stripe; column = column; count = min MAX_PIECE (unit - column) } ∷ rest_of unit stripe
+    (column + MAX_PIECE))
 unfolding pieces_from
 rest_first unit stripe column l =
     let some : 0 < unit - column = omega (arith, l) in
@@ -78,7 +78,7 @@ pub to_next : (unit : ℕ) (ranges : List Stripes) (s : Spot) (r : Stripes) → 
     rest_at unit ranges (record { stripe = r.first; column = 0; end = r.end; next = s.next + 1 }) ≡ rest_at unit ranges s
 to_next unit ranges s r over l e =
     let d : drop s.next ranges ≡ r ∷ drop (suc s.next) ranges =
-        drop-cons ranges s.next r l ∙ ap (λ (x : Stripes). x ∷ drop (suc s.next) ranges) (sym e) in
+    drop-cons ranges s.next r l ∙ ap (λ (x : Stripes). x ∷ drop (suc s.next) ranges) (sym e) in
     let n : suc s.next ≡ s.next + 1 = omega arith in
     let t : rest_at unit ranges s ≡ pieces unit (drop s.next ranges) = rw (not_less s.stripe s.end over) refl in
     ap (λ (x : List Piece). x ++ pieces unit (drop (s.next + 1) ranges)) (begin_is unit r.first r.end (s.next + 1))
@@ -100,7 +100,7 @@ pub past_range : (unit : ℕ) (s : Spot) → s.column < unit → s.stripe < s.en
 past_range unit s l m over =
     within_range unit s l m
     ∙ rw (is_less s.stripe s.end m, none_behind unit s.stripe (s.column + MAX_PIECE) over)
-        (ap (λ (x : List Piece). piece_at unit s ∷ x) (sym (begin_is unit (s.stripe + 1) s.end s.next)))
+    (ap (λ (x : List Piece). piece_at unit s ∷ x) (sym (begin_is unit (s.stripe + 1) s.end s.next)))
 
 -- all stripes of one range
 pub whole_range : (unit high : ℕ) →
@@ -109,7 +109,7 @@ unfolding pieces
 whole_range unit high =
     let all : high - 0 ≡ high = omega arith in
     append-nil (rest_in unit (record { stripe = 0; column = 0; end = high; next = 0 })) ∙ begin_is unit 0 high 0
-        ∙ ap (λ (n : ℕ). pieces_along unit 0 n) all
+    ∙ ap (λ (n : ℕ). pieces_along unit 0 n) all
 
 -- the next columns of the stripe
 pub within : (unit : ℕ) (ranges : List Stripes) (s : Spot) → s.column < unit → s.stripe < s.end →
@@ -122,8 +122,8 @@ pub past : (unit : ℕ) (ranges : List Stripes) (s : Spot) → s.column < unit �
 past unit ranges s l m over =
     within unit ranges s l m
     ∙ rw (is_less s.stripe s.end m, none_behind unit s.stripe (s.column + MAX_PIECE) over)
-        (ap (λ (x : List Piece). piece_at unit s ∷ (x ++ pieces unit (drop s.next ranges)))
-        (sym (begin_is unit (s.stripe + 1) s.end s.next)))
+    (ap (λ (x : List Piece). piece_at unit s ∷ (x ++ pieces unit (drop s.next ranges)))
+    (sym (begin_is unit (s.stripe + 1) s.end s.next)))
 
 -- none is left
 pub over : (unit : ℕ) (ranges : List Stripes) (s : Spot) → s.end ≤ s.stripe → length ranges ≤ s.next → rest_at unit ranges s ≡ []

@@ -25,7 +25,7 @@ out_from m group s column (suc n) ne = rw (ne_eqb (group_of m s) group ne) (out_
 -- and those of several
 skip : (m : RawMap) (group a n k : ℕ) → ((s : ℕ) → a ≤ s → s < a + n → group_of m s ≢ group) →
     filter (λ p. group_of m p.stripe == group) (pieces_along m.unit a (n + k)) ≡ filter (λ p. group_of m p.stripe == group)
-        (pieces_along m.unit (a + n) k)
+    (pieces_along m.unit (a + n) k)
 unfolding pieces_along
 skip m group a zero k none =
     let z : a + zero ≡ a = omega arith in
@@ -35,14 +35,14 @@ skip m group a (suc n) k none =
     let e : a + suc n ≡ a + 1 + n = omega arith in
     let c : suc n + k ≡ suc (n + k) = omega arith in
     rw (e, c) (filter-append (λ (p : Piece). group_of m p.stripe == group)
-        (pieces_from m.unit a 0 ((m.unit + (MAX_PIECE - 1)) / MAX_PIECE)) (pieces_along m.unit (a + 1) (n + k))
+    (pieces_from m.unit a 0 ((m.unit + (MAX_PIECE - 1)) / MAX_PIECE)) (pieces_along m.unit (a + 1) (n + k))
     ∙ ap (λ (xs : List Piece). xs ++ filter (λ (p : Piece). group_of m p.stripe == group) (pieces_along m.unit (a + 1) (n + k)))
-        (out_from m group a 0 ((m.unit + (MAX_PIECE - 1)) / MAX_PIECE) (none a (omega arith) (omega arith)))
+    (out_from m group a 0 ((m.unit + (MAX_PIECE - 1)) / MAX_PIECE) (none a (omega arith) (omega arith)))
     ∙ skip m group (a + 1) n k (λ s le lt. none s (omega (arith, le)) (omega (arith, lt))))
 
 passed : (m : RawMap) (group a t end : ℕ) → a < end → a ≤ t → ((s : ℕ) → a ≤ s → s < t → group_of m s ≢ group) →
     filter (λ p. group_of m p.stripe == group) (pieces_along m.unit a (end - a)) ≡ filter (λ p. group_of m p.stripe == group)
-        (pieces_along m.unit t (end - t))
+    (pieces_along m.unit t (end - t))
 unfolding pieces_along
 passed m group a t end inside le none = elim (cases_lt end t) [
   | inl beyond ↦
@@ -66,7 +66,7 @@ goes_past m group to s begins inside le none =
     rw begins (ap (λ (xs : List Piece). filter (λ (p : Piece). group_of m p.stripe == group) xs) (begin_is m.unit to s.end s.next)
     ∙ sym (passed m group s.stripe to s.end inside le none)
     ∙ ap (λ (xs : List Piece). filter (λ (p : Piece). group_of m p.stripe == group) xs)
-        (sym (begin_is m.unit s.stripe s.end s.next)))
+    (sym (begin_is m.unit s.stripe s.end s.next)))
 
 -- ---- stripes of the group
 
@@ -88,4 +88,4 @@ unfolding pieces_in
 all_in_group m group high =
     let all : high - 0 ≡ high = omega arith in
     ap (λ (xs : List Piece). filter (λ (p : Piece). group_of m p.stripe == group) xs)
-        (begin_is m.unit 0 high 0 ∙ ap (λ (n : ℕ). pieces_along m.unit 0 n) all)
+    (begin_is m.unit 0 high 0 ∙ ap (λ (n : ℕ). pieces_along m.unit 0 n) all)

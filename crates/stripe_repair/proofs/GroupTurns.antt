@@ -32,18 +32,18 @@ pub next_from : (m : RawMap) (group stripe : ℕ) → IsChecked m → group < gr
 next_from m group stripe ch lt ne =
     let some = grouped m group stripe ch lt ne in
     rw (as_turn m group stripe some)
-        (turn_from stripe m.depth group (groups m) (ch.some_depth some) lt (λ e. ne (by_block m stripe some ∙ e)))
+    (turn_from stripe m.depth group (groups m) (ch.some_depth some) lt (λ e. ne (by_block m stripe some ∙ e)))
 
 pub next_stands : (m : RawMap) (group stripe : ℕ) → IsChecked m → group < groups m → group_of m stripe ≢ group →
     group_of m (next_of m group stripe) ≡ group
 next_stands m group stripe ch lt ne =
     let some = grouped m group stripe ch lt ne in
     by_block m (next_of m group stripe) some ∙ ap (λ z. (z / m.depth) % groups m) (as_turn m group stripe some)
-        ∙ turn_stands stripe m.depth group (groups m) (ch.some_depth some) lt
+    ∙ turn_stands stripe m.depth group (groups m) (ch.some_depth some) lt
 
 pub next_none : (m : RawMap) (group stripe : ℕ) → IsChecked m → group < groups m → group_of m stripe ≢ group →
     (s : ℕ) → stripe ≤ s → s < next_of m group stripe → group_of m s ≢ group
 next_none m group stripe ch lt ne s le before e =
     let some = grouped m group stripe ch lt ne in
     turn_none stripe m.depth group (groups m) s (ch.some_depth some) lt le (rw (as_turn m group stripe some) at before)
-        (sym (by_block m s some) ∙ e)
+    (sym (by_block m s some) ∙ e)

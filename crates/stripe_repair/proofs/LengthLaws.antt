@@ -25,7 +25,7 @@ all_low : (heard : List Heard) → All (λ (m : Measured). m.length ≤ MAX_OBJE
 all_low [] = All-nil (λ (m : Measured). m.length ≤ MAX_OBJECT_LENGTH)
 all_low (h ∷ hs) =
     All-cons (λ (m : Measured). m.length ≤ MAX_OBJECT_LENGTH) (record { component = h.component; length = length_in h.payload })
-        (lengths_of hs) (length_low h.payload) (all_low hs)
+    (lengths_of hs) (length_low h.payload) (all_low hs)
 
 pub are_lengths : (heard : List Heard) → length heard ≤ MAX_COMPONENTS → AreLengths (lengths_of heard)
 are_lengths heard few = record {

@@ -49,7 +49,7 @@ split a (suc x) y =
 
 count_split : (f : ℕ → Bool) (a x y : ℕ) →
     length (filter f (range_with_len a (x + y))) ≡ length (filter f (range_with_len a x)) + length
-        (filter f (range_with_len (a + x) y))
+    (filter f (range_with_len (a + x) y))
 count_split f a x y =
     ap (λ xs. length (filter f xs)) (split a x y) ∙ ap length (filter-append f (range_with_len a x) (range_with_len (a + x) y))
     ∙ length-append (filter f (range_with_len a x)) (filter f (range_with_len (a + x) y))
@@ -92,12 +92,12 @@ lost_count m cs s ch =
     let w = group_width m in
     let g = group_of m s * group_width m in
     let base : length (filter (λ c. is_none (replica m cs (c + g))) (range_with_len 0 w)) ≡ length
-        (filter (λ p. is_none (replica m cs p)) (range_with_len g w)) =
+    (filter (λ p. is_none (replica m cs p)) (range_with_len g w)) =
     moved (λ c. is_none (replica m cs (c + g))) (λ p. is_none (replica m cs p)) 0 g w (λ i lt. same_place i) in
     elim (cases_eq m.algorithm 3) [
       | inl turns ↦
           rw (eq-eqb m.algorithm 3 turns)
-              (turned_count (λ c. is_none (replica m cs (c + g))) w (s % w) (mod_below s w (omega (arith, ch.some_data)))) ∙ base
+          (turned_count (λ c. is_none (replica m cs (c + g))) w (s % w) (mod_below s w (omega (arith, ch.some_data)))) ∙ base
       | inr none ↦ rw (ne_eqb m.algorithm 3 none) base
     ]
   where

@@ -78,7 +78,7 @@ with_sources f t p nonce cs ch same is some none =
 
 by_list : (cs : List Awaited) (f : Kept) (g : Going) (t : Target) (todo : List Piece) → g.file.kept ≡ f →
     rests_or cs g Rebuilding (Gathers t todo) (lost g t) ≡ comes_to (by_sources f t cs) g
-        (record { target = t; todo = todo; stage = Gathering })
+    (record { target = t; todo = todo; stage = Gathering })
 by_list [] f g t todo e =
     ap (λ (k : Kept). goes_past (noting g (Lost t.component (lacking k.map k.components (group_for k t)))) t) e
 by_list (c ∷ cs) f g t todo e = refl
@@ -90,17 +90,17 @@ fills_by f nonce g t [] at = refl
 fills_by f nonce g t (p ∷ ps) at =
     let here : sources g.file.kept t p g.effects.nonce ≡ sources f t p nonce = rw (at.kept, at.nonce) refl in
     ap (λ (cs : List Awaited). rests_or cs g Rebuilding (Gathers t (p ∷ ps)) (lost g t)) here
-        ∙ by_list (sources f t p nonce) f g t (p ∷ ps) at.kept
+    ∙ by_list (sources f t p nonce) f g t (p ∷ ps) at.kept
 
 pub next_fills : (r : Result FillStep Memory) (f : Kept) (nonce : ℕ) (t : Target) (todo : List Piece) (o : Option Piece) →
     o ≡ slice_get todo 0 →
     IfOk r (λ step. step ≡ sourced f t o nonce) →
     IfOk r (λ step. (g : Going) → IsAt f nonce g →
-        fills g t todo ≡ comes_to step g (record { target = t; todo = todo; stage = Gathering }))
+    fills g t todo ≡ comes_to step g (record { target = t; todo = todo; stage = Gathering }))
 next_fills (Ok step) f nonce t todo o first e = λ g at.
     fills_by f nonce g t todo at
-        ∙ ap (λ (s : FillStep). comes_to s g (record { target = t; todo = todo; stage = Gathering }))
-            (ap (λ (x : Option Piece). sourced f t x nonce) (sym first) ∙ sym e)
+    ∙ ap (λ (s : FillStep). comes_to s g (record { target = t; todo = todo; stage = Gathering }))
+    (ap (λ (x : Option Piece). sourced f t x nonce) (sym first) ∙ sym e)
 next_fills (Err x) f nonce t todo o first e = tt
 
 -- ---- its sources are read, or its WRITE is answered
@@ -150,6 +150,6 @@ gathered_ends g t (q ∷ ps) heard e = absurd (cc e)
 pub same_fill : (r : Result FillStep Memory) (f : Kept) (nonce : ℕ) (x y : Going → Going) (s : RebuildState) →
     ((g : Going) → IsAt f nonce g → x g ≡ y g) →
     IfOk r (λ step. (g : Going) → IsAt f nonce g → y g ≡ comes_to step g s) →
-        IfOk r (λ step. (g : Going) → IsAt f nonce g → x g ≡ comes_to step g s)
+    IfOk r (λ step. (g : Going) → IsAt f nonce g → x g ≡ comes_to step g s)
 same_fill (Ok step) f nonce x y s same e = λ g at. same g at ∙ e g at
 same_fill (Err z) f nonce x y s same e = tt

@@ -49,8 +49,8 @@ pick : (rs : List Awaited) (todo : List Piece) (short : List ℕ) (later : Onwar
     x ≡ rests_or later.reads g kind (Fetches later.todo later.short) (repairs kind g [] later.short) →
     rests_or rs g kind (Fetches todo short) x
     ≡ rests_or (stops_or rs todo short later).reads g kind
-        (Fetches (stops_or rs todo short later).todo (stops_or rs todo short later).short)
-            (repairs kind g [] (stops_or rs todo short later).short)
+    (Fetches (stops_or rs todo short later).todo (stops_or rs todo short later).short)
+    (repairs kind g [] (stops_or rs todo short later).short)
 pick [] todo short later g kind x e = e
 pick (c ∷ cs) todo short later g kind x e = refl
 
@@ -58,13 +58,13 @@ pick (c ∷ cs) todo short later g kind x e = refl
 goes_there : (kind : JobKind) (g : Going) (todo : List Piece) (short : List ℕ) →
     repairs kind g todo short
     ≡ rests_or (goes_to g.file.kept g.effects.nonce todo short).reads g kind
-        (Fetches (goes_to g.file.kept g.effects.nonce todo short).todo (goes_to g.file.kept g.effects.nonce todo short).short)
+    (Fetches (goes_to g.file.kept g.effects.nonce todo short).todo (goes_to g.file.kept g.effects.nonce todo short).short)
     (repairs kind g [] (goes_to g.file.kept g.effects.nonce todo short).short)
 unfolding goes_to repairs
 goes_there kind g [] short = refl
 goes_there kind g (p ∷ ps) short =
     pick (repair_reads g.file.kept p g.effects.nonce) (p ∷ ps) (short_with g.file.kept p short)
-        (goes_to g.file.kept g.effects.nonce ps (short_with g.file.kept p short)) g kind
+    (goes_to g.file.kept g.effects.nonce ps (short_with g.file.kept p short)) g kind
     (repairs kind g ps (short_with g.file.kept p short)) (goes_there kind g ps (short_with g.file.kept p short))
 
 pub goes_by_rules : (f : Kept) (nonce : ℕ) (kind : JobKind) (g : Going) (todo : List Piece) (short : List ℕ) (to : Onward) →
@@ -73,7 +73,7 @@ pub goes_by_rules : (f : Kept) (nonce : ℕ) (kind : JobKind) (g : Going) (todo 
 goes_by_rules f nonce kind g todo short to at e =
     let here : goes_to g.file.kept g.effects.nonce todo short ≡ to = rw (at.kept, at.nonce) (sym e) in
     goes_there kind g todo short
-        ∙ ap (λ (o : Onward). rests_or o.reads g kind (Fetches o.todo o.short) (repairs kind g [] o.short)) here
+    ∙ ap (λ (o : Onward). rests_or o.reads g kind (Fetches o.todo o.short) (repairs kind g [] o.short)) here
 
 -- ---- rows that are read, and rows that are written
 
@@ -139,7 +139,7 @@ none_of b xs tells true_there = tells.0 true_there
 pub next_ok : (r : Result (List Awaited) Memory) (f : Kept) (nonce : ℕ) (todo left : List Piece) (short marked : List ℕ) →
     IfOk r (λ cs. record { todo = left; short = marked; reads = cs } ≡ goes_to f nonce todo short) →
     IfOk r (λ cs. (kind : JobKind) (g : Going) → IsAt f nonce g →
-        repairs kind g todo short ≡ rests_repairing cs g kind (record { todo = left; short = marked; stage = Fetching }))
+    repairs kind g todo short ≡ rests_repairing cs g kind (record { todo = left; short = marked; stage = Fetching }))
 next_ok (Ok cs) f nonce todo left short marked e =
     λ kind g at. goes_by_rules f nonce kind g todo short (record { todo = left; short = marked; reads = cs }) at e
 next_ok (Err x) f nonce todo left short marked e = tt

@@ -57,7 +57,7 @@ pub decoded_are : (m : RawMap) (cs : List Component) (s : ℕ) (heard : List Hea
     map length rows ≡ map length (unit_rows m cs s heard count) →
     ((k : ℕ) → k < width_of (unit_rows m cs s heard count)
     → column rows k ≡ decoded (length (unit_rows m cs s heard count) - count_of (code_of m)) (lost_units m cs s)
-        (column (unit_rows m cs s heard count) k)) →
+    (column (unit_rows m cs s heard count) k)) →
     rows ≡ restored_rows m cs s heard count
 unfolding restored
 decoded_are m cs s heard count rows ch shape exact =
@@ -66,7 +66,7 @@ decoded_are m cs s heard count rows ch shape exact =
     let units : length old - count_of (code_of m) ≡ data_units m = omega (arith, rows_count m cs s heard count, code_count m) in
     rows_by_columns (group_width m) count (λ k. decoded (data_units m) (lost_units m cs s) (column old k)) rows alike.0 alike.1
     (λ k lt. exact k (rw (width_is m cs s heard count ch) lt)
-        ∙ ap (λ (u : ℕ). decoded u (lost_units m cs s) (column old k)) units)
+    ∙ ap (λ (u : ℕ). decoded u (lost_units m cs s) (column old k)) units)
 
 -- ---- one row
 
@@ -81,7 +81,7 @@ pub restored_is : (m : RawMap) (cs : List Component) (s : ℕ) (heard : List Hea
 restored_is m cs s heard count c row lt e =
     sym (get_or_from_slice_get (restored_rows m cs s heard count) c row [] e)
     ∙ get_or-map-range_with_len (λ k. restored m (lost_units m cs s) (unit_rows m cs s heard count) k count) 0
-        (group_width m) c c [] lt (omega arith)
+    (group_width m) c c [] lt (omega arith)
 
 pub restored_long : (m : RawMap) (lost : List ℕ) (rows : List (List ℕ)) (c count : ℕ) →
     length (restored m lost rows c count) ≡ count
@@ -97,6 +97,6 @@ long_of (Err e) x n u l = tt
 -- the bytes of a piece whose position has no present replica
 pub made_none : (f : Kept) (t : Target) (p : Piece) (heard : List Heard) → replica f.map f.components (position_for f t) ≡ None →
     made f t p heard ≡ restored f.map (lost_units f.map f.components p.stripe)
-        (unit_rows f.map f.components p.stripe heard p.count) (unit_with f.map p.stripe t.component) p.count
+    (unit_rows f.map f.components p.stripe heard p.count) (unit_with f.map p.stripe t.component) p.count
 unfolding made
 made_none f t p heard e = rw e refl

@@ -19,7 +19,7 @@ pub store_there : (f : Kept) (p : Piece) (rows : List (List ℕ)) (heard : List 
     store_of f p rows heard at k nonce
     ≡ (if nat_lt 0 (end_of (row_from heard k p.count) (wanted f.map rows (unit_with f.map p.stripe k) p.count))
     then Some (to_store f p (row_from heard k p.count)
-        (wanted f.map rows (unit_with f.map p.stripe k) p.count) k at.drive at.object nonce) else None)
+    (wanted f.map rows (unit_with f.map p.stripe k) p.count) k at.drive at.object nonce) else None)
 unfolding store_of
 store_there f p rows heard at k nonce e g = rw (e, eq-eqb (group_with f.map k) (group_of f.map p.stripe) g) refl
 

@@ -16,7 +16,7 @@ mod_over : (b i n : ℕ) → n ≤ b % n + i → b % n + i < n + n → (b + i) %
 mod_over b i n le lt =
     let e : b + i ≡ b / n * n + (b % n + i - n) + n = omega (arith, div-add-mod' b n, le) in
     ap (λ z. z % n) e ∙ add-mod_right (b / n * n + (b % n + i - n)) n
-        ∙ mod-mul-add (b / n) n (b % n + i - n) (omega (arith, lt, le))
+    ∙ mod-mul-add (b / n) n (b % n + i - n) (omega (arith, lt, le))
 
 -- ---- how many blocks further
 

@@ -49,9 +49,13 @@ impl Model for WriteLog {
 
     ghost Value = { LogState };
 
-    ghost view =
-        { λ w. record { pending = w.pending.entries; entries = w.entries; sent_for = w.sent_for.entries; by_grant =
-        w.by_grant.entries } };
+    ghost view = { λ w. record {
+      pending = w.pending.entries;
+      entries = w.entries;
+      sent_for = w.sent_for.entries;
+      by_grant =
+          w.by_grant.entries;
+    } };
 }
 
 // An entry more under a grant.

@@ -14,5 +14,5 @@ use Rattle.osd_commands.specs.Commands.{reading as command_reading}
 unfoldable pub opened : ℕ
 unfolding verdict_with judges delivers calls_at times_out leaves resends pends makes gives injects begins sent_lines fitting
     pending_from rule_of refusal grouped sent_in is_short_stripe is_disturbed is_torn is_calm component_at marks_of plays
-        played_all command_reading
+    played_all command_reading
 opened = 0

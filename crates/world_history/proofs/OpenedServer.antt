@@ -33,12 +33,12 @@ use Rattle.parity_code.specs.Decoding.{decoded}
 unfoldable pub opened_server : ℕ
 unfolding length_in present_lengths audits checked audit_begins row_from unit_rows wanted first_unlike end_unlike label is_meant
     to_each key_at may_commit commit_under commits decoded repair_of first_repair second_repair inverse_from lost_units restored
-        file_at put_file add_file lowest_after early must_fence late give_or_refuse fence_first on_grants gets overlaps conflicts
-        asked joined merged making fenced fence_begins goes_on loses declares credential credentials_from add_drive checked_64
-        refusal are_of places components_on create_file rows_below rows_in pieces_from pieces_along pieces pieces_in
-        counters_have_room heard_at on_drive_reply on_message among marked opens_fenced opens opens_each reopen offline
-        declares_each declare ordered stores_from short_with target_for rebuilds sources fills made filling repair_reads repairs
-        storing repair_begins is_done hearing on_reply recalls_from on_request is_device named_from named none_beyond loss
-        return_row reports_from takes_loss returns_on admit_after admit keep replica_from lacking lacked_from lose_on lose_from
-        any_on stood_on checked_map double where_odd product_bits product two_to
+    file_at put_file add_file lowest_after early must_fence late give_or_refuse fence_first on_grants gets overlaps conflicts
+    asked joined merged making fenced fence_begins goes_on loses declares credential credentials_from add_drive checked_64
+    refusal are_of places components_on create_file rows_below rows_in pieces_from pieces_along pieces pieces_in
+    counters_have_room heard_at on_drive_reply on_message among marked opens_fenced opens opens_each reopen offline
+    declares_each declare ordered stores_from short_with target_for rebuilds sources fills made filling repair_reads repairs
+    storing repair_begins is_done hearing on_reply recalls_from on_request is_device named_from named none_beyond loss
+    return_row reports_from takes_loss returns_on admit_after admit keep replica_from lacking lacked_from lose_on lose_from
+    any_on stood_on checked_map double where_odd product_bits product two_to
 opened_server = 0

@@ -16,7 +16,6 @@ use Rattle.world_parties.specs.Drive.{IsMadeOf}
 use Rattle.world_parties.proofs.StoreOn.{drive_is}
 
 module _ (made : DriveMake) where
-
   -- a crash leaves the disk of a store that goes on
   pub left : (store : StoredDrive Medium) (disk : Medium) → IsOwnStore made store → is_over_in store ≡ false →
       disk ≡ fresh (bytes_of (disk_in store))

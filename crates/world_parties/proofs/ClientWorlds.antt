@@ -89,7 +89,7 @@ did_act w c a i s = record {
 
 did_world : (w : World) (c : ℕ) (a : ClientAt) (i : Input) (s : Step)
     → (client_did w c a i s).world ≡ with_clients w
-        (with_number w.clients c (acted c a (op_in a.state i) (wrote_in a i) s).client)
+    (with_number w.clients c (acted c a (op_in a.state i) (wrote_in a i) s).client)
 did_world w c a i s = rw (any_written s.sends) refl
 
 -- a client that stays as it was
@@ -126,8 +126,8 @@ hears_if : (b : Bool) (w : World) (c : ℕ) (m : Message) (a : ClientAt) (o : Op
     → at_number w.clients c ≡ Some a
     → IsHanded (if b then quiet w delivery.Deaf else client_takes w c a m.from o)
     (with_clients w
-        (heard_at w.clients c
-        (if b then record { client = a; handed = is_deaf } else takes (goes_on c a (on_message_in a.state m.from o)))).clients)
+    (heard_at w.clients c
+    (if b then record { client = a; handed = is_deaf } else takes (goes_on c a (on_message_in a.state m.from o)))).clients)
     (if b then record { client = a; handed = is_deaf } else takes (goes_on c a (on_message_in a.state m.from o))).handed
 hears_if true w c m a o f = record {
   world = stays w c a a refl f;
@@ -148,8 +148,12 @@ clients_hear w c m = hears_by w c m (at_number w.clients c) refl
 -- ---- calls, timeouts, and what else comes
 
 goes_done : (w : World) (c : ℕ) (a : ClientAt) (i : Input) (s : Step)
-    → IsDone (record { world = (client_did w c a i s).world; told = (client_did w c a i s).told; posts =
-        (client_did w c a i s).posts })
+    → IsDone (record {
+      world = (client_did w c a i s).world;
+      told = (client_did w c a i s).told;
+      posts =
+          (client_did w c a i s).posts;
+    })
     (with_clients w (with_number w.clients c (acted c a (op_in a.state i) (wrote_in a i) s).client))
     (acted c a (op_in a.state i) (wrote_in a i) s).act
 goes_done w c a i s = record { world = did_world w c a i s; act = did_act w c a i s }

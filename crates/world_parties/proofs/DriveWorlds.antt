@@ -32,7 +32,7 @@ hears_if : (b : Bool) (w : World) (d : ℕ) (m : Message) (a : DriveAt) (j : Jud
     → with_number w.drives d a ≡ w.drives
     → IsHanded (if b then quiet w delivery.Deaf else drive_replies w d m.from j)
     (with_drives w
-        (heard_at w.drives d (if b then record { drive = a; handed = unheard } else replied d (party_of m.from) j)).drives)
+    (heard_at w.drives d (if b then record { drive = a; handed = unheard } else replied d (party_of m.from) j)).drives)
     (if b then record { drive = a; handed = unheard } else replied d (party_of m.from) j).handed
 hears_if true w d m a j s = stays_deaf w (with_number w.drives d a) s
 hears_if false w d m a j s = replies w d m j

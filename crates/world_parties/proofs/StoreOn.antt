@@ -62,8 +62,12 @@ all_bodies (r ∷ rs) (suc most) rest are few =
 fewer : (rs : List Gated) → length rs ≤ length (records_of rs)
 fewer [] = omega arith
 fewer (r ∷ rs) =
-    omega (arith, fewer rs, length-append (to_be_bytes w32 (length r.1)) (r.1 ++ records_of rs),
-        length-append r.1 (records_of rs))
+    omega (
+      arith,
+      fewer rs,
+      length-append (to_be_bytes w32 (length r.1)) (r.1 ++ records_of rs),
+      length-append r.1 (records_of rs),
+    )
 
 -- it was made so
 made_alike : (made : DriveMake) (d : DriveState) → IsMadeOf made d → made_core made ≡ emptied d
@@ -90,9 +94,13 @@ drive_is made d c is store =
     behind = ap (λ (l : List ℕ). drop HEADER_SIZE l) whole ∙ drop_at (header_for d) _ HEADER_SIZE front.whole
 
     few : length front.records < length c
-    few = omega (arith, fewer front.records, ap length whole,
-        length-append (header_for d) (records_of front.records ++ 0 ∷ store.log.rest),
-        length-append (records_of front.records) (0 ∷ store.log.rest))
+    few = omega (
+      arith,
+      fewer front.records,
+      ap length whole,
+      length-append (header_for d) (records_of front.records ++ 0 ∷ store.log.rest),
+      length-append (records_of front.records) (0 ∷ store.log.rest),
+    )
 
     bodies : bodies_in (length c) (drop HEADER_SIZE c) ≡ store.records
     bodies = ap (λ (l : List ℕ). bodies_in (length c) l) behind

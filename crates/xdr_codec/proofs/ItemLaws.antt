@@ -45,7 +45,7 @@ pub rest_fits : (xs ys zs : List ℕ) → IsBytes xs → xs ≡ ys ++ zs → IsB
 rest_fits xs ys zs fits e i =
     let at : (length ys + i) - length ys ≡ i = omega arith in
     let there : get_or (ys ++ zs) (length ys + i) 0 ≡ get_or zs i 0 =
-        get_or-append_right ys zs (length ys) (length ys + i) 0 refl (omega arith) ∙ ap (λ (k : ℕ). get_or zs k 0) at in
+    get_or-append_right ys zs (length ys) (length ys + i) 0 refl (omega arith) ∙ ap (λ (k : ℕ). get_or zs k 0) at in
     rw (← there, ← e) (fits (length ys + i))
 
 -- ---- numbers
@@ -78,9 +78,9 @@ number_again : (w : Width) (limit : ℕ) → IsWide w limit → (n : ℕ) (more 
 number_again w limit wide n more at fits =
     let len = wide.len n in
     let long : ltb (length (to_be_bytes w n ++ more)) (byte_len w) ≡ false =
-        le-ltb _ _ (omega (arith, length-append (to_be_bytes w n) more)) in
+    le-ltb _ _ (omega (arith, length-append (to_be_bytes w n) more)) in
     rw (long, take_at (to_be_bytes w n) more (byte_len w) len, drop_at (to_be_bytes w n) more (byte_len w) len, wide.again n fits)
-        refl
+    refl
 
 number_found : (w : Width) (limit : ℕ) → IsWide w limit → (i : Rest) (n : ℕ) (j : Rest) → IsBytes i.left →
     number_in w i ≡ Ok (n, j) → (n < limit) × (i.left ≡ to_be_bytes w n ++ j.left)
@@ -92,21 +92,28 @@ number_found w limit wide i n j fits e =
     let number : from_be_bytes w (take (byte_len w) i.left) ≡ n = ap (λ (p : ℕ × Rest). p.0) both in
     let rest : drop (byte_len w) i.left ≡ j.left = ap (λ (p : ℕ × Rest). p.1.left) both in
     let front_fits : IsBytes (take (byte_len w) i.left) =
-        subst (λ (k : ℕ). IsBytes (take k i.left)) whole (IsBytes-range i.left 0 (byte_len w) fits) in
+    subst (λ (k : ℕ). IsBytes (take k i.left)) whole (IsBytes-range i.left 0 (byte_len w) fits) in
     let front : to_be_bytes w n ≡ take (byte_len w) i.left =
-        rw (← number) (wide.back (take (byte_len w) i.left) (omega (arith, length-take (byte_len w) i.left)) front_fits) in
-    (rw (← number) (wide.below (take (byte_len w) i.left) front_fits),
-        rw (front, ← rest) (sym (take-append-drop (byte_len w) i.left)))
+    rw (← number) (wide.back (take (byte_len w) i.left) (omega (arith, length-take (byte_len w) i.left)) front_fits) in (
+      rw (← number) (wide.below (take (byte_len w) i.left) front_fits),
+      rw (front, ← rest) (sym (take-append-drop (byte_len w) i.left)),
+    )
 
 pub u32_codec : IsCodec u32_in u32_item (λ n. n < 2 ^ 32)
 unfolding u32_in u32_item
-u32_codec = record { again = λ n more at fits. (at + 4, number_again w32 (2 ^ 32) wide_32 n more at fits); found =
-    number_found w32 (2 ^ 32) wide_32 }
+u32_codec = record {
+  again = λ n more at fits. (at + 4, number_again w32 (2 ^ 32) wide_32 n more at fits);
+  found =
+      number_found w32 (2 ^ 32) wide_32;
+}
 
 pub u64_codec : IsCodec u64_in u64_item (λ n. n < 2 ^ 64)
 unfolding u64_in u64_item
-u64_codec = record { again = λ n more at fits. (at + 8, number_again w64 (2 ^ 64) wide_64 n more at fits); found =
-    number_found w64 (2 ^ 64) wide_64 }
+u64_codec = record {
+  again = λ n more at fits. (at + 8, number_again w64 (2 ^ 64) wide_64 n more at fits);
+  found =
+      number_found w64 (2 ^ 64) wide_64;
+}
 
 pub i64_codec : IsCodec i64_in i64_item (FitsSigned w64)
 unfolding i64_in i64_item
@@ -119,7 +126,7 @@ i64_codec = record {
       let f = u64_codec.found i b.0.0 b.0.1 fits b.1 in
       let both = ok_is (cast_signed w64 b.0.0, b.0.1) (z, j) b.2 in
       subst (λ (p : ℤ × Rest). FitsSigned w64 p.0 × (i.left ≡ i64_item p.0 ++ p.1.left)) both
-          (sfits_to_z (record { fits = f.0 }), rw (of_z-to_z w64 b.0.0 f.0) f.1);
+      (sfits_to_z (record { fits = f.0 }), rw (of_z-to_z w64 b.0.0 f.0) f.1);
 }
 
 bool_again : (b : Bool) (more : List ℕ) (at : ℕ) →
@@ -130,7 +137,7 @@ bool_again true more at = let a = u32_codec.again 1 more at (omega arith) in (a.
 
 bool_chosen : (i : Rest) (n : ℕ) (x : Rest) (at : ℕ) (v : Bool) (j : Rest) → i.left ≡ u32_item n ++ x.left →
     cond {A = Result (Bool × Rest) XdrErr} (eqb n 0) (Ok (false, x)) (cond (eqb n 1) (Ok (true, x)) (Err (BadBool at))) ≡ Ok
-        (v, j) → i.left ≡ bool_item v ++ j.left
+    (v, j) → i.left ≡ bool_item v ++ j.left
 bool_chosen i n x at v j f e =
     elim (chosen (eqb n 0) _ _ _ e) [
       | inl p ↦ let both = ok_is (false, x) (v, j) p.1 in
@@ -149,8 +156,8 @@ bool_codec = record {
   again = λ b more at fits. bool_again b more at;
   found = λ i v j fits e.
       let b = bind_ok (u32_in i)
-          (λ n. cond {A = Result (Bool × Rest) XdrErr} (eqb n.0 0) (Ok (false, n.1))
-          (cond (eqb n.0 1) (Ok (true, n.1)) (Err (BadBool i.at)))) (v, j) e in
+      (λ n. cond {A = Result (Bool × Rest) XdrErr} (eqb n.0 0) (Ok (false, n.1))
+      (cond (eqb n.0 1) (Ok (true, n.1)) (Err (BadBool i.at)))) (v, j) e in
       let f = u32_codec.found i b.0.0 b.0.1 fits b.1 in
       (tt, bool_chosen i b.0.0 b.0.1 i.at v j f.1 b.2);
 }
@@ -184,7 +191,7 @@ filler n = replicate (padded n - n) 0
 
 body_again : (head body more : List ℕ) (start at : ℕ) → length head ≡ start →
     body_in start (length body) (record { left = head ++ ((body ++ filler (length body)) ++ more); at = at }) ≡ Ok
-        (body, record { left = more; at = at + (start + padded (length body)) })
+    (body, record { left = more; at = at + (start + padded (length body)) })
 unfolding body_in
 body_again head body more start at p =
     let n : ℕ = length body in
@@ -195,17 +202,21 @@ body_again head body more start at p =
     let same : left ≡ head ++ (body ++ (zeros ++ more)) = ap (λ (t : List ℕ). head ++ t) (append_assoc body zeros more) in
     let twice : left ≡ (head ++ body) ++ (zeros ++ more) = same ∙ sym (append_assoc head body (zeros ++ more)) in
     let size : length left ≡ start + (padded n + length more) =
-        omega (arith, length-append head ((body ++ zeros) ++ more), length-append (body ++ zeros) more,
-        length-append body zeros) in
+    omega (
+      arith,
+      length-append head ((body ++ zeros) ++ more),
+      length-append (body ++ zeros) more,
+      length-append body zeros,
+    ) in
     let long : ltb (length left) (start + padded n) ≡ false = le-ltb _ _ (omega arith) in
     let front : slice_range left start (start + n) ≡ body =
-        rw same (slice_at head body (zeros ++ more) start (start + n) p refl) in
+    rw same (slice_at head body (zeros ++ more) start (start + n) p refl) in
     let filled : slice_range left (start + n) (start + padded n) ≡ replicate (padded n - n) 0 =
-        rw twice (slice_at (head ++ body) zeros more (start + n) (start + padded n) (omega (arith, length-append head body))
-        (omega arith)) in
+    rw twice (slice_at (head ++ body) zeros more (start + n) (start + padded n) (omega (arith, length-append head body))
+    (omega arith)) in
     let none = first_nonzero-zeros left (start + n) (start + padded n) (padded n - n) filled in
     let rest : drop (start + padded n) left ≡ more =
-        behind_at head (body ++ zeros) more (start + padded n) (omega (arith, length-append body zeros)) in
+    behind_at head (body ++ zeros) more (start + padded n) (omega (arith, length-append body zeros)) in
     rw (long, none, front, rest) refl
 
 unless_padding_ok : (at : ℕ) (o : Option ℕ) (x y : List ℕ × Rest) → unless_padding at o x ≡ Ok y → (o ≡ None) × (x ≡ y)
@@ -220,25 +231,27 @@ body_found i start n v j e =
     let long : start + padded n ≤ length i.left = ltb-false _ _ g.0 in
     let grows : n ≤ padded n = omega arith in
     let u = unless_padding_ok i.at (first_nonzero i.left (start + n) (start + padded n))
-        (slice_range i.left start (start + n), behind (start + padded n) i) (v, j) g.1 in
+    (slice_range i.left start (start + n), behind (start + padded n) i) (v, j) g.1 in
     let value : slice_range i.left start (start + n) ≡ v = ap (λ (p : List ℕ × Rest). p.0) u.1 in
     let rest : drop (start + padded n) i.left ≡ j.left = ap (λ (p : List ℕ × Rest). p.1.left) u.1 in
     let width : (start + padded n) - (start + n) ≡ padded n - n = omega arith in
     let filled : filler n ≡ slice_range i.left (start + n) (start + padded n) =
-        sym (zeros i.left (start + n) (start + padded n) (omega arith) long u.0 ∙ ap (λ (k : ℕ). replicate k 0) width) in
+    sym (zeros i.left (start + n) (start + padded n) (omega arith) long u.0 ∙ ap (λ (k : ℕ). replicate k 0) width) in
     let behind_body : filler n ++ j.left ≡ drop (start + n) i.left =
-        next i.left (start + n) (start + padded n) (filler n) j.left (omega arith) filled (sym rest) in
-    (rw (← value) (length-range i.left start (start + n) (omega arith) (omega arith) ∙ omega arith),
-        append_assoc v (filler n) j.left
-        ∙ next i.left start (start + n) v (filler n ++ j.left) (omega arith) (sym value) behind_body)
+    next i.left (start + n) (start + padded n) (filler n) j.left (omega arith) filled (sym rest) in (
+      rw (← value) (length-range i.left start (start + n) (omega arith) (omega arith) ∙ omega arith),
+      append_assoc v (filler n) j.left
+          ∙ next i.left start (start + n) v (filler n ++ j.left) (omega arith) (sym value) behind_body,
+    )
 
 pub fixed_codec : (n : ℕ) → IsCodec (fixed_in n) fixed_item (λ v. length v ≡ n)
 unfolding fixed_item
 fixed_codec n = record {
-  again = λ v more at fits.
-      (at + (0 + padded n),
-      subst (λ (k : ℕ). fixed_in k (record { left = (v ++ filler (length v)) ++ more; at = at }) ≡ Ok
-      (v, record { left = more; at = at + (0 + padded k) })) fits (body_again [] v more 0 at refl));
+  again = λ v more at fits. (
+    at + (0 + padded n),
+    subst (λ (k : ℕ). fixed_in k (record { left = (v ++ filler (length v)) ++ more; at = at }) ≡ Ok
+        (v, record { left = more; at = at + (0 + padded k) })) fits (body_again [] v more 0 at refl),
+  );
   found = λ i v j fits e. let f = body_found i 0 n v j e in
       (f.0, sym (subst (λ (k : ℕ). (v ++ filler k) ++ j.left ≡ i.left) (sym f.0) f.1));
 }
@@ -268,17 +281,18 @@ pub opaque_codec : (most : ℕ) → most < 2 ^ 32 → IsCodec (opaque_in most) o
 unfolding opaque_in opaque_item fixed_item
 opaque_codec most small = record {
   again = λ v more at fits.
-      let a = (count_codec most small).again (length v) (fixed_item v ++ more) at fits in
-      (at + (4 + padded (length v)),
-          ap (opaque_in most)
-              (ap (λ (t : List ℕ). record { left = t; at = at }) (append_assoc (u32_item (length v)) (fixed_item v) more))
-              ∙ rw a.1 (body_again (u32_item (length v)) v more 4 at (length-u32 (length v))));
+      let a = (count_codec most small).again (length v) (fixed_item v ++ more) at fits in (
+        at + (4 + padded (length v)),
+        ap (opaque_in most)
+            (ap (λ (t : List ℕ). record { left = t; at = at }) (append_assoc (u32_item (length v)) (fixed_item v) more))
+            ∙ rw a.1 (body_again (u32_item (length v)) v more 4 at (length-u32 (length v))),
+      );
   found = λ i v j fits e.
       let b = bind_ok (count_in most i) (λ n. body_in 4 n.0 i) (v, j) e in
       let n = (count_codec most small).found i b.0.0 b.0.1 fits b.1 in
       let f = body_found i 4 b.0.0 v j b.2 in
       let body : fixed_item v ++ j.left ≡ b.0.1.left =
-          subst (λ (k : ℕ). (v ++ filler k) ++ j.left ≡ b.0.1.left) (sym f.0) (f.1 ∙ u32_rest i.left b.0.0 b.0.1.left n.1) in
+      subst (λ (k : ℕ). (v ++ filler k) ++ j.left ≡ b.0.1.left) (sym f.0) (f.1 ∙ u32_rest i.left b.0.0 b.0.1.left n.1) in
       (rw f.0 n.0, n.1 ∙ rw (← f.0, ← body) (sym (append_assoc (u32_item (length v)) (fixed_item v) j.left)));
 }
 
@@ -293,7 +307,7 @@ read_found reading spelling Fits old (Err d) new codec fits e = tt
 read_takes : {V : Type 0} (reading : Rest → Result (V × Rest) XdrErr) (spelling : V → List ℕ) (Fits : V → Type 0) (old : Rest)
     (v : V) (more : List ℕ) →
     IsCodec reading spelling Fits → Fits v → old.left ≡ spelling v ++ more →
-        (end : ℕ) × (reading old ≡ Ok (v, record { left = more; at = end }))
+    (end : ℕ) × (reading old ≡ Ok (v, record { left = more; at = end }))
 read_takes reading spelling Fits old v more codec fits e =
     let a = codec.again v more old.at fits in
     (a.0, ap (λ (t : List ℕ). reading (record { left = t; at = old.at })) e ∙ a.1)

@@ -10,7 +10,7 @@ use Rattle.zone_place.proofs.Spreading.{dealt_spreads}
 
 pub dealt_is : (ask : ZoneAsk) (loads : List ZoneLoad) (k : ℕ) (chosen : List ℕ) → k ≤ ask.groups → ask.groups ≤ k
     → chosen ≡ flat_map (λ j. every ask.groups j (in_line ask (online_placed loads))) (counted 0 k) →
-        chosen ≡ dealt ask (online_placed loads)
+    chosen ≡ dealt ask (online_placed loads)
 unfolding dealt
 dealt_is ask loads k chosen low high e =
     let all : k ≡ ask.groups = omega (arith, low, high) in
@@ -20,4 +20,4 @@ pub deal_spreads : (ask : ZoneAsk) (loads : List ZoneLoad) (chosen : List ℕ) �
     chosen ≡ dealt ask (online_placed loads) → Spreads ask loads chosen
 deal_spreads ask loads chosen can e =
     ap (spreads ask (online_placed loads)) e
-        ∙ dealt_spreads ask (online_placed loads) (online_different loads can.different) can.room
+    ∙ dealt_spreads ask (online_placed loads) (online_different loads can.different) can.room

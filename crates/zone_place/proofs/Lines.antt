@@ -105,7 +105,7 @@ first_with p z (y ∷ ys) r = elim (cases_eq z y) [
 
     below : (b : Bool) → z < y →
         first (if b then z ∷ filter p (y ∷ ys) else filter p (y ∷ ys))
-            ≡ (if b then lower z (first (filter p (y ∷ ys))) else first (filter p (y ∷ ys)))
+        ≡ (if b then lower z (first (filter p (y ∷ ys))) else first (filter p (y ∷ ys)))
     below true lt = sym (lower_first p z (y ∷ ys) (lt, above_weaker z y ys lt r.0))
     below false lt = refl
 
@@ -113,7 +113,7 @@ first_with p z (y ∷ ys) r = elim (cases_eq z y) [
         first (filter p (with_zone z ys)) ≡ (if p z then lower z (first (filter p ys)) else first (filter p ys))
         → first (if b then y ∷ filter p (with_zone z ys) else filter p (with_zone z ys))
         ≡ (if p z then lower z (first (if b then y ∷ filter p ys else filter p ys)) else first
-            (if b then y ∷ filter p ys else filter p ys))
+        (if b then y ∷ filter p ys else filter p ys))
     above true lt more = elim (cases_Bool (p z)) [
       | inl on ↦ rw (on, lt-leb z y lt) refl
       | inr off ↦ rw off refl
@@ -130,7 +130,7 @@ rest_above : (lowest y : ℕ) (ys : List ℕ) → lowest ≤ y → AllAbove y ys
 rest_above lowest y [] l a = refl
 rest_above lowest y (z ∷ zs) l a =
     rw (le-leb lowest z (omega (arith, l, a.0)), le-leb (y + 1) z (omega (arith, a.0)))
-        (ap (λ (l : List ℕ). z ∷ l) (rest_above lowest y zs l a.1))
+    (ap (λ (l : List ℕ). z ∷ l) (rest_above lowest y zs l a.1))
 
 from_first : (lowest z : ℕ) (zs : List ℕ) → Rising zs → first (zones_from lowest zs) ≡ Some z →
     (lowest ≤ z) × (zones_from lowest zs ≡ z ∷ zones_from (z + 1) zs)

@@ -87,15 +87,28 @@ can_be_asked : CanSpread asked loads
 unfolding AreApart zones_of with_zone
 can_be_asked = record {
   few = omega arith;
-  fits = All-from_recursion FitsZoneLoad loads
-      ((omega arith, omega arith, omega arith),
-      ((omega arith, omega arith, omega arith),
-      ((omega arith, omega arith, omega arith),
-      ((omega arith, omega arith, omega arith),
-      ((omega arith, omega arith, omega arith),
-      ((omega arith, omega arith, omega arith),
-      ((omega arith, omega arith, omega arith),
-      ((omega arith, omega arith, omega arith), ((omega arith, omega arith, omega arith), tt)))))))));
+  fits = All-from_recursion FitsZoneLoad loads (
+    (omega arith, omega arith, omega arith),
+    (
+      (omega arith, omega arith, omega arith),
+      (
+        (omega arith, omega arith, omega arith),
+        (
+          (omega arith, omega arith, omega arith),
+          (
+            (omega arith, omega arith, omega arith),
+            (
+              (omega arith, omega arith, omega arith),
+              (
+                (omega arith, omega arith, omega arith),
+                ((omega arith, omega arith, omega arith), ((omega arith, omega arith, omega arith), tt)),
+              ),
+            ),
+          ),
+        ),
+      ),
+    ),
+  );
   asked = record { groups = omega arith; size = omega arith; most = omega arith };
   different = ((refl, (refl, (refl, (refl, (refl, (refl, (refl, (refl, (refl, tt))))))))));
   room = refl;

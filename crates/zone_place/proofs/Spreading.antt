@@ -120,8 +120,8 @@ dealt_groups ask ds a r = all_counted (λ j. fits_zones ask ds (group_at ask j (
     let from : (0 + j) * ask.size ≡ j * ask.size = omega arith in
     let cut : group_at ask (0 + j) (dealt ask ds) ≡ every ask.groups (0 + j) (in_line ask ds) =
     rw (width, from)
-        (group_of_turns (λ j. every ask.groups j (in_line ask ds)) ask.size 0 ask.groups j
-        (λ i k. group_length ask ds i r k) l) in
+    (group_of_turns (λ j. every ask.groups j (in_line ask ds)) ask.size 0 ask.groups j
+    (λ i k. group_length ask ds i r k) l) in
     ap (fits_zones ask ds) cut ∙ group_fits ask ds (0 + j) a (omega (arith, l)))
 
 pub dealt_spreads : DealtSpreads
@@ -152,11 +152,11 @@ spread_again ask ds chosen = elim (cases_Bool (spreads ask ds chosen)) [
 -- what it is to be spread, part by part
 pub spread_parts : (ask : ZoneAsk) (ds : List InZone) (ns : List ℕ) → spreads ask ds ns ≡ true
     → (length ns ≡ all_asked ask) × (are_among ds ns ≡ true) ×
-        (list_all (λ j. fits_zones ask ds (group_at ask j ns)) (counted 0 ask.groups) ≡ true)
+    (list_all (λ j. fits_zones ask ds (group_at ask j ns)) (counted 0 ask.groups) ≡ true)
 unfolding spreads
 spread_parts ask ds ns s =
     let first = and_parts (length ns == all_asked ask)
-        (are_among ds ns && list_all (λ j. fits_zones ask ds (group_at ask j ns)) (counted 0 ask.groups)) s in
+    (are_among ds ns && list_all (λ j. fits_zones ask ds (group_at ask j ns)) (counted 0 ask.groups)) s in
     let second =
-        and_parts (are_among ds ns) (list_all (λ j. fits_zones ask ds (group_at ask j ns)) (counted 0 ask.groups)) first.1 in
+    and_parts (are_among ds ns) (list_all (λ j. fits_zones ask ds (group_at ask j ns)) (counted 0 ask.groups)) first.1 in
     (eqb-true (length ns) (all_asked ask) first.0, second.0, second.1)

@@ -18,15 +18,21 @@ pub room_taken : (ask : ZoneAsk) (l : ZoneLoad) (ls : List ZoneLoad) → l.onlin
     length (within l.zone (online_placed ls)) < zone_most ask
     → room ask (online_placed (l ∷ ls)) ≡ room ask (online_placed ls) + 1
 room_taken ask l ls on some =
-    rw (on, room_more ask (record { drive = l.drive; zone = l.zone }) (online_placed ls),
-    lt-ltb (length (within l.zone (online_placed ls))) (zone_most ask) some) refl
+    rw (
+      on,
+      room_more ask (record { drive = l.drive; zone = l.zone }) (online_placed ls),
+      lt-ltb (length (within l.zone (online_placed ls))) (zone_most ask) some,
+    ) refl
 
 pub room_full : (ask : ZoneAsk) (l : ZoneLoad) (ls : List ZoneLoad) → l.online ≡ true →
     zone_most ask ≤ length (within l.zone (online_placed ls))
     → room ask (online_placed (l ∷ ls)) ≡ room ask (online_placed ls)
 room_full ask l ls on full =
-    rw (on, room_more ask (record { drive = l.drive; zone = l.zone }) (online_placed ls),
-    le-ltb (length (within l.zone (online_placed ls))) (zone_most ask) full) (omega arith)
+    rw (
+      on,
+      room_more ask (record { drive = l.drive; zone = l.zone }) (online_placed ls),
+      le-ltb (length (within l.zone (online_placed ls))) (zone_most ask) full,
+    ) (omega arith)
 
 pub room_offline : (ask : ZoneAsk) (l : ZoneLoad) (ls : List ZoneLoad) → l.online ≡ false →
     room ask (online_placed (l ∷ ls)) ≡ room ask (online_placed ls)
@@ -51,7 +57,7 @@ first_load ls i l = drop_more ls i (record { drive = 0; online = false; objects 
 pub zone_counts : (lowest : ℕ) (ls : List ZoneLoad) (i : ℕ) → i < length ls → (load_at ls i).online ≡ true →
     lowest ≤ (load_at ls i).zone
     → zone_from lowest (online_placed (drop i ls)) ≡ lower (load_at ls i).zone
-        (zone_from lowest (online_placed (drop (i + 1) ls)))
+    (zone_from lowest (online_placed (drop (i + 1) ls)))
 unfolding zone_from
 zone_counts lowest ls i l on high = rw (first_load ls i l, on, le-leb lowest (load_at ls i).zone high) refl
 

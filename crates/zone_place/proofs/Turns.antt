@@ -29,8 +29,11 @@ many q c (suc w) (x ∷ xs) lo l = many q c w xs lo (omega (arith, l))
 pub as_many : (q c w : ℕ) (xs : List ℕ) → w < q → length xs ≡ q * c → length (every q w xs) ≡ c
 as_many q zero w xs lo e = omega (arith, few q 0 w xs (omega (arith, lo)) (omega (arith, e)))
 as_many q (suc c) w xs lo e =
-    omega (arith, few q (suc c) w xs (omega (arith, lo)) (omega (arith, e)),
-        many q c w xs (omega (arith, lo)) (omega (arith, e, lo)))
+    omega (
+      arith,
+      few q (suc c) w xs (omega (arith, lo)) (omega (arith, e)),
+      many q c w xs (omega (arith, lo)) (omega (arith, e, lo)),
+    )
 
 -- ---- no group gets many of a zone
 
@@ -88,10 +91,15 @@ few_of_zone p f z q c w (y ∷ ys) lo r l other =
     elim (cases_eq z y) [
       | inl e ↦
           let rest : filter p (every q v (flat_map f ys)) ≡ [] =
-              none p q v (flat_map f ys) (none_of_zones p f z ys (rw (← e) at r.0) other) in
+          none p q v (flat_map f ys) (none_of_zones p f z ys (rw (← e) at r.0) other) in
           let few_here : length (every q w (f y)) ≤ c = few q c w (f y) lo (omega (arith, rw e at l)) in
-          omega (arith, ap length (kept ∙ ap (λ (l : List ℕ). filter p (every q w (f y)) ++ l) rest),
-              length_same (filter p (every q w (f y))), fewer p (every q w (f y)), few_here)
+          omega (
+            arith,
+            ap length (kept ∙ ap (λ (l : List ℕ). filter p (every q w (f y)) ++ l) rest),
+            length_same (filter p (every q w (f y))),
+            fewer p (every q w (f y)),
+            few_here,
+          )
       | inr ne ↦ rw (kept, none p q w (f y) (other y ne)) (few_of_zone p f z q c v ys lo r.1 l other)
     ]
   where
@@ -134,8 +142,12 @@ unfolding turns every
 turns_every n q [] = turns_none (suc q)
 turns_every n q (x ∷ xs) =
     let wait : suc q - 1 ≡ q = omega arith in
-    omega (arith, turns_every n q xs, turns_last (λ j. times n (every (suc q) j xs)) q,
-        ap (λ k. times n (every (suc q) k xs)) wait)
+    omega (
+      arith,
+      turns_every n q xs,
+      turns_last (λ j. times n (every (suc q) j xs)) q,
+      ap (λ k. times n (every (suc q) k xs)) wait,
+    )
 
 turns_same : (f g : ℕ → ℕ) (m : ℕ) → ((j : ℕ) → f j ≡ g j) → turns f m ≡ turns g m
 unfolding turns
@@ -150,7 +162,7 @@ times_counted n f a (suc m) =
     let rest : turns (λ j. times n (f (a + 1 + j))) m ≡ turns (λ j. times n (f (a + suc j))) m =
     turns_same (λ j. times n (f (a + 1 + j))) (λ j. times n (f (a + suc j))) m (λ j. ap (λ k. times n (f k)) (next j)) in
     rw (times-append n (f a) (flat_map f (counted (a + 1) m)), first)
-        (ap (λ k. times n (f a) + k) (times_counted n f (a + 1) m ∙ rest))
+    (ap (λ k. times n (f a) + k) (times_counted n f (a + 1) m ∙ rest))
   where
     next : (j : ℕ) → a + 1 + j ≡ a + suc j
     next j = omega arith
@@ -160,7 +172,7 @@ times_dealt n zero xs lo = absurd (omega (arith, lo))
 times_dealt n (suc q) xs lo =
     times_counted n (λ j. every (suc q) j xs) 0 (suc q)
     ∙ turns_same (λ j. times n (every (suc q) (0 + j) xs)) (λ j. times n (every (suc q) j xs)) (suc q)
-        (λ j. ap (λ k. times n (every (suc q) k xs)) (from_zero j))
+    (λ j. ap (λ k. times n (every (suc q) k xs)) (from_zero j))
     ∙ turns_every n q xs
   where
     from_zero : (j : ℕ) → 0 + j ≡ j
@@ -194,7 +206,7 @@ group_of_turns f size a (suc m) (suc i) len l =
     let far : suc i * size ≡ length (f a) + i * size = omega (arith, here, more) in
     rw (far, drop-append-add (f a) (flat_map f (counted (a + 1) m)) (i * size))
     (group_of_turns f size (a + 1) m i (λ j k. ap (λ n. length (f n)) (next j) ∙ len (suc j) (omega (arith, k)))
-        (omega (arith, l)) ∙ ap f (next i))
+    (omega (arith, l)) ∙ ap f (next i))
   where
     next : (j : ℕ) → a + 1 + j ≡ a + suc j
     next j = omega arith

@@ -17,14 +17,17 @@ loop-store-preserved c =
           ∙ one_numbered h true c.loop-store.count c.in-Some.store rest c.loop-store.sent _ c.in_ok-awaited_for.ensures.value
           ∙ ap (λ (ws : List Store). c.loop-store.sent ++ numbered h true c.loop-store.count ws) (sym c.in-Some.ensures.steps.0)
           ∙ c.loop-store.invariant.sent;
-      long = omega
-          (arith, c.in-Some.ensures.steps.1, ap (λ (ws : List Store). length ws) c.in-Some.ensures.steps.0,
-          c.loop-store.invariant.long);
+      long = omega (
+        arith,
+        c.in-Some.ensures.steps.1,
+        ap (λ (ws : List Store). length ws) c.in-Some.ensures.steps.0,
+        c.loop-store.invariant.long,
+      );
     }
 
 pub returns : goal.returns
 unfolding write_commands
 returns c =
     let none : into_iter_items c.loop-store.store-iterator ≡ [] =
-        nil_from_length _ (omega (arith, c.in-None.ensures.steps.0, c.loop-store.invariant.long)) in
+    nil_from_length _ (omega (arith, c.in-None.ensures.steps.0, c.loop-store.invariant.long)) in
     none_left c.args.held.now true c.loop-store.count _ c.loop-store.sent none ∙ c.loop-store.invariant.sent

@@ -7,4 +7,4 @@ pub returns : goal.returns
 returns c =
     let there = rw c.as_slice.ensures.value at c.place_of-place.ensures in
     ap reverse c.in_ok-insert.ensures.items
-        ∙ placed_falling c.args.awaited c.args.falling.now.items c.place_of-place.result there.inside there.passed there.here
+    ∙ placed_falling c.args.awaited c.args.falling.now.items c.place_of-place.result there.inside there.passed there.here

@@ -18,10 +18,10 @@ loop-i-preserved c =
     let next : i - 1 + 1 ≡ i = omega (arith, c.loop-i-test.true) in
     let at : drop (i - 1) xs ≡ x ∷ drop i xs =
     drop_more xs (i - 1) x lt ∙ ap (λ y. y ∷ drop (i - 1 + 1) xs) (sym c.index-falling-i.is)
-        ∙ ap (λ (z : ℕ). x ∷ drop z xs) next in
+    ∙ ap (λ (z : ℕ). x ∷ drop z xs) next in
     rw at (All-cons (λ (b : Awaited). before c.args.ask.now b.ask ≡ false) x (drop i xs)
-        (ap (λ (b : Awaited). before c.args.ask.now b.ask) c.index-falling-i.is ∙ sym c.before-in-loop-i.ensures
-        ∙ c.if-before.false) c.loop-i.invariant)
+    (ap (λ (b : Awaited). before c.args.ask.now b.ask) c.index-falling-i.is ∙ sym c.before-in-loop-i.ensures
+    ∙ c.if-before.false) c.loop-i.invariant)
 
 pub returns-then-before-clause-passed : goal.returns-then-before-clause-passed
 returns-then-before-clause-passed c =
@@ -36,7 +36,7 @@ returns-then-before-clause-here c = λ d some.
     let lt : i - 1 < length xs = omega (arith, c.loop-i-test.true, c.loop-i.auto.i) in
     let at : i - 1 + 1 - 1 ≡ i - 1 = omega arith in
     rw at (ap (λ (b : Awaited). before c.args.ask.now b.ask) (get_or_default xs (i - 1) d x lt) ∙ sym c.before-in-loop-i.ensures
-        ∙ c.if-before.true)
+    ∙ c.if-before.true)
 
 pub returns-clause-passed : goal.returns-clause-passed
 returns-clause-passed c =

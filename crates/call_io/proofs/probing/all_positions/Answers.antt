@@ -11,13 +11,13 @@ loop-position-preserved c =
     ap (λ (xs : List ℕ). xs ++ range_with_len (p + 1) (e - (p + 1))) c.in_ok-push.ensures.ok
     ∙ append_assoc c.loop-position.all (p ∷ []) (range_with_len (p + 1) (e - (p + 1)))
     ∙ ap (λ (xs : List ℕ). c.loop-position.all ++ xs)
-        (sym (range_step p e (omega (arith, c.loop-position-test.true, c.positions-position-end.ensures.value))))
+    (sym (range_step p e (omega (arith, c.loop-position-test.true, c.positions-position-end.ensures.value))))
     ∙ c.loop-position.invariant
 
 pub returns : goal.returns
 returns c =
     sym (append-nil c.loop-position.all)
     ∙ ap (λ (xs : List ℕ). c.loop-position.all ++ xs)
-        (sym (range_end c.loop-position.position (positions c.args.map.now)
-        (omega (arith, c.loop-position-test.false, c.positions-position-end.ensures.value))))
+    (sym (range_end c.loop-position.position (positions c.args.map.now)
+    (omega (arith, c.loop-position-test.false, c.positions-position-end.ensures.value))))
     ∙ c.loop-position.invariant

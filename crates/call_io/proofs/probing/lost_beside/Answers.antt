@@ -30,8 +30,8 @@ returns c =
     let e = c.group_start-first.result + group_width c.args.map.now in
     sym (append-nil c.loop-other.lost)
     ∙ ap (λ (xs : List ℕ). c.loop-other.lost ++ xs)
-        (sym (out_end c.args.map.now c.args.out.now.components c.loop-other.other e
-        (omega (arith, c.loop-other-test.false, c.group_width.ensures.value))))
+    (sym (out_end c.args.map.now c.args.out.now.components c.loop-other.other e
+    (omega (arith, c.loop-other-test.false, c.group_width.ensures.value))))
     ∙ c.loop-other.invariant
     ∙ ap (λ (a : ℕ). out_from c.args.map.now c.args.out.now.components a (group_width c.args.map.now))
-        c.group_start-first.ensures.value
+    c.group_start-first.ensures.value

@@ -13,15 +13,15 @@ loop-position-preserved c =
     let e = c.args.end in
     ap (λ (xs : List Ask). xs ++ probe_each h out c.args.have.now (p + 1) (e - (p + 1))) c.in_ok-push_probe.ensures
     ∙ append_assoc c.loop-position.asks (probe_unless h out c.args.have.now p)
-        (probe_each h out c.args.have.now (p + 1) (e - (p + 1)))
+    (probe_each h out c.args.have.now (p + 1) (e - (p + 1)))
     ∙ ap (λ (xs : List Ask). c.loop-position.asks ++ xs)
-        (sym (probe_step h out c.args.have.now p e (omega (arith, c.loop-position-test.true))))
+    (sym (probe_step h out c.args.have.now p e (omega (arith, c.loop-position-test.true))))
     ∙ c.loop-position.invariant
 
 pub returns : goal.returns
 returns c =
     sym (append-nil c.loop-position.asks)
     ∙ ap (λ (xs : List Ask). c.loop-position.asks ++ xs)
-        (sym (probe_end c.args.held.now c.args.out.now.components c.args.have.now c.loop-position.position c.args.end
-        (omega (arith, c.loop-position-test.false))))
+    (sym (probe_end c.args.held.now c.args.out.now.components c.args.have.now c.loop-position.position c.args.end
+    (omega (arith, c.loop-position-test.false))))
     ∙ c.loop-position.invariant

@@ -24,7 +24,7 @@ loop-i-preserved c =
       parts =
           ap (λ ps. columns_of m ps ++ drop (i + 1) c.args.got) c.in_ok-push.ensures.ok
           ∙ fetched_step m c.args.got c.loop-i.parts i column _
-              (sym (c.loop-i.invariant.rest.1 i (omega arith)) ∙ c.take_column-column.ensures.taken)
+          (sym (c.loop-i.invariant.rest.1 i (omega arith)) ∙ c.take_column-column.ensures.taken)
           (same_column m column c.replica.result column.bytes c.replica.ensures.value refl)
           c.loop-i.invariant.parts;
     }
@@ -33,5 +33,5 @@ pub returns : goal.returns
 returns c =
     sym (append-nil (columns_of c.args.map.now c.loop-i.parts))
     ∙ ap (λ xs. columns_of c.args.map.now c.loop-i.parts ++ xs)
-        (sym (drop_of_length-le c.args.got (omega (arith, c.loop-i-test.false, c.len-i-end.ensures))))
+    (sym (drop_of_length-le c.args.got (omega (arith, c.loop-i-test.false, c.len-i-end.ensures))))
     ∙ c.loop-i.invariant.parts

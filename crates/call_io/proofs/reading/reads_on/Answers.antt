@@ -11,4 +11,4 @@ pub returns : goal.returns
 returns c =
     let none : c.args.io.pending ≡ [] = search (rules, tests) in
     sym (reads_end c.args.held.now c.args.range c.args.io.got c.args.io.timed c.args.sent c.args.io.pending c.in_ok-bytes.bytes
-        none c.in_ok-bytes.ensures)
+    none c.in_ok-bytes.ensures)

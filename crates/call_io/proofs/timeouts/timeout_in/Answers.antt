@@ -12,6 +12,6 @@ returns-in-None c =
 pub returns-in_ok-put_out_in-in-Some : goal.returns-in_ok-put_out_in-in-Some
 returns-in_ok-put_out_in-in-Some c = ok_same c.go_on_without.result c.args.held.now _ _
     (silent c.args.held.now c.args.op.now (phase_of c.args.phase)
-        (phase_of c.put_out_in.new.phase) c.args.component c.in-Some.first _
-            (sym c.first_to.ensures ∙ c.in-Some.is) c.in_ok-put_out_in-in-Some.ensures)
+    (phase_of c.put_out_in.new.phase) c.args.component c.in-Some.first _
+    (sym c.first_to.ensures ∙ c.in-Some.is) c.in_ok-put_out_in-in-Some.ensures)
     c.go_on_without.ensures

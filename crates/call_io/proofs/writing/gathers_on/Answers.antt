@@ -6,8 +6,8 @@ pub returns-then-is_empty : goal.returns-then-is_empty
 returns-then-is_empty c =
     let none : c.args.io.pending ≡ [] = search (rules, tests) in
     ok_same c.scatters.result c.args.held.now _ _
-        (gathers_over c.args.held.now c.args.op.now c.args.io.got c.args.io.timed c.args.sent c.args.io.pending none)
-            c.scatters.ensures
+    (gathers_over c.args.held.now c.args.op.now c.args.io.got c.args.io.timed c.args.sent c.args.io.pending none)
+    c.scatters.ensures
 
 pub returns : goal.returns
 returns c = sym

@@ -13,26 +13,29 @@ loop-store-preserved c =
       firsts =
           ap (λ (xs : List Store). xs ++ firsts c.place.new.seen (into_iter_items c.next.new.self)) c.in_ok-place.ensures.firsts
           ∙ append_assoc c.loop-store.firsts.items (new_first c.loop-store.seen c.in-Some.store)
-              (firsts c.place.new.seen (into_iter_items c.next.new.self))
+          (firsts c.place.new.seen (into_iter_items c.next.new.self))
           ∙ ap (λ (s : List ℕ). c.loop-store.firsts.items
-              ++ (new_first c.loop-store.seen c.in-Some.store ++ firsts s (into_iter_items c.next.new.self)))
-              c.in_ok-place.ensures.seen
+          ++ (new_first c.loop-store.seen c.in-Some.store ++ firsts s (into_iter_items c.next.new.self)))
+          c.in_ok-place.ensures.seen
           ∙ ap (λ (xs : List Store). c.loop-store.firsts.items ++ xs)
-              (first_turn c.loop-store.seen c.in-Some.store (into_iter_items c.next.new.self))
+          (first_turn c.loop-store.seen c.in-Some.store (into_iter_items c.next.new.self))
           ∙ ap (λ (ws : List Store). c.loop-store.firsts.items ++ firsts c.loop-store.seen ws) (sym c.in-Some.ensures.steps.0)
           ∙ c.loop-store.invariant.firsts;
-      long = omega
-          (arith, c.in-Some.ensures.steps.1, ap (λ (ws : List Store). length ws) c.in-Some.ensures.steps.0,
-          c.loop-store.invariant.long);
+      long = omega (
+        arith,
+        c.in-Some.ensures.steps.1,
+        ap (λ (ws : List Store). length ws) c.in-Some.ensures.steps.0,
+        c.loop-store.invariant.long,
+      );
       laters =
           ap (λ (xs : List Store). xs ++ laters c.place.new.seen (into_iter_items c.next.new.self)) c.in_ok-place.ensures.queue
           ∙ append_assoc c.loop-store.queue (new_later c.loop-store.seen c.in-Some.store)
-              (laters c.place.new.seen (into_iter_items c.next.new.self))
+          (laters c.place.new.seen (into_iter_items c.next.new.self))
           ∙ ap (λ (s : List ℕ). c.loop-store.queue
-              ++ (new_later c.loop-store.seen c.in-Some.store ++ laters s (into_iter_items c.next.new.self)))
-              c.in_ok-place.ensures.seen
+          ++ (new_later c.loop-store.seen c.in-Some.store ++ laters s (into_iter_items c.next.new.self)))
+          c.in_ok-place.ensures.seen
           ∙ ap (λ (xs : List Store). c.loop-store.queue ++ xs)
-              (later_turn c.loop-store.seen c.in-Some.store (into_iter_items c.next.new.self))
+          (later_turn c.loop-store.seen c.in-Some.store (into_iter_items c.next.new.self))
           ∙ ap (λ (ws : List Store). c.loop-store.queue ++ laters c.loop-store.seen ws) (sym c.in-Some.ensures.steps.0)
           ∙ c.loop-store.invariant.laters;
     }
@@ -40,7 +43,7 @@ loop-store-preserved c =
 pub returns-clause-firsts : goal.returns-clause-firsts
 returns-clause-firsts c =
     let none : into_iter_items c.loop-store.store-iterator ≡ [] =
-        nil_from_length _ (omega (arith, c.in-None.ensures.steps.0, c.loop-store.invariant.long)) in
+    nil_from_length _ (omega (arith, c.in-None.ensures.steps.0, c.loop-store.invariant.long)) in
     sym (append-nil c.loop-store.firsts.items)
     ∙ ap (λ (xs : List Store). c.loop-store.firsts.items ++ xs) (sym (first_end c.loop-store.seen))
     ∙ ap (λ (ws : List Store). c.loop-store.firsts.items ++ firsts c.loop-store.seen ws) (sym none)
@@ -49,7 +52,7 @@ returns-clause-firsts c =
 pub returns-clause-laters : goal.returns-clause-laters
 returns-clause-laters c =
     let none : into_iter_items c.loop-store.store-iterator ≡ [] =
-        nil_from_length _ (omega (arith, c.in-None.ensures.steps.0, c.loop-store.invariant.long)) in
+    nil_from_length _ (omega (arith, c.in-None.ensures.steps.0, c.loop-store.invariant.long)) in
     sym (append-nil c.loop-store.queue)
     ∙ ap (λ (xs : List Store). c.loop-store.queue ++ xs) (sym (later_end c.loop-store.seen))
     ∙ ap (λ (ws : List Store). c.loop-store.queue ++ laters c.loop-store.seen ws) (sym none)

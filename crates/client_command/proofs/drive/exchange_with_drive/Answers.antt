@@ -13,7 +13,7 @@ returns g c =
       dealt = ap (on_links (g.L.Links.told c.asked.new.links) (g.L.Links.faults c.asked.new.links))
           (is_answered (dealing c.args.core.now c.args.waiting.now c.args.notices.now told faults)
           (dealing c.hear_reply.new.core c.hear_reply.new.waiting c.hear_reply.new.notices told faults) _ c.args.drive
-              c.args.command.now c.in_ok-came.came
+          c.args.command.now c.in_ok-came.came
           c.late_component-component.result (c.in_ok-hear_reply.ensures told faults) c.late_component-component.ensures
-              (c.in_ok-time_out.ensures told faults));
+          (c.in_ok-time_out.ensures told faults));
     }

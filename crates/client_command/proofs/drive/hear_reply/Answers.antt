@@ -8,5 +8,5 @@ returns-in_ok-take_step-in-Some c = λ told faults.
     let same : c.as_slice.result.now ≡ c.in-Some.bytes = search rules in
     let is = c.in_ok-step-in-Some.ensures in
     rw c.in-Some.is
-        (is_stepped (dealing c.args.core.now c.args.waiting.now c.args.notices.now told faults) _ _ _ _ _ (rw same at is)
+    (is_stepped (dealing c.args.core.now c.args.waiting.now c.args.notices.now told faults) _ _ _ _ _ (rw same at is)
     c.in_ok-take_step-in-Some.ensures.sends c.in_ok-take_step-in-Some.ensures.notices)

@@ -7,6 +7,6 @@ use Rattle.client_command.proofs.drive.time_out.Goals as goal
 pub returns-in_ok-take_step-in-Some : goal.returns-in_ok-take_step-in-Some
 returns-in_ok-take_step-in-Some c = λ told faults.
     rw c.in-Some.is
-        (is_stepped (dealing c.args.core.now c.args.waiting.now
-        (c.args.notices.now ++ TimedOut c.in-Some.component ∷ []) told faults) _ _ _ _ _
+    (is_stepped (dealing c.args.core.now c.args.waiting.now
+    (c.args.notices.now ++ TimedOut c.in-Some.component ∷ []) told faults) _ _ _ _ _
     c.in_ok-step-in-Some.ensures c.in_ok-take_step-in-Some.ensures.sends (search rules))

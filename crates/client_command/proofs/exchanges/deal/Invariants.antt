@@ -7,5 +7,5 @@ invariant-rounds g l =
     (rounds : ℕ)
     × WorksRounds rounds
     (dealing l.initial.core l.initial.waiting l.initial.notices (g.L.Links.told l.initial.links)
-        (g.L.Links.faults l.initial.links))
+    (g.L.Links.faults l.initial.links))
     (dealing l.core l.waiting l.notices (g.L.Links.told l.links) (g.L.Links.faults l.links))

@@ -6,5 +6,5 @@ abbrev pub invariant-loop-i : goal.invariant-loop-i
 invariant-loop-i g l =
     InTurn Works (take l.i l.round)
     (dealing l.initial.core l.initial.waiting l.initial.notices (g.L.Links.told l.initial.links)
-        (g.L.Links.faults l.initial.links))
+    (g.L.Links.faults l.initial.links))
     (dealing l.core l.waiting l.notices (g.L.Links.told l.links) (g.L.Links.faults l.links))

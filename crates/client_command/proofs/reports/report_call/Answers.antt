@@ -6,7 +6,7 @@ use Rattle.client_command.proofs.reports.report_call.Goals as goal
 pub returns-in-Ok : goal.returns-in-Ok
 returns-in-Ok g c =
     is_ended c.args.client c.number.result c.args.sequence _ c.op_of-op.result c.kind_of-kind.result c.new-notices.result
-        c.call_new.new.notices
+    c.call_new.new.notices
     c.as_slice.result.now
     (on_links (g.L.Links.told c.args.links.now) (g.L.Links.faults c.args.links.now))
     (on_links (g.L.Links.told c.call_new.new.links) (g.L.Links.faults c.call_new.new.links))
@@ -16,7 +16,7 @@ returns-in-Ok g c =
 pub returns-in-Err-Lost : goal.returns-in-Err-Lost
 returns-in-Err-Lost g c =
     is_lost c.args.client c.number.result c.args.sequence _ c.op_of-op.result c.kind_of-kind.result c.new-notices.result
-        c.call_new.new.notices
+    c.call_new.new.notices
     c.as_slice-in-Err-Lost.result.now
     (on_links (g.L.Links.told c.args.links.now) (g.L.Links.faults c.args.links.now))
     (on_links (g.L.Links.told c.call_new.new.links) (g.L.Links.faults c.call_new.new.links))

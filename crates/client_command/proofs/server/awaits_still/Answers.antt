@@ -8,5 +8,5 @@ returns-then-is_empty c = none_still c.args.core.now c.args.message.now c.in_ok-
 pub returns : goal.returns
 returns c =
     still_from c.args.core.now c.args.message.now c.in_ok-sends.sends c.get.result.now c.is_request.result c.in_ok-sends.ensures
-        (search rules)
+    (search rules)
     c.is_request.ensures

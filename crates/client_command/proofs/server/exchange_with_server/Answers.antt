@@ -1,5 +1,5 @@
 use Rattle.std.proofs.Common.{rules, ◌≡◌, ◌∙◌, true, false, ap, sym}
-use Rattle.client_command.specs.Answers.{is_answer_to}
+use Rattle.reply_matching.specs.Answers.{is_answer_to}
 use Rattle.client_command.specs.Exchanges.{dealing, on_links}
 use Rattle.client_command.proofs.DealingLaws.{loses_answer}
 use Rattle.client_command.proofs.server.exchange_with_server.Goals as goal
@@ -10,9 +10,9 @@ returns-then-branch-clause-loses g c = λ is.
     let still : c.in_ok-awaits_still-in-Some.field-0 ≡ true = search rules in
     loses_answer c.args.message.now c.in-Some.record
     (dealing c.args.core.now c.args.waiting.now c.args.notices.now (g.L.Links.told c.args.links.now)
-        (g.L.Links.faults c.args.links.now))
+    (g.L.Links.faults c.args.links.now))
     (dealing c.hear_reply.new.core c.hear_reply.new.waiting c.hear_reply.new.notices (g.L.Links.told c.asked.new.links)
-        (g.L.Links.faults c.asked.new.links))
+    (g.L.Links.faults c.asked.new.links))
     answers (rw c.in-Some.is at c.in_ok-record.ensures)
     (ap (on_links (g.L.Links.told c.asked.new.links) (g.L.Links.faults c.asked.new.links))
     (c.in_ok-hear_reply-in-Some.ensures (g.L.Links.told c.args.links.now) (g.L.Links.faults c.args.links.now)))

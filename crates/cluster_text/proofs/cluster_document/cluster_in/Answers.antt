@@ -7,21 +7,21 @@ pub returns-in_default-2 : goal.returns-in_default-2
 returns-in_default-2 c =
     bad_drives (λ t. table_view t.now) (table_view c.args.top.now) c.args.drives.now c.args.files.now _ _
     (omega (arith, c.if-count-eq0.false)) (omega (arith, c.if-count-gt-MAX_DRIVES.false))
-        (omega (arith, c.if-files-gt-MAX_FILES.false))
+    (omega (arith, c.if-files-gt-MAX_FILES.false))
     c.in-Some.ensures c.in-Some-format_in.ensures (sym c.in_default-2.is ∙ c.in_ok-drives.ensures)
 
 pub returns-in_default-3 : goal.returns-in_default-3
 returns-in_default-3 c =
     bad_files (λ t. table_view t.now) (table_view c.args.top.now) c.args.drives.now c.args.files.now _ _ _
     (omega (arith, c.if-count-eq0.false)) (omega (arith, c.if-count-gt-MAX_DRIVES.false))
-        (omega (arith, c.if-files-gt-MAX_FILES.false))
+    (omega (arith, c.if-files-gt-MAX_FILES.false))
     c.in-Some.ensures c.in-Some-format_in.ensures (sym c.in-Some-2.is ∙ c.in_ok-drives.ensures)
-        (sym c.in_default-3.is ∙ c.in_ok-files.ensures)
+    (sym c.in_default-3.is ∙ c.in_ok-files.ensures)
 
 pub returns : goal.returns
 returns c =
     whole (λ t. table_view t.now) (table_view c.args.top.now) c.args.drives.now c.args.files.now _ _ _ _ _
     (omega (arith, c.if-count-eq0.false)) (omega (arith, c.if-count-gt-MAX_DRIVES.false))
-        (omega (arith, c.if-files-gt-MAX_FILES.false))
+    (omega (arith, c.if-files-gt-MAX_FILES.false))
     c.in-Some.ensures c.in-Some-format_in.ensures (sym c.in-Some-2.is ∙ c.in_ok-drives.ensures)
-        (sym c.in-Some-3.is ∙ c.in_ok-files.ensures) c.in_ok-server.ensures
+    (sym c.in-Some-3.is ∙ c.in_ok-files.ensures) c.in_ok-server.ensures

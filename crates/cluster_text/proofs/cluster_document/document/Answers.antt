@@ -9,5 +9,5 @@ returns-in_default-clause-err c = inr (refl, no_text c.args.text.now c.in_defaul
 pub returns-in-Ok-table_from_str-clause-ok : goal.returns-in-Ok-table_from_str-clause-ok
 returns-in-Ok-table_from_str-clause-ok c =
     spelled c.args.text.now c.in-Ok.text.now
-        (table_view c.in-Ok-table_from_str.table) c.in-Ok.ensures.cases.0 c.in-Ok.ensures.cases.1
-            c.in-Ok-table_from_str.ensures.ok
+    (table_view c.in-Ok-table_from_str.table) c.in-Ok.ensures.cases.0 c.in-Ok.ensures.cases.1
+    c.in-Ok-table_from_str.ensures.ok

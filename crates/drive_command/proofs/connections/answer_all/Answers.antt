@@ -14,15 +14,15 @@ loop-i-init g c = (
 pub returns-in_err-stands-clause-carries : goal.returns-in_err-stands-clause-carries
 returns-in_err-stands-clause-carries g c =
     carried-then g.H.DeviceServer c.args.server.now c.loop-i.server c.answer_record.new.server c.loop-i.invariant.1
-        c.answer_record.ensures.carries
+    c.answer_record.ensures.carries
 
 pub loop-i-preserved : goal.loop-i-preserved
 loop-i-preserved g c = (
   rw (take-got c.args.records.now c.loop-i.i c.as_slice.result.now (search rules))
       (more-answered c.args.puts c.loop-i.stands c.in_ok-stands.stands (g.H.DeviceServer.drive c.args.server.now)
-          (g.H.DeviceServer.drive c.loop-i.server)
-              (g.H.DeviceServer.drive c.answer_record.new.server) _ _ _ _ c.as_slice.result.now c.loop-i.invariant.0
-              c.in_ok-stands.ensures.answers),
+      (g.H.DeviceServer.drive c.loop-i.server)
+      (g.H.DeviceServer.drive c.answer_record.new.server) _ _ _ _ c.as_slice.result.now c.loop-i.invariant.0
+      c.in_ok-stands.ensures.answers),
   went-then g.H.DeviceServer c.args.server.now c.loop-i.server c.answer_record.new.server c.loop-i.invariant.1
       c.in_ok-stands.ensures.went_on,
   search rules,

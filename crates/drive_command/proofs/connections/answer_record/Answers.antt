@@ -29,7 +29,7 @@ returns-clause-answers g c =
     let short = spelled-short c.in_ok-reply.reply c.in_ok-reply.ensures.short in
     let stood : c.args.puts ≡ true = search rules in
     let same : c.as_slice.result.now ≡ reply_bytes
-        (g.H.DeviceServer.drive c.args.server.now) c.now-now.result c.args.message.now = search rules in
+    (g.H.DeviceServer.drive c.args.server.now) c.now-now.result c.args.message.now = search rules in
     let is = c.in_ok-reply.ensures.reply in
     let lines = rw (is, c.number-number.ensures) at c.in_ok-tell_refusal.ensures.lines in
     record {
@@ -37,9 +37,10 @@ returns-clause-answers g c =
       told = c.now-now.ensures;
       state = c.in_ok-reply.ensures.ok.state;
       last = rw is at c.in_ok-tell_refusal.ensures.last;
-      reply = rw stood
-          (rw (same, lines) at c.in_ok-stands.ensures.put,
-          rw (same, c.in_ok-tell_refusal.ensures.faults) at c.in_ok-stands.ensures.cause);
+      reply = rw stood (
+        rw (same, lines) at c.in_ok-stands.ensures.put,
+        rw (same, c.in_ok-tell_refusal.ensures.faults) at c.in_ok-stands.ensures.cause,
+      );
       short = rw c.in_ok-reply.ensures.reply at short;
     }
 

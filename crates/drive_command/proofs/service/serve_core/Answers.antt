@@ -23,7 +23,7 @@ returns-clause-stops g c = (
       (g.K.Sink.taken c.put_all.new.sink) (g.K.Sink.taken c.put_all-2.new.sink)
       (written_of c.in-Err-put_all.field-0) c.in-Ok-serve_all.ensures.served c.in-Ok.ensures.ok
       (subst (λ (line : List ℕ). Appends (g.K.Sink.taken c.put_all.new.sink) (g.K.Sink.taken c.put_all-2.new.sink)
-          (take (written_of c.in-Err-put_all.field-0) line))
+      (take (written_of c.in-Err-put_all.field-0) line))
       (c.as_bytes.ensures.value ∙ c.in_ok-served.ensures) c.in-Err-put_all.ensures.err),
   subst (λ (n : ℕ). Rose n (g.K.Sink.faults c.put_all-2.new.sink)) c.in-Ok.ensures.cause.same
       c.in-Err-put_all.ensures.cause.failed,

@@ -9,10 +9,10 @@ returns-in-Ok-serve_told-clause-serves g c =
     served_from g.D.Disk (first_of c.args.own) c.args.connections
     (ends_of (g.L.Links.told c.args.links.now) (g.L.Links.faults c.args.links.now) (g.C.Clock.times c.args.clock.now))
     (ends_of (g.L.Links.told c.serve_told.new.links) (g.L.Links.faults c.serve_told.new.links)
-        (g.C.Clock.times c.serve_told.new.clock))
+    (g.C.Clock.times c.serve_told.new.clock))
     (g.K.Sink.taken c.args.sink.now) (g.K.Sink.taken c.serve_told.new.sink) c.args.disk c.into_disk.result
     c.in-Ok.store c.serve_told.new.server w.handled c.in-Ok.ensures.begins c.in-Ok.ensures.kept c.in-Ok-serve_told.ensures.serves
-        w.carries w.keeps
+    w.carries w.keeps
     c.into_disk.ensures c.in-Ok.ensures.leaves w.same c.in-Ok.ensures.no_fault
 
 pub returns-in-Err-serve_told-clause-stops : goal.returns-in-Err-serve_told-clause-stops
@@ -21,17 +21,17 @@ returns-in-Err-serve_told-clause-stops g c =
     stopped_from g.D.Disk (first_of c.args.own) c.args.connections
     (ends_of (g.L.Links.told c.args.links.now) (g.L.Links.faults c.args.links.now) (g.C.Clock.times c.args.clock.now))
     (ends_of (g.L.Links.told c.serve_told.new.links) (g.L.Links.faults c.serve_told.new.links)
-        (g.C.Clock.times c.serve_told.new.clock))
+    (g.C.Clock.times c.serve_told.new.clock))
     (g.K.Sink.taken c.args.sink.now) (g.K.Sink.taken c.serve_told.new.sink) c.args.disk c.into_disk-in-Err-serve_told.result
     c.in-Ok.store c.serve_told.new.server x.0 x.1 (g.K.Sink.faults c.args.sink.now)
-        (g.K.Sink.faults c.serve_told.new.sink) c.in-Err-serve_told.stop
+    (g.K.Sink.faults c.serve_told.new.sink) c.in-Err-serve_told.stop
     c.in-Ok.ensures.begins c.in-Ok.ensures.kept c.in-Ok.ensures.no_fault c.in-Err-serve_told.ensures.stops x.2
-        c.into_disk-in-Err-serve_told.ensures c.in-Ok.ensures.leaves
+    c.into_disk-in-Err-serve_told.ensures c.in-Ok.ensures.leaves
 
 pub returns-in-Err-clause-stops : goal.returns-in-Err-clause-stops
 returns-in-Err-clause-stops g c =
     unopened g.D.Disk (first_of c.args.own) c.args.connections
     (ends_of (g.L.Links.told c.args.links.now) (g.L.Links.faults c.args.links.now) (g.C.Clock.times c.args.clock.now))
     (g.K.Sink.taken c.args.sink.now)
-        (g.K.Sink.faults c.args.sink.now) c.args.disk c.in-Err.refusal.1 c.in-Err.refusal.0 c.in-Err.ensures.refused
-            c.in-Err.ensures.cut_off
+    (g.K.Sink.faults c.args.sink.now) c.args.disk c.in-Err.refusal.1 c.in-Err.refusal.0 c.in-Err.ensures.refused
+    c.in-Err.ensures.cut_off

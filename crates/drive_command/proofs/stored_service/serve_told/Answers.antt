@@ -26,7 +26,7 @@ returns-clause-stops g c = (
       (g.K.Sink.taken c.args.sink.now) (g.K.Sink.taken c.put_all.new.sink) (g.K.Sink.taken c.put_all-2.new.sink)
       (written_of c.in-Err-put_all.field-0) c.in-Ok-serve.ensures.served c.in-Ok.ensures.ok
       (subst (λ (line : List ℕ). Appends (g.K.Sink.taken c.put_all.new.sink) (g.K.Sink.taken c.put_all-2.new.sink)
-          (take (written_of c.in-Err-put_all.field-0) line))
+      (take (written_of c.in-Err-put_all.field-0) line))
       (c.as_bytes.ensures.value ∙ c.in_ok-served.ensures) c.in-Err-put_all.ensures.err),
   subst (λ (n : ℕ). Rose n (g.K.Sink.faults c.put_all-2.new.sink)) c.in-Ok.ensures.cause.same
       c.in-Err-put_all.ensures.cause.failed,
@@ -35,14 +35,14 @@ returns-clause-stops g c = (
 pub returns-in-Err-serve-clause-stops : goal.returns-in-Err-serve-clause-stops
 returns-in-Err-serve-clause-stops g c =
     rw c.stop_of_serving.ensures
-        (stopped_serving c.args.connections (g.H.DeviceServer.drive c.args.server.now) (g.H.DeviceServer.drive c.serve.new.server)
+    (stopped_serving c.args.connections (g.H.DeviceServer.drive c.args.server.now) (g.H.DeviceServer.drive c.serve.new.server)
     (ends_of (g.L.Links.told c.args.links.now) (g.L.Links.faults c.args.links.now) (g.C.Clock.times c.args.clock.now))
     (ends_of (g.L.Links.told c.serve.new.links) (g.L.Links.faults c.serve.new.links) (g.C.Clock.times c.serve.new.clock))
     (g.K.Sink.taken c.args.sink.now) (g.K.Sink.taken c.put_all.new.sink) (g.K.Sink.faults c.args.sink.now)
-        (g.K.Sink.faults c.put_all.new.sink)
+    (g.K.Sink.faults c.put_all.new.sink)
     (g.H.DeviceServer.faults c.args.server.now) (g.H.DeviceServer.faults c.serve.new.server)
     c.in-Err-serve.e c.in-Ok.ensures.ok (λ is. c.in-Err-serve.ensures.refused (ap Err is))
-        (λ is. c.in-Err-serve.ensures.failed (ap Err is)))
+    (λ is. c.in-Err-serve.ensures.failed (ap Err is)))
 
 pub returns-in_err-served-clause-carries : goal.returns-in_err-served-clause-carries
 returns-in_err-served-clause-carries g c =

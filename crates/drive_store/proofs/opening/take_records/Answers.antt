@@ -11,8 +11,8 @@ pub returns-in_err-body-clause-refused : goal.returns-in_err-body-clause-refused
 returns-in_err-body-clause-refused g c =
     let told = err_from_is_err_and c.from_residual.result c.from_residual.ensures.1 in
     rw (told.1, told.2)
-        (broken_told g.D.Disk.tells g.D.Disk.seen g.D.Disk.may_leave c.loop-body.core c.args.core.now.keys c.loop-body.reader
-        (g.D.Disk.seen (read_disk c.args.reader.now)) c.in_err-body.field-0.0 _
+    (broken_told g.D.Disk.tells g.D.Disk.seen g.D.Disk.may_leave c.loop-body.core c.args.core.now.keys c.loop-body.reader
+    (g.D.Disk.seen (read_disk c.args.reader.now)) c.in_err-body.field-0.0 _
     c.loop-body.invariant.taken c.in_err-body.ensures.refused c.loop-body.invariant.disk.seen_same)
 
 pub returns-then-not-branch-clause-refused : goal.returns-then-not-branch-clause-refused
@@ -21,9 +21,9 @@ returns-then-not-branch-clause-refused g c t =
     let said = rw (c.if-not-branch.true, c.as_slice.ensures) at c.in_ok-take_record.ensures.taken in
     let reads = rw c.in-Some.is at c.in_ok-body.ensures.body in
     not_taken g.D.Disk.tells g.D.Disk.seen g.D.Disk.may_leave c.loop-body.core c.args.core.now.keys c.in-Some.body
-        c.loop-body.reader c.next.new.self (g.D.Disk.seen (read_disk c.args.reader.now)) c.loop-body.at
+    c.loop-body.reader c.next.new.self (g.D.Disk.seen (read_disk c.args.reader.now)) c.loop-body.at
     (so_far.taken t) (ap (λ (d : DriveState). d.keys) so_far.same) said.0 reads so_far.disk.seen_same
-        (c.next.ensures.disk.seen_same ∙ so_far.disk.seen_same) so_far.place
+    (c.next.ensures.disk.seen_same ∙ so_far.disk.seen_same) so_far.place
 
 pub loop-body-preserved : goal.loop-body-preserved
 loop-body-preserved g c =
@@ -37,11 +37,11 @@ loop-body-preserved g c =
       place = c.place-at-in-Some.ensures.place;
       disk = read_again g.D.Disk.tells g.D.Disk.seen g.D.Disk.may_leave g.D.Disk.moment g.D.Disk.left_since
           (read_disk c.args.reader.now) (read_disk c.loop-body.reader)
-              (read_disk c.next.new.self) so_far.disk c.next.ensures.disk;
+          (read_disk c.next.new.self) so_far.disk c.next.ensures.disk;
       count = c.in_ok-body.ensures.cause.same ∙ so_far.count;
     }
 
 pub returns-clause-taken : goal.returns-clause-taken
 returns-clause-taken g c t =
     taken_none g.D.Disk.tells g.D.Disk.seen g.D.Disk.may_leave c.loop-body.core c.loop-body.reader c.next.new.self
-        (c.loop-body.invariant.taken t) (c.in_ok-body.ensures.end c.in_default.is).1
+    (c.loop-body.invariant.taken t) (c.in_ok-body.ensures.end c.in_default.is).1

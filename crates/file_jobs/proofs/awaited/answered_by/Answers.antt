@@ -14,7 +14,7 @@ returns-then-awaited-i-2-clause-found c =
       sym c.loop-i.invariant
           ∙ found_at (answers c.args.drive c.args.reply.now) cs i x c.loop-i-test.true c.index-awaited-i.is
           (passes c.args.drive c.args.reply.now cs i x _ c.loop-i-test.true c.index-awaited-i.is
-              c.index-awaited-i-then-awaited-i.is c.if-awaited-i.true c.if-awaited-i-2.true)
+          c.index-awaited-i-then-awaited-i.is c.if-awaited-i.true c.if-awaited-i-2.true)
           ∙ ap Some c.index-awaited-i.is
           ∙ sym (slice_get-get_or cs i x c.loop-i-test.true),
     )

@@ -19,12 +19,12 @@ loop-i-preserved c =
     elim c.if-get-former.branch [
       | then-get-former+in_ok-awaited w ↦
           let n = renewed_here f c.loop-i.awaited c.args.awaited.now c.loop-i.i c.get.result.now w.in_ok-awaited.field-0 h.front
-              h.rest h.long (omega (arith, c.loop-i-test.true, c.len-i-end.ensures)) c.get.ensures
+          h.rest h.long (omega (arith, c.loop-i-test.true, c.len-i-end.ensures)) c.get.ensures
           (rw (eq-eqb _ _ w.if-get-former.true) (sym w.in_ok-awaited.ensures)) in
           rw w.awaited-is (record { front = n.0; rest = n.1; long = length-set _ _ _ ∙ h.long })
       | else-get-former w ↦
           let n = renewed_not f c.loop-i.awaited c.args.awaited.now c.loop-i.i c.get.result.now h.front h.rest h.long
-              (omega (arith, c.loop-i-test.true, c.len-i-end.ensures)) c.get.ensures
+          (omega (arith, c.loop-i-test.true, c.len-i-end.ensures)) c.get.ensures
           (rw (ne_eqb _ _ w.if-get-former.false) refl) in
           rw w.awaited-is (record { front = n.0; rest = n.1; long = h.long })
     ]

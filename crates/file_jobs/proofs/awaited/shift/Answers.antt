@@ -9,8 +9,8 @@ loop-i-preserved c = elim c.if-stays.branch [
   | then-stays w ↦ rw (w.items-is, w.left-is)
       (FiltersInPlace-more_swap c.loop-i.invariant
       (omega (arith, c.loop-i-test.true, c.loop-i.auto.i-end, c.loop-i.invariant.long))
-          (ap (stays c.args.gone) c.index-items-i.is ∙ sym c.stays.ensures
-          ∙ w.if-stays.true) c.index-items-i.is w.swap.ensures.by_index)
+      (ap (stays c.args.gone) c.index-items-i.is ∙ sym c.stays.ensures
+      ∙ w.if-stays.true) c.index-items-i.is w.swap.ensures.by_index)
   | else-stays w ↦ rw (w.items-is, w.left-is)
       (FiltersInPlace-more_no c.loop-i.invariant (omega (arith, c.loop-i-test.true, c.loop-i.auto.i-end, c.loop-i.invariant.long))
       (ap (stays c.args.gone) c.index-items-i.is ∙ sym c.stays.ensures ∙ w.if-stays.false) c.index-items-i.is)

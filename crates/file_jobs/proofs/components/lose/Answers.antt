@@ -9,7 +9,7 @@ loop-at-preserved c = record {
   all = lost_more c.args.lost c.loop-at.k c.loop-at.at-index c.loop-at.left c.push.new.self c.args.components.now
       (record { drive = 0; object = 0; missing = false }) c.if-at.missing c.loop-at-test.true
       (elim c.if-at.branch
-          [ then-at w ↦ was_lost _ _ _ w.missing-is w.if-at.true | else-at w ↦ may_be_lost _ _ _ w.missing-is w.if-at.false ])
-          c.in_ok-push.ensures.ok c.loop-at.invariant.all;
+      [ then-at w ↦ was_lost _ _ _ w.missing-is w.if-at.true | else-at w ↦ may_be_lost _ _ _ w.missing-is w.if-at.false ])
+      c.in_ok-push.ensures.ok c.loop-at.invariant.all;
   place = ap (λ n. n + 1) c.loop-at.invariant.place;
 }

@@ -9,7 +9,7 @@ use Rattle.file_jobs.proofs.drive_replies.on_reply.Goals as goal
 pub job_after_turn-requires-clause-turn : goal.job_after_turn-requires-clause-turn
 job_after_turn-requires-clause-turn g c =
     sound_low c.in_ok-turn.turn c.args.effects.now c.take_reply.new.effects c.take_reply.new.kept c.requires.low
-        c.requires.objects c.in_ok-turn.ensures.sound
+    c.requires.objects c.in_ok-turn.ensures.sound
 
 pub returns-clause-heard : goal.returns-clause-heard
 unfolding on_reply
@@ -20,7 +20,7 @@ returns-clause-heard g c = λ ds l.
       λ rest.
           let a : Around = record { spent = c.args.file.now.spent; job = c.args.file.now.job; drives = ds; chosen = rest } in
           is_heard (at c.args.file.now c.args.effects.now ds (s.0 ++ rest)) c.args.drive c.args.reply.now c.args.file.now.job
-              c.in-Some-take.job c.in-Some.place _ e c.in-Some.ensures.found
+          c.in-Some-take.job c.in-Some.place _ e c.in-Some.ensures.found
           (λ x f. s.1 a l ∙ c.in_ok-turn.ensures.turn x f (record a { chosen = s.0 ++ rest }) e),
     )
 

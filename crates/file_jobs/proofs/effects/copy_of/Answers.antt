@@ -6,4 +6,4 @@ pub returns : goal.returns
 returns c =
     let a = c.args.awaited.now in
     ap (λ (bytes : List ℕ). record a { command = record a.command { payload = bytes } })
-        (c.in_ok-payload.ensures ∙ c.as_slice.ensures)
+    (c.in_ok-payload.ensures ∙ c.as_slice.ensures)

@@ -7,7 +7,7 @@ pub returns : goal.returns
 returns c =
     let m = c.args.effects.now in
     ap (λ (all : List Awaited). record m { nonce = m.nonce + 1; sent = all })
-        (c.in_ok-push.ensures.ok ∙ ap (λ (a : Awaited). m.sent ++ (a ∷ [])) c.in_ok-copy_of.ensures)
+    (c.in_ok-push.ensures.ok ∙ ap (λ (a : Awaited). m.sent ++ (a ∷ [])) c.in_ok-copy_of.ensures)
 
 pub overflow_add-effects : goal.overflow_add-effects
 overflow_add-effects c = omega (arith, c.requires)

@@ -6,4 +6,4 @@ use Rattle.file_jobs.proofs.fences.end_fence.Goals as goal
 pub returns-clause-sound : goal.returns-clause-sound
 returns-clause-sound c =
     IfOk-weaker c.begin_repair.result _ _
-        (λ turn h. sound_after turn _ _ _ _ (rw c.in_ok-note.ensures (refl, refl)) h) c.begin_repair.ensures.sound
+    (λ turn h. sound_after turn _ _ _ _ (rw c.in_ok-note.ensures (refl, refl)) h) c.begin_repair.ensures.sound

@@ -21,12 +21,12 @@ returns-in_default-clause-keeps g c = record {
 pub go_on_without_drive-requires-clause-sound : goal.go_on_without_drive-requires-clause-sound
 go_on_without_drive-requires-clause-sound g c =
     sound_off c.args.file.now.kept c.in_ok-file.field-0 c.args.drive
-        (rw c.as_slice-2.ensures at c.in_ok-file.ensures) c.requires.sound.kept
+    (rw c.as_slice-2.ensures at c.in_ok-file.ensures) c.requires.sound.kept
 
 pub job_after_turn-requires-clause-turn : goal.job_after_turn-requires-clause-turn
 job_after_turn-requires-clause-turn g c =
     sound_low c.in_ok-turn.turn c.args.effects.now c.go_on_without_drive.new.effects c.go_on_without_drive.new.kept c.requires.low
-        c.requires.objects c.in_ok-turn.ensures.sound
+    c.requires.objects c.in_ok-turn.ensures.sound
 
 pub returns-clause-keeps : goal.returns-clause-keeps
 returns-clause-keeps g c = record {
@@ -40,7 +40,7 @@ pub go_on_without_drive-requires-clause-job : goal.go_on_without_drive-requires-
 go_on_without_drive-requires-clause-job g c =
     let kept = c.args.file.now.kept in
     fits_lost kept (record kept { components = c.in_ok-file.field-0 }) _ c.in-Some.job.work refl refl
-        (lost_many c.in_ok-file.field-0 c.args.drive kept.components (rw c.as_slice-2.ensures at c.in_ok-file.ensures))
+    (lost_many c.in_ok-file.field-0 c.args.drive kept.components (rw c.as_slice-2.ensures at c.in_ok-file.ensures))
     (job_of kept c.args.file.now.job c.in-Some.job (sym c.take.ensures.value ∙ c.in-Some.is) c.requires.sound.job)
 
 pub returns-in_default-clause-sound : goal.returns-in_default-clause-sound
@@ -54,8 +54,8 @@ returns-in_default-clause-sound g c = record {
 pub job_after_turn-requires-clause-sound : goal.job_after_turn-requires-clause-sound
 job_after_turn-requires-clause-sound g c =
     c.in_ok-turn.ensures.keeps.sound
-        (sound_off c.args.file.now.kept c.in_ok-file.field-0 c.args.drive
-        (rw c.as_slice-2.ensures at c.in_ok-file.ensures) c.requires.sound.kept)
+    (sound_off c.args.file.now.kept c.in_ok-file.field-0 c.args.drive
+    (rw c.as_slice-2.ensures at c.in_ok-file.ensures) c.requires.sound.kept)
 
 pub returns-clause-steps : goal.returns-clause-steps
 returns-clause-steps g c =
@@ -68,13 +68,13 @@ returns-clause-steps g c =
           (sym (rw c.as_slice.ensures at c.any_on.ensures) ∙ w.if-not-any_on.false)
     ] in
     settled_steps
-        (λ g. declares g c.args.drive) c.in_ok-turn.turn c.args.loads.now f c.args.effects.now c.go_on_without_drive.new.effects
-            c.job_after_turn.new.effects c.go_on_without_drive.new.kept c.in_ok-file-2.field-0
+    (λ g. declares g c.args.drive) c.in_ok-turn.turn c.args.loads.now f c.args.effects.now c.go_on_without_drive.new.effects
+    c.job_after_turn.new.effects c.go_on_without_drive.new.kept c.in_ok-file-2.field-0
     (λ a h.
     c.in_ok-turn.ensures.turn a (h ∙ e)
     ∙ declares_is
-        (record { kept = f.kept; spent = a.spent; job = a.job }) c.args.effects.now a.drives a.chosen c.args.drive
-            c.in_ok-file.field-0 c.in-Some.job (rw h there) (rw c.as_slice-2.ensures at c.in_ok-file.ensures) (h ∙ e))
+    (record { kept = f.kept; spent = a.spent; job = a.job }) c.args.effects.now a.drives a.chosen c.args.drive
+    c.in_ok-file.field-0 c.in-Some.job (rw h there) (rw c.as_slice-2.ensures at c.in_ok-file.ensures) (h ∙ e))
     c.in_ok-file-2.ensures.job
 
 pub returns-clause-sound : goal.returns-clause-sound

@@ -22,22 +22,27 @@ go_on_after_loss-requires-clause-target c =
 pub go_on_after_loss-requires-clause-job : goal.go_on_after_loss-requires-clause-job
 go_on_after_loss-requires-clause-job c =
     let none : target_in (work_of c.job-in-None.inside.work) ≡ None =
-        ap (λ (x : Job). target_in x.work) (c.job-in-None.view_is ∙ sym c.job.view_is) ∙ sym c.target_of.ensures ∙ c.in-None.is in
+    ap (λ (x : Job). target_in x.work) (c.job-in-None.view_is ∙ sym c.job.view_is) ∙ sym c.target_of.ensures ∙ c.in-None.is in
     fits_others c.args.kept.now _ (length c.job-in-None.inside.awaited + length c.job-in-None.inside.heard) _
-        (work_of c.job-in-None.inside.work) none refl
+    (work_of c.job-in-None.inside.work) none refl
     (rw c.forget.ensures (omega (arith, few_left (λ (a : Awaited). not (a.drive == c.args.drive)) c.job-in-None.inside.awaited)))
     (fits_again c.args.kept.now _ (work_of c.job-in-None.inside.work) none (rw (← c.job-in-None.view_is) at c.requires.job))
 
 pub returns-in-None-clause-turn : goal.returns-in-None-clause-turn
 returns-in-None-clause-turn c =
     let j : Job =
-        record { kind = c.job-in-None.inside.kind; work = work_of c.job-in-None.inside.work; awaited =
-        c.job-in-None.inside.awaited; heard = c.job-in-None.inside.heard } in
+    record {
+      kind = c.job-in-None.inside.kind;
+      work = work_of c.job-in-None.inside.work;
+      awaited =
+          c.job-in-None.inside.awaited;
+      heard = c.job-in-None.inside.heard;
+    } in
     IfOk-weaker c.go_on_after_loss.result _ _ (λ turn h s e.
     h s ∙ declared_is (going c.args.kept.now c.args.effects.now s) j c.forget.new.awaited
-        (others_than c.args.drive c.job-in-None.inside.awaited) c.args.drive
+    (others_than c.args.drive c.job-in-None.inside.awaited) c.args.drive
     (ap (λ (x : Job). target_in x.work) (c.job-in-None.view_is ∙ sym c.job.view_is) ∙ sym c.target_of.ensures
-        ∙ c.in-None.is) c.forget.ensures
+    ∙ c.in-None.is) c.forget.ensures
     ∙ ap (λ (x : Job). loses (going c.args.kept.now c.args.effects.now s) x x.work (others_than c.args.drive x.awaited)
-        (is_target x.work c.args.drive)) c.job-in-None.view_is)
+    (is_target x.work c.args.drive)) c.job-in-None.view_is)
     c.go_on_after_loss.ensures.turn

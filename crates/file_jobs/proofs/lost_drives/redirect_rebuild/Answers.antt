@@ -12,16 +12,16 @@ use Rattle.file_jobs.proofs.lost_drives.redirect_rebuild.Goals as goal
 pub returns-then-target-drive-clause-turn : goal.returns-then-target-drive-clause-turn
 returns-then-target-drive-clause-turn c = IfOk-weaker c.end_component.result _ _ (λ turn h s e.
     h s ∙ gone_is (going c.args.kept.now c.args.effects.now s) c.args.job c.args.job.work
-        (others_than c.args.drive c.args.job.awaited) c.args.target c.args.drive c.requires.target
-            (grind (arith, c.if-target-drive.true)))
+    (others_than c.args.drive c.args.job.awaited) c.args.target c.args.drive c.requires.target
+    (grind (arith, c.if-target-drive.true)))
     c.end_component.ensures.turn
 
 pub returns-in-Rebuilds-clause-turn : goal.returns-in-Rebuilds-clause-turn
 returns-in-Rebuilds-clause-turn c = IfOk-weaker c.fill_next_piece.result _ _ (λ turn h s e.
     h s ∙ redirected (going c.args.kept.now c.args.effects.now s) c.args.job c.in-Rebuilds.rebuild c.args.target
-        (others_than c.args.drive c.args.job.awaited) c.args.drive
+    (others_than c.args.drive c.args.job.awaited) c.args.drive
     (ap (λ (x : Job). x.work) (sym c.job.view_is) ∙ ap work_of c.in-Rebuilds.is) c.requires.target
-        (grind (arith, c.if-target-drive.false)))
+    (grind (arith, c.if-target-drive.false)))
     c.fill_next_piece.ensures.turn
 
 pub end_component-requires-clause-target : goal.end_component-requires-clause-target
@@ -31,16 +31,16 @@ end_component-requires-clause-target c =
 pub fill_next_piece-requires-clause-fill : goal.fill_next_piece-requires-clause-fill
 fill_next_piece-requires-clause-fill c =
     can_fill_after c.args.kept.now _ c.args.job.work c.in-Rebuilds.rebuild
-        (ap (λ (x : Job). x.work) (sym c.job.view_is) ∙ ap work_of c.in-Rebuilds.is) c.requires.job
+    (ap (λ (x : Job). x.work) (sym c.job.view_is) ∙ ap work_of c.in-Rebuilds.is) c.requires.job
 
 pub returns-in_default : goal.returns-in_default
 returns-in_default c =
     let work : c.args.job.work ≡ work_of c.job.inside.work = ap (λ (x : Job). x.work) (sym c.job.view_is) in record {
       turn = λ a e.
           ap (λ (o : Option Job). going c.args.kept.now c.args.effects.now (record a { job = o }))
-              (ap (λ (j : Job). Some j) c.job.view_is ∙ sym e)
+          (ap (λ (j : Job). Some j) c.job.view_is ∙ sym e)
           ∙ remade (going c.args.kept.now c.args.effects.now a) c.args.job c.job.inside.work c.args.target
-              (others_than c.args.drive c.args.job.awaited) c.args.drive work c.requires.target
+          (others_than c.args.drive c.args.job.awaited) c.args.drive work c.requires.target
           c.in_default.not-Rebuilds (grind (arith, c.if-target-drive.false));
       sound = waits_after c.args.kept.now _ c.job.inside.work c.in_default.not-Rebuilds (rw (← c.job.view_is) at c.requires.job);
       keeps = record { number = refl; sound = λ s. s; grants = λ e. e };

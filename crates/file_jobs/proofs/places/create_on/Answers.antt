@@ -9,7 +9,7 @@ pub returns-clause-turn : goal.returns-clause-turn
 returns-clause-turn c = IfOk-weaker c.rest.result _ _ (λ turn h.
     made_on c.args.component c.args.drive c.args.kept.now c.args.effects.now c.rest.new.effects turn _
     (c.in_ok-push.ensures.ok ∙ ap (λ xs. xs ++ (c.in_ok-sent_to.field-0 ∷ [])) c.new-creates.ensures
-        ∙ ap (λ x. x ∷ []) c.in_ok-sent_to.ensures) h)
+    ∙ ap (λ x. x ∷ []) c.in_ok-sent_to.ensures) h)
     c.rest.ensures.turn
 
 pub returns-clause-sound : goal.returns-clause-sound

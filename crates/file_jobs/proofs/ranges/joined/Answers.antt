@@ -11,13 +11,13 @@ loop-i-preserved c =
       | then-next-range+in_ok-push w ↦
           rw (w.all-is, w.range-is)
           (joined_past l.all l.range rs l.i
-              (record { first = 0; end = 0 }) w.push.new.self c.loop-i-test.true w.if-next-range.true w.in_ok-push.ensures.ok
-              ∙ l.invariant)
+          (record { first = 0; end = 0 }) w.push.new.self c.loop-i-test.true w.if-next-range.true w.in_ok-push.ensures.ok
+          ∙ l.invariant)
       | else-next-range+else-range-next w ↦
           rw (w.all-is, w.range-is)
           (joined_on l.all l.range rs l.i
-              (record { first = 0; end = 0 }) w.min.result w.max.result c.loop-i-test.true w.if-next-range.false
-                  w.if-range-next.false w.min.ensures w.max.ensures
+          (record { first = 0; end = 0 }) w.min.result w.max.result c.loop-i-test.true w.if-next-range.false
+          w.if-range-next.false w.min.ensures w.max.ensures
           ∙ l.invariant)
     ]
 
@@ -26,8 +26,8 @@ returns-then-range-next c =
     let l = c.loop-i in
     c.in_ok-extend_from_slice.ensures.ok
     ∙ joined_stops l.all l.range c.args.ranges.now l.i
-        (record { first = 0; end = 0 }) c.push-then-range-next.new.self _ c.loop-i-test.true c.if-next-range.false
-            c.if-range-next.true
+    (record { first = 0; end = 0 }) c.push-then-range-next.new.self _ c.loop-i-test.true c.if-next-range.false
+    c.if-range-next.true
     c.in_ok-push-2.ensures.ok c.split_at.ensures.back
     ∙ l.invariant
 

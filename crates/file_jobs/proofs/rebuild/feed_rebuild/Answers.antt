@@ -17,11 +17,11 @@ go_on_after_write-requires-clause-fill c = can_fill c.args.kept.now _ c.args.reb
 pub returns-in-Gathering-clause-turn : goal.returns-in-Gathering-clause-turn
 returns-in-Gathering-clause-turn c = IfOk-weaker c.feed_sources.result _ _ (λ turn h kind a.
     h a ∙ goes_gathered kind (going c.args.kept.now c.args.effects.now a) c.args.rebuild c.args.heard.now
-        (sym c.stage.ensures ∙ c.in-Gathering.is))
+    (sym c.stage.ensures ∙ c.in-Gathering.is))
     c.feed_sources.ensures.turn
 
 pub returns-in-Filling-clause-turn : goal.returns-in-Filling-clause-turn
 returns-in-Filling-clause-turn c = IfOk-weaker c.go_on_after_write.result _ _ (λ turn h kind a.
     h a ∙ goes_filled kind (going c.args.kept.now c.args.effects.now a) c.args.rebuild c.args.heard.now
-        (sym c.stage.ensures ∙ c.in-Filling.is))
+    (sym c.stage.ensures ∙ c.in-Filling.is))
     c.go_on_after_write.ensures.turn

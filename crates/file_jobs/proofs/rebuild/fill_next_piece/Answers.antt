@@ -4,4 +4,4 @@ use Rattle.file_jobs.proofs.rebuild.fill_next_piece.Goals as goal
 pub after_fill_step-requires-clause-fill : goal.after_fill_step-requires-clause-fill
 after_fill_step-requires-clause-fill c =
     fills_still c.args.kept.now c.args.rebuild c.next.new.self c.in_ok-step.ensures.target c.in_ok-step.ensures.pieces
-        c.requires.fill
+    c.requires.fill

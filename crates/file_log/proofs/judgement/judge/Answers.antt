@@ -11,10 +11,10 @@ returns-then-not-fits c = (
   λ all.
       let here = accepted_fits c.args.log.now c.loop-entry.entry-index c.entry-item.result c.loop-entry-test.true all in
       let fits = subst (λ (x : Entry). Fits (candidates (take c.loop-entry.entry-index c.args.log.now)) x)
-          (sym c.entry-item.is) here in
+      (sym c.entry-item.is) here in
       absurd (true≢false
-          (sym (c.fits.ensures.1 (same_fits _ _ c.entry-item.result (same_back _ _ c.loop-entry.invariant.0) fits))
-          ∙ c.if-not-fits.true)),
+      (sym (c.fits.ensures.1 (same_fits _ _ c.entry-item.result (same_back _ _ c.loop-entry.invariant.0) fits))
+      ∙ c.if-not-fits.true)),
 )
 
 pub loop-entry-preserved : goal.loop-entry-preserved

@@ -6,8 +6,8 @@ use Rattle.file_log.proofs.sizes.add_raised.Goals as goal
 pub returns-in_ok-push : goal.returns-in_ok-push
 returns-in_ok-push c =
     λ n. rw c.in_ok-push.ensures.items
-        (raised_with c.args.sizes.now.items c.args.end n
-        (rw c.as_slice.ensures.value at c.has_below.ensures.0 c.if-has_below.true))
+    (raised_with c.args.sizes.now.items c.args.end n
+    (rw c.as_slice.ensures.value at c.has_below.ensures.0 c.if-has_below.true))
 
 pub returns-else-has_below : goal.returns-else-has_below
 returns-else-has_below c = λ n. elim c.else-has_below.branch [

@@ -8,10 +8,10 @@ loop-b-preserved c =
     let at : ℕ = 64 * c.loop-b.b in
     let f = λ (k : ℕ). bit_xor (get_or c.args.out.now k 0) (get_or c.args.src.now k 0) in
     block_stored f c.args.out.now c.loop-b.out c.store.new.s at _ (λ k. get_or c.sum.result k 0)
-        (omega arith) c.loop-b.invariant c.store.ensures (λ k lt.
+    (omega arith) c.loop-b.invariant c.store.ensures (λ k lt.
     sum_lane at k
-        (λ (i : ℕ). get_or c.args.src.now i 0) c.args.out.now c.loop-b.out c.load-before.result c.load-other.result c.sum.result
-            lt c.sum.ensures c.load-before.ensures.lanes
+    (λ (i : ℕ). get_or c.args.src.now i 0) c.args.out.now c.loop-b.out c.load-before.result c.load-other.result c.sum.result
+    lt c.sum.ensures c.load-before.ensures.lanes
     (c.load-other.ensures.lanes.each k lt) (c.loop-b.invariant.above (at + k) (omega arith)))
 
 pub returns : goal.returns

@@ -16,4 +16,4 @@ pub returns : goal.returns
 returns c =
     let sum : ℕ = get_or EXPONENTS c.args.a 0 + get_or EXPONENTS c.args.b 0 in
     power_at (sum % 255) (omega arith) ∙ two_to_mod sum
-        ∙ sym (product_of_exponents c.args.a c.args.b (omega arith) (omega arith) (omega arith) (omega arith))
+    ∙ sym (product_of_exponents c.args.a c.args.b (omega arith) (omega arith) (omega arith) (omega arith))

@@ -6,15 +6,15 @@ use Rattle.grant_table.proofs.file_grants.take_out.Goals as goal
 pub returns-then-index-number-clause-found : goal.returns-then-index-number-clause-found
 returns-then-index-number-clause-found c =
     sym (found_at c.args.number c.loop-i.i c.loop-i.grants.items c.remove.result c.index.result.now
-        (search rules) c.remove.ensures.value c.index.ensures c.if-index-number.true)
+    (search rules) c.remove.ensures.value c.index.ensures c.if-index-number.true)
     ∙ c.loop-i.invariant.found
 
 pub returns-then-index-number-clause-left : goal.returns-then-index-number-clause-left
 returns-then-index-number-clause-left c =
     c.remove.ensures.items
     ∙ ap (λ (z : List Grant). take c.loop-i.i c.loop-i.grants.items ++ z)
-        (sym (left_at c.args.number c.loop-i.i c.loop-i.grants.items c.index.result.now
-        (search rules) c.index.ensures c.if-index-number.true))
+    (sym (left_at c.args.number c.loop-i.i c.loop-i.grants.items c.index.result.now
+    (search rules) c.index.ensures c.if-index-number.true))
     ∙ c.loop-i.invariant.left
 
 pub returns-clause-found : goal.returns-clause-found

@@ -26,6 +26,6 @@ loop-place-preserved c =
     let r = c.index-records-place.result in
     let by = rw c.in-Ok-Done.field-0-is at c.in-Ok-Done.ensures.takes in
     let done : applied_to (Some c.loop-place.restoration) (get_or rs i r).entries ≡ Some c.take.new.self =
-        rw c.as_slice.ensures at by in
+    rw c.as_slice.ensures at by in
     restored_more rs i r c.loop-place-test.true
     ∙ ap (λ (s : Option Server). applied_to s (get_or rs i r).entries) c.loop-place.invariant ∙ done

@@ -7,4 +7,4 @@ use Rattle.layout_server.proofs.kept_files.numbers_of.Given as goal
 abbrev pub invariant-loop-file : goal.invariant-loop-file
 invariant-loop-file l =
     l.numbers ++ map (λ (f : File). f.kept.number) (files_in l.file-iterator) ≡ map (λ (f : File). f.kept.number)
-        (files_in l.files.entries)
+    (files_in l.files.entries)

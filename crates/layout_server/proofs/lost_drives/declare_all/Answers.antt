@@ -15,7 +15,7 @@ list_all-requires g c =
     let loaded = c.in_ok-loads.ensures.drives in
     let did = rw (c.no_effects-effects.ensures, c.as_slice-2.ensures) at c.in_ok-at_each_file.ensures in
     (declared_at c.args.state.now c.in_ok-state.field-0 c.at_each_file.new.files c.finish_step.new.state
-        c.at_each_file.new.effects _ c.args.drive c.in_ok-step.step
+    c.at_each_file.new.effects _ c.args.drive c.in_ok-step.step
     c.requires.good off loaded did c.in_ok-step.ensures).1
 
 pub returns-clause-did : goal.returns-clause-did
@@ -24,7 +24,9 @@ returns-clause-did g c =
     let loaded = c.in_ok-loads.ensures.drives in
     let did = rw (c.no_effects-effects.ensures, c.as_slice-2.ensures) at c.in_ok-at_each_file.ensures in
     let d = (declared_at c.args.state.now c.in_ok-state.field-0 c.at_each_file.new.files c.finish_step.new.state
-        c.at_each_file.new.effects _ c.args.drive c.in_ok-step.step
-    c.requires.good off loaded did c.in_ok-step.ensures).0 in
-    (d.0, subst (λ (s : Server). Did c.in_ok-step.step s (declare (server_of c.args.state.now) d.0 c.args.drive))
-        (sym c.in_ok-list_all.ensures.server) d.1)
+    c.at_each_file.new.effects _ c.args.drive c.in_ok-step.step
+    c.requires.good off loaded did c.in_ok-step.ensures).0 in (
+      d.0,
+      subst (λ (s : Server). Did c.in_ok-step.step s (declare (server_of c.args.state.now) d.0 c.args.drive))
+          (sym c.in_ok-list_all.ensures.server) d.1,
+    )

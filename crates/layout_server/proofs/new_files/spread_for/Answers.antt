@@ -6,7 +6,7 @@ spread-requires-clause-asked g c =
     let fits = rw (c.in_ok-zones.ensures.value, c.as_slice.ensures) at c.in_ok-zones.ensures.fits in
     rw (c.as_slice-2.ensures, c.in_ok-zones.ensures.value, c.as_slice.ensures, c.zone_ask.ensures.exact)
     (can_spread _ c.in_ok-loads.loads c.args.state.now.drives c.in_ok-loads.ensures.drives fits
-        (fits_ask c.args.map.now c.known.ensures) c.requires.good.drives c.requires.room)
+    (fits_ask c.args.map.now c.known.ensures) c.requires.good.drives c.requires.room)
 
 pub returns-clause-placed : goal.returns-clause-placed
 returns-clause-placed g c =

@@ -20,7 +20,7 @@ pub returns-then-online-raw-clause-refused : goal.returns-then-online-raw-clause
 returns-then-online-raw-clause-refused c =
     let counted = rw c.as_slice.ensures at c.count_usable-online.ensures in
     let good : checked_64 c.args.raw ≡ Ok c.args.raw =
-        sym c.checked_64.ensures.value ∙ c.in-Ok.is ∙ ap (λ (m : RawMap). Ok m) c.in-Ok.ensures.same in
+    sym c.checked_64.ensures.value ∙ c.in-Ok.is ∙ ap (λ (m : RawMap). Ok m) c.in-Ok.ensures.same in
     λ other. (
       why.TooFewDrives (usable c.args.zoned c.args.state.now.drives),
       refused_few (server_of c.args.state.now) c.args.number c.args.raw c.args.zoned
@@ -32,7 +32,7 @@ pub returns-then-not-branch-clause-refused : goal.returns-then-not-branch-clause
 returns-then-not-branch-clause-refused c =
     let counted = rw c.as_slice.ensures at c.count_usable-online.ensures in
     let good : checked_64 c.args.raw ≡ Ok c.args.raw =
-        sym c.checked_64.ensures.value ∙ c.in-Ok.is ∙ ap (λ (m : RawMap). Ok m) c.in-Ok.ensures.same in
+    sym c.checked_64.ensures.value ∙ c.in-Ok.is ∙ ap (λ (m : RawMap). Ok m) c.in-Ok.ensures.same in
     let none = rw (c.in_ok-has_room.ensures, c.in-Ok.ensures.same) at c.if-not-branch.true in
     λ other. (
       why.NoSpread (usable c.args.zoned c.args.state.now.drives),

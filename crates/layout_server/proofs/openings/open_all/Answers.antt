@@ -13,6 +13,6 @@ list_all-requires c =
 pub returns-clause-did : goal.returns-clause-did
 returns-clause-did c =
     let d = (opened_at c.args.state.now c.at_each_file.new.files c.finish_step.new.state c.at_each_file.new.effects
-        c.in_ok-step.step
+    c.in_ok-step.step
     c.requires.good c.requires.room (rw c.no_effects-effects.ensures at c.in_ok-at_each_file.ensures) c.in_ok-step.ensures).0 in
     subst (λ (s : Server). Did c.in_ok-step.step s (reopen (server_of c.args.state.now))) (sym c.in_ok-list_all.ensures.server) d

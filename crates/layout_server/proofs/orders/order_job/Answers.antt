@@ -16,5 +16,5 @@ returns-clause-obeys g c =
       obeys_between c.in_ok-obeyed.obeyed (λ (s : Server). starts s did.0 c.args.kind (file_at s.files c.args.number))
           (server_of c.args.state.now) (server_of c.unlist.new.state)
           (server_of c.order_job_at.new.state)
-              (server_of c.list.new.state) c.unlist.ensures.server c.in_ok-list.ensures.server did.1,
+          (server_of c.list.new.state) c.unlist.ensures.server c.in_ok-list.ensures.server did.1,
     )

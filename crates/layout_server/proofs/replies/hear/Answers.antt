@@ -15,13 +15,13 @@ hear_at-requires-clause-room g c = subst (λ (s : Server). HasRoom s) (sym c.unl
 pub hear_at-requires-clause-awaited : goal.hear_at-requires-clause-awaited
 hear_at-requires-clause-awaited g c =
     subst (λ (m : BTreeMap ℕ FileState). AwaitedAt c.args.drive c.args.reply.now c.args.number m.entries)
-        (sym c.unlist.ensures.files) c.requires.awaited
+    (sym c.unlist.ensures.files) c.requires.awaited
 
 pub hear_at-requires-clause-loads : goal.hear_at-requires-clause-loads
 hear_at-requires-clause-loads g c =
     rw c.as_slice-loads.ensures
-        (subst (λ (s : Server). AreLoadsOf c.in_ok-loads.loads s.drives)
-        (sym c.unlist.ensures.server) c.in_ok-loads.ensures.drives)
+    (subst (λ (s : Server). AreLoadsOf c.in_ok-loads.loads s.drives)
+    (sym c.unlist.ensures.server) c.in_ok-loads.ensures.drives)
 
 pub returns-clause-did : goal.returns-clause-did
 returns-clause-did g c =

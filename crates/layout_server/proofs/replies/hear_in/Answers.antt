@@ -11,6 +11,6 @@ on_reply-requires-clause-sound g c =
 pub returns-in_ok-on_reply : goal.returns-in_ok-on_reply
 returns-in_ok-on_reply g c =
     heard_in_table c.args.loads.now c.args.drive c.args.reply.now c.args.number c.args.files.now.entries _ c.args.effects.now
-        c.on_reply.new.effects c.in_ok-on_reply.field-0 c.in-Some.file.now c.on_reply.new.file
+    c.on_reply.new.effects c.in_ok-on_reply.field-0 c.in-Some.file.now c.on_reply.new.file
     (sym c.in-Some.ensures.value) (search rules) c.in_ok-on_reply.ensures.heard
-        (record { number = c.in_ok-on_reply.ensures.keeps.number; sound = c.in_ok-on_reply.ensures.sound })
+    (record { number = c.in_ok-on_reply.ensures.keeps.number; sound = c.in_ok-on_reply.ensures.sound })

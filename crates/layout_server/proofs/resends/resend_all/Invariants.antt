@@ -7,4 +7,4 @@ use Rattle.layout_server.proofs.resends.resend_all.Given as goal
 abbrev pub invariant-loop-file : goal.invariant-loop-file
 invariant-loop-file l =
     l.sends ++ all_sent (resent l.fn.drives (files_in l.file-iterator)) ≡ l.fn.sends ++ all_sent
-        (resent l.fn.drives (files_in l.files.entries))
+    (resent l.fn.drives (files_in l.files.entries))

@@ -6,8 +6,8 @@ pub returns-in_err-read_from-clause-exact : goal.returns-in_err-read_from-clause
 returns-in_err-read_from-clause-exact g c =
     let p = err_from_is_err_and c.from_residual.result c.from_residual.ensures.1 in
     rw (p.1, p.2)
-        (ends g.T.Part.reading c.loop.list c.args.count c.loop.counter c.loop.reader c.args.reader.now
-        c.in_err-read_from.field-0.0 c.loop-test.true c.in_err-read_from.ensures.exact c.loop.invariant.0)
+    (ends g.T.Part.reading c.loop.list c.args.count c.loop.counter c.loop.reader c.args.reader.now
+    c.in_err-read_from.field-0.0 c.loop-test.true c.in_err-read_from.ensures.exact c.loop.invariant.0)
 
 pub loop-preserved : goal.loop-preserved
 loop-preserved g c =

@@ -9,7 +9,7 @@ pub returns-clause-handed : goal.returns-clause-handed
 returns-clause-handed c = λ s f t.
     let p = c.args.parties.now in
     let same : c.message-sent.result.now ≡ s =
-        same_message p c.args.number c.message-sent.result.now s c.message-sent.ensures f in
+    same_message p c.args.number c.message-sent.result.now s c.message-sent.ensures f in
     client_handed c.clients_are_the_worlds.ensures.hear p c.hear.new.self s c.args.client c.node_of-from.result
     c.in_ok-handed.handed t (c.node_of-from.ensures ∙ ap (λ (x : Sent). node_of x.from) same)
     (subst (λ (x : Sent). Hears (heard_in p.clients c.args.client c.node_of-from.result x.bytes) c.hear.new.self

@@ -22,7 +22,7 @@ loop-rounds-init g c = (
 pub returns-in-Err-clause-finishes : goal.returns-in-Err-clause-finishes
 returns-in-Err-clause-finishes g c = λ m w e before watch f.
     finishes_quiet w e before watch c.args.first c.args.client c.settle.new.parties c.settle.new.watch c.settle.new.lines
-        c.in-Err.error
+    c.in-Err.error
     (c.in-Err.ensures.quiets w e before watch c.args.first c.args.client (c.loop-rounds.invariant.0 w e before watch m f))
 
 pub returns-in-Err-quieten-clause-finishes : goal.returns-in-Err-quieten-clause-finishes
@@ -35,8 +35,8 @@ returns-in-Err-quieten-clause-finishes g c = λ m w e before watch f.
     let due = due_quiet c.network_shows.ensures.pending w e before watch c.args.first c.args.client p c.settle.new.watch
     c.settle.new.lines q ∙ sym (c.quiet_of-due.ensures (world_after w q.far.moves) q.far.shows) in
     quiet_err w e before watch c.args.first c.args.client p c.quieten.new.parties c.settle.new.watch c.quieten.new.watch
-        c.settle.new.lines c.quieten.new.lines c.in-Err-quieten.error q
-            (action_of c.quiet_of-due.result) due c.in-Err-quieten.ensures.moves
+    c.settle.new.lines c.quieten.new.lines c.in-Err-quieten.error q
+    (action_of c.quiet_of-due.result) due c.in-Err-quieten.ensures.moves
 
 pub returns-in-Over-clause-finishes : goal.returns-in-Over-clause-finishes
 returns-in-Over-clause-finishes g c = λ m w e before watch f.
@@ -48,7 +48,7 @@ returns-in-Over-clause-finishes g c = λ m w e before watch f.
     let due = due_quiet c.network_shows.ensures.pending w e before watch c.args.first c.args.client p c.settle.new.watch
     c.settle.new.lines q ∙ sym (c.quiet_of-due.ensures (world_after w q.far.moves) q.far.shows) in
     quiet_over w e before watch c.args.first c.args.client p c.quieten.new.parties c.settle.new.watch c.quieten.new.watch
-        c.settle.new.lines c.quieten.new.lines q (rw c.in-Over.is at due) (rw c.in-Over.is at c.in-Ok-quieten.ensures.moves)
+    c.settle.new.lines c.quieten.new.lines q (rw c.in-Over.is at due) (rw c.in-Over.is at c.in-Ok-quieten.ensures.moves)
 
 pub returns-in-Pends-clause-finishes : goal.returns-in-Pends-clause-finishes
 returns-in-Pends-clause-finishes g c = λ m w e before watch f.
@@ -60,8 +60,8 @@ returns-in-Pends-clause-finishes g c = λ m w e before watch f.
     let due = due_quiet c.network_shows.ensures.pending w e before watch c.args.first c.args.client p c.settle.new.watch
     c.settle.new.lines q ∙ sym (c.quiet_of-due.ensures (world_after w q.far.moves) q.far.shows) in
     quiet_pends w e before watch c.args.first c.args.client p c.quieten.new.parties c.settle.new.watch c.quieten.new.watch
-        c.settle.new.lines c.quieten.new.lines q c.in-Pends.client (rw c.in-Pends.is at due)
-            (rw c.in-Pends.is at c.in-Ok-quieten.ensures.moves)
+    c.settle.new.lines c.quieten.new.lines q c.in-Pends.client (rw c.in-Pends.is at due)
+    (rw c.in-Pends.is at c.in-Ok-quieten.ensures.moves)
 
 pub returns-clause-finishes : goal.returns-clause-finishes
 returns-clause-finishes g c = λ m w e before watch f.
@@ -81,9 +81,9 @@ loop-rounds-preserved g c = (
       let place : c.len-next.result ≡ length p.network.messages =
       c.len-next.ensures ∙ ap (λ (n : NetworkState). length n.messages) (sym c.remember_settled.ensures.network) in
       subst (λ (k : ℕ). Delivering w e before watch c.args.first c.args.client c.quieten.new.parties c.quieten.new.watch k
-          c.quieten.new.lines) (sym place)
+      c.quieten.new.lines) (sym place)
       (quiet_next w e before watch c.args.first c.args.client p c.quieten.new.parties c.settle.new.watch c.quieten.new.watch
-          c.settle.new.lines c.quieten.new.lines q
+      c.settle.new.lines c.quieten.new.lines q
       c.in-TimesOut.client c.in-TimesOut.component (rw c.in-TimesOut.is at due)
       (rw c.in-TimesOut.is at c.in-Ok-quieten.ensures.moves) c.in-Ok-quieten.ensures.grows),
   leaves_on c.args.watch.now c.settle.new.watch c.quieten.new.watch

@@ -26,7 +26,7 @@ returns-in-Err-clause-quiets g c = λ w e before watch first client d.
     (comes w e before watch (behind (Prompt first client)) l.parties l.watch l.lines i.far (Delivers number)
     c.deliver_move.new.parties c.deliver_move.new.watch c.deliver_move.new.lines (Err error)
     (due_first c.network_shows.ensures.pending w e before watch first client l.parties l.watch l.next l.lines i number
-        c.in-Some.ensures)
+    c.in-Some.ensures)
     (c.in-Err.ensures.moves (world_after w i.far.moves) i.far.shows))
 
 pub overflow_add-next : goal.overflow_add-next

@@ -9,13 +9,13 @@ pub returns-in-Err-clause-refused : goal.returns-in-Err-clause-refused
 returns-in-Err-clause-refused g c =
     rw (c.if-zoned.true, c.file_err.ensures)
     (refused_back _ c.args.journal.now c.create_zoned.new.self c.args.file c.args.raw c.args.tag true c.in-Err.e
-        (c.requires.well (sym c.is_over.ensures ∙ c.if-is_over.false))
+    (c.requires.well (sym c.is_over.ensures ∙ c.if-is_over.false))
     c.in-Err.ensures.refused).0
 
 pub returns-in-Err-clause-well : goal.returns-in-Err-clause-well
 returns-in-Err-clause-well g c =
     (refused_back _ c.args.journal.now c.create_zoned.new.self c.args.file c.args.raw c.args.tag true c.in-Err.e
-        (c.requires.well (sym c.is_over.ensures ∙ c.if-is_over.false))
+    (c.requires.well (sym c.is_over.ensures ∙ c.if-is_over.false))
     c.in-Err.ensures.refused).1
 
 pub returns-in-Ok-create_file-clause-well : goal.returns-in-Ok-create_file-clause-well
@@ -26,11 +26,11 @@ pub returns-in-Err-create_file-clause-refused : goal.returns-in-Err-create_file-
 returns-in-Err-create_file-clause-refused g c =
     rw (c.if-zoned.false, c.file_err-in-Err-create_file.ensures)
     (refused_back _ c.args.journal.now c.create_file.new.self c.args.file c.args.raw c.args.tag false c.in-Err-create_file.e
-        (c.requires.well (sym c.is_over.ensures ∙ c.if-is_over.false))
+    (c.requires.well (sym c.is_over.ensures ∙ c.if-is_over.false))
     c.in-Err-create_file.ensures.refused).0
 
 pub returns-in-Err-create_file-clause-well : goal.returns-in-Err-create_file-clause-well
 returns-in-Err-create_file-clause-well g c =
     (refused_back _ c.args.journal.now c.create_file.new.self c.args.file c.args.raw c.args.tag false c.in-Err-create_file.e
-        (c.requires.well (sym c.is_over.ensures ∙ c.if-is_over.false))
+    (c.requires.well (sym c.is_over.ensures ∙ c.if-is_over.false))
     c.in-Err-create_file.ensures.refused).1

@@ -6,7 +6,7 @@ use Rattle.layout_world.proofs.refusing.of_zone.Goals as goal
 pub returns-clause-cause : goal.returns-clause-cause
 returns-clause-cause c =
     first_cause c.args.parties.now
-        (λ (w : World). unless_zoned (is_zoned w.server c.args.drive) (at_number w.drives c.args.drive))
-            (λ (w : World). unless_down w)
+    (λ (w : World). unless_zoned (is_zoned w.server c.args.drive) (at_number w.drives c.args.drive))
+    (λ (w : World). unless_down w)
     c.of_unzoned.result c.unless_down.result c.first_of.result c.first_of.ensures.value c.of_unzoned.ensures.cause
-        c.unless_down.ensures.cause
+    c.unless_down.ensures.cause

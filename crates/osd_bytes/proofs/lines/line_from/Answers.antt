@@ -9,8 +9,8 @@ use Rattle.osd_bytes.proofs.lines.line_from.Goals.{then-is_empty, else-is_empty}
 pub returns-in-Err-clause-newlines : goal.returns-in-Err-clause-newlines
 returns-in-Err-clause-newlines g c =
     fails_to_read c.in-Err.e c.pieces.line _ c.fill.new.self.ended _ _ _
-        (known_of c.fill.new.self (g.S.Source.left c.fill.new.s)) c.pieces.window c.pieces.invariant.3 c.pieces.invariant.5
-            c.pieces.invariant.8 c.in-Err.ensures.err
+    (known_of c.fill.new.self (g.S.Source.left c.fill.new.s)) c.pieces.window c.pieces.invariant.3 c.pieces.invariant.5
+    c.pieces.invariant.8 c.in-Err.ensures.err
 
 pub returns-then-len-eq0-clause-answer : goal.returns-then-len-eq0-clause-answer
 returns-then-len-eq0-clause-answer g c =
@@ -41,34 +41,36 @@ returns-then-branch-clause-answer g c =
     let p = rw c.if-branch.true at c.in_ok-take_piece.ensures.piece in
     let so_far = rw append-nil at (Consumes-then _ _ _ _ _ c.pieces.invariant.5 c.in-Ok.ensures.bytes) in
     (ends_line c.args.taken.now _ c.fill.new.self c.take_piece.new.window
-        (g.S.Source.left c.fill.new.s) c.pieces.line c.take_piece.new.line c.pieces.taken c.take_piece.new.taken so_far p
-            c.take_piece.ensures.same c.pieces.invariant.3 c.pieces.invariant.1 c.take_piece.ensures.bound).0
+    (g.S.Source.left c.fill.new.s) c.pieces.line c.take_piece.new.line c.pieces.taken c.take_piece.new.taken so_far p
+    c.take_piece.ensures.same c.pieces.invariant.3 c.pieces.invariant.1 c.take_piece.ensures.bound).0
 
 pub returns-then-branch-clause-rest : goal.returns-then-branch-clause-rest
 returns-then-branch-clause-rest g c =
     let p = rw c.if-branch.true at c.in_ok-take_piece.ensures.piece in
     let so_far = rw append-nil at (Consumes-then _ _ _ _ _ c.pieces.invariant.5 c.in-Ok.ensures.bytes) in
     (ends_line c.args.taken.now _ c.fill.new.self c.take_piece.new.window
-        (g.S.Source.left c.fill.new.s) c.pieces.line c.take_piece.new.line c.pieces.taken c.take_piece.new.taken so_far p
-            c.take_piece.ensures.same c.pieces.invariant.3 c.pieces.invariant.1 c.take_piece.ensures.bound).1
+    (g.S.Source.left c.fill.new.s) c.pieces.line c.take_piece.new.line c.pieces.taken c.take_piece.new.taken so_far p
+    c.take_piece.ensures.same c.pieces.invariant.3 c.pieces.invariant.1 c.take_piece.ensures.bound).1
 
 pub returns-then-branch-clause-newlines : goal.returns-then-branch-clause-newlines
 returns-then-branch-clause-newlines g c =
     let p = rw c.if-branch.true at c.in_ok-take_piece.ensures.piece in
     let so_far = rw append-nil at (Consumes-then _ _ _ _ _ c.pieces.invariant.5 c.in-Ok.ensures.bytes) in
-    λ h. (c.pieces.invariant.8 (c.in-Ok.ensures.open (sym c.take_piece.ensures.same ∙ h)),
-        (ends_line c.args.taken.now _ c.fill.new.self c.take_piece.new.window
-        (g.S.Source.left c.fill.new.s) c.pieces.line c.take_piece.new.line c.pieces.taken c.take_piece.new.taken so_far p
-            c.take_piece.ensures.same c.pieces.invariant.3 c.pieces.invariant.1 c.take_piece.ensures.bound).2)
+    λ h. (
+      c.pieces.invariant.8 (c.in-Ok.ensures.open (sym c.take_piece.ensures.same ∙ h)),
+      (ends_line c.args.taken.now _ c.fill.new.self c.take_piece.new.window
+          (g.S.Source.left c.fill.new.s) c.pieces.line c.take_piece.new.line c.pieces.taken c.take_piece.new.taken so_far p
+          c.take_piece.ensures.same c.pieces.invariant.3 c.pieces.invariant.1 c.take_piece.ensures.bound).2,
+    )
 
 pub pieces-preserved : goal.pieces-preserved
 pieces-preserved g c =
     let p = rw c.if-branch.false at c.in_ok-take_piece.ensures.piece in
     let so_far = rw append-nil at (Consumes-then _ _ _ _ _ c.pieces.invariant.5 c.in-Ok.ensures.bytes) in
     let whole = rw append-nil at
-        (consumes_piece (known_of c.args.window.now (g.S.Source.left c.args.s.now)) c.fill.new.self c.take_piece.new.window
-        (g.S.Source.left c.fill.new.s) c.pieces.line c.take_piece.new.line c.pieces.taken c.take_piece.new.taken false so_far p
-            c.take_piece.ensures.same) in
+    (consumes_piece (known_of c.args.window.now (g.S.Source.left c.args.s.now)) c.fill.new.self c.take_piece.new.window
+    (g.S.Source.left c.fill.new.s) c.pieces.line c.take_piece.new.line c.pieces.taken c.take_piece.new.taken false so_far p
+    c.take_piece.ensures.same) in
     let long = piece_lengths _ _ _ _ _ _ _ p in (
       c.take_piece.ensures.bound,
       omega (arith, long.0),

@@ -12,5 +12,5 @@ pub returns-clause-ok : goal.returns-clause-ok
 returns-clause-ok g c = λ w shows.
     carried_by c.args.event c.step.new.lines c.args.world.now c.step.new.self c.step.result c.in-Ok.is_full c.in_ok-text.text w
     (rw c.new-lines.ensures at c.step.ensures.steps) (rw c.new-lines.ensures at c.step.ensures.watches)
-        (sym c.is_cut.ensures ∙ c.in-Ok.is)
+    (sym c.is_cut.ensures ∙ c.in-Ok.is)
     ((rw c.emptied.ensures at c.in_ok-text.ensures) ∙ ap lines_text c.as_slice.ensures) shows

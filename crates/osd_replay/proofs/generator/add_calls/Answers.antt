@@ -7,7 +7,7 @@ use Rattle.osd_replay.proofs.generator.add_calls.Goals.{in-Some+in_ok-call+in_ok
 pub loop-k-preserved : goal.loop-k-preserved
 loop-k-preserved c =
     let pushed : c.match-new.events.items ≡ c.loop-k.events.items ++ call_event c.loop-k.k c.loop-k.x ∷ [] =
-        elim c.match-new.branch [
+    elim c.match-new.branch [
       | in-Some+in_ok-call+in_ok-push w ↦ search rules
       | in_default w ↦ absurd (search rules)
     ] in

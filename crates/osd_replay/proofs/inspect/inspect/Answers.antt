@@ -24,18 +24,20 @@ returns-in-Ok-None g c =
     let here = rw c.in-Ok-None.field-0-is at c.in-Ok-None.ensures in
     let inv = c.lines.invariant in
     all_inspected c.args.inspection c.args.kind _ _ _ _ c.lines.reader.taken c.lines.number inv.so_far here.lines
-        (at_end _ _ _ _ here.at_end inv.ended (here.end refl)) (here.cause.same ∙ inv.reads) inv.writes
+    (at_end _ _ _ _ here.at_end inv.ended (here.end refl)) (here.cause.same ∙ inv.reads) inv.writes
 
 pub returns-in-Err : goal.returns-in-Err
 returns-in-Err g c =
     let inv = c.lines.invariant in
     rw (c.stopped.ensures.status, c.stop_of.ensures)
     (no_line_inspected c.args.inspection c.args.kind _ _ _ c.lines.reader.taken (g.K.Sink.taken c.lines.sink) c.lines.number
-        (g.K.Sink.faults c.lines.sink) c.stopped.ensures.puts.0 c.in-Err.e inv.so_far c.in-Err.ensures.answer
-    (λ h. (rw inv.reads at (c.in-Err.ensures.cause.fault (ap (λ x. Err x) h)),
-        fails_at _ c.next_line.new.self.ahead.ended _ _ _
-            (known_of c.next_line.new.self.ahead (g.S.Source.left c.next_line.new.s)) _ c.in-Err.e inv.newlines
-            c.in-Err.ensures.newlines h)) inv.writes (rw c.stop_of.ensures at c.stopped.ensures.puts.1))
+    (g.K.Sink.faults c.lines.sink) c.stopped.ensures.puts.0 c.in-Err.e inv.so_far c.in-Err.ensures.answer
+    (λ h. (
+      rw inv.reads at (c.in-Err.ensures.cause.fault (ap (λ x. Err x) h)),
+      fails_at _ c.next_line.new.self.ahead.ended _ _ _
+          (known_of c.next_line.new.self.ahead (g.S.Source.left c.next_line.new.s)) _ c.in-Err.e inv.newlines
+          c.in-Err.ensures.newlines h,
+    )) inv.writes (rw c.stop_of.ensures at c.stopped.ensures.puts.1))
 
 pub returns-in-Err-inspect_line : goal.returns-in-Err-inspect_line
 returns-in-Err-inspect_line g c =
@@ -43,7 +45,7 @@ returns-in-Err-inspect_line g c =
     let inv = c.lines.invariant in
     rw c.stopped-in-Err-inspect_line.ensures.status
     (inspection_stopped c.args.inspection c.args.kind _ _ _ c.lines.reader.taken (g.K.Sink.taken c.lines.sink) c.lines.number
-        (g.K.Sink.faults c.lines.sink) c.stopped-in-Err-inspect_line.ensures.puts.0 c.in-Ok-Some.line c.in-Err-inspect_line.stop
+    (g.K.Sink.faults c.lines.sink) c.stopped-in-Err-inspect_line.ensures.puts.0 c.in-Ok-Some.line c.in-Err-inspect_line.stop
     inv.so_far here.answer c.in-Err-inspect_line.ensures.err inv.writes c.stopped-in-Err-inspect_line.ensures.puts.1)
 
 pub returns-in-Err-put_all : goal.returns-in-Err-put_all
@@ -52,9 +54,9 @@ returns-in-Err-put_all g c =
     let inv = c.lines.invariant in
     let bytes : c.as_slice.result.now ≡ c.in-Ok.text = c.as_slice.ensures in
     part_answered c.args.inspection c.args.kind _ _ _ _ c.lines.reader.taken c.next_line.new.self.taken
-        (g.K.Sink.taken c.lines.sink) c.lines.number (written_of c.in-Err-put_all.field-0) c.in-Ok-Some.line c.in-Ok.text
+    (g.K.Sink.taken c.lines.sink) c.lines.number (written_of c.in-Err-put_all.field-0) c.in-Ok-Some.line c.in-Ok.text
     inv.so_far here.lines here.takes c.in-Ok.ensures.ok (rw bytes at c.in-Err-put_all.ensures.err)
-        (rw inv.writes at c.in-Err-put_all.ensures.cause.failed)
+    (rw inv.writes at c.in-Err-put_all.ensures.cause.failed)
 
 pub lines-preserved : goal.lines-preserved
 lines-preserved g c =

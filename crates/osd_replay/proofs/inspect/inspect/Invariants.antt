@@ -18,7 +18,7 @@ invariant-lines g l = record {
       (known_of l.reader.ahead (g.S.Source.left l.source));
   so_far : Inspecting l.inspection l.kind (g.S.Source.left l.fn.source)
       (known_of l.reader.ahead (g.S.Source.left l.source)) l.reader.taken (g.K.Sink.taken l.fn.sink)
-          (g.K.Sink.taken l.sink) l.number;
+      (g.K.Sink.taken l.sink) l.number;
 }
 
 abbrev pub decreases-lines : goal.decreases-lines

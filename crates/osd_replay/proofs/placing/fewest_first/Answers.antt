@@ -7,7 +7,7 @@ pub returns-clause-places : goal.returns-clause-places
 returns-clause-places c = λ x is.
     let same : c.from_vec.result ≡ x = cc is in
     let chosen : c.from_vec.result ≡ map (λ (pair : ℕ × ℕ). pair.1) (take c.args.count c.in_ok-online.online.items) =
-        search rules in
+    search rules in
     subst (λ (y : List ℕ). Places c.args.count c.args.loads.now y) (sym chosen ∙ same)
     (first_places c.args.count c.args.loads.now c.in_ok-online.online.items c.requires c.in_ok-online.ensures.same)
 
@@ -15,5 +15,5 @@ pub returns-clause-fewest : goal.returns-clause-fewest
 returns-clause-fewest c = λ x is.
     let same : c.from_vec.result ≡ x = cc is in
     let chosen : c.from_vec.result ≡ map (λ (pair : ℕ × ℕ). pair.1) (take c.args.count c.in_ok-online.online.items) =
-        search rules in
+    search rules in
     record { pairs = c.in_ok-online.online.items; order = c.in_ok-online.ensures; first = sym same ∙ chosen }

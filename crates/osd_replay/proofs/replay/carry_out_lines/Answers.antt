@@ -28,31 +28,33 @@ returns-in-Ok-None g c =
     let here = rw c.in-Ok-None.field-0-is at c.in-Ok-None.ensures in
     let inv = c.lines.invariant in
     finished _ _ _ _ c.lines.reader.taken (g.K.Sink.taken c.lines.sink) c.lines.number
-        (g.K.Sink.faults c.lines.sink) c.lines.world _ c.finish.result inv.so_far here.lines
+    (g.K.Sink.faults c.lines.sink) c.lines.world _ c.finish.result inv.so_far here.lines
     (at_end _ _ _ _ here.at_end inv.ended (here.end refl)) (here.cause.same ∙ inv.reads) inv.writes
-        (λ h watches. last_said c.lines.world h watches) c.finish.ensures.ends
+    (λ h watches. last_said c.lines.world h watches) c.finish.ensures.ends
 
 pub returns-in-Err : goal.returns-in-Err
 returns-in-Err g c =
     let inv = c.lines.invariant in
     rw (c.stopped.ensures.status, c.stop_of.ensures)
     (no_line _ _ _ c.lines.reader.taken (g.K.Sink.taken c.lines.sink) c.lines.number
-        (g.K.Sink.faults c.lines.sink) c.lines.world c.stopped.ensures.puts.0 c.in-Err.e inv.so_far c.in-Err.ensures.answer
-    (λ h. (rw inv.reads at (c.in-Err.ensures.cause.fault (ap (λ x. Err x) h)),
-        fails_at _ c.next_line.new.self.ahead.ended _ _ _
-            (known_of c.next_line.new.self.ahead (g.S.Source.left c.next_line.new.s)) _ c.in-Err.e inv.newlines
-            c.in-Err.ensures.newlines h)) inv.writes (rw c.stop_of.ensures at c.stopped.ensures.puts.1))
+    (g.K.Sink.faults c.lines.sink) c.lines.world c.stopped.ensures.puts.0 c.in-Err.e inv.so_far c.in-Err.ensures.answer
+    (λ h. (
+      rw inv.reads at (c.in-Err.ensures.cause.fault (ap (λ x. Err x) h)),
+      fails_at _ c.next_line.new.self.ahead.ended _ _ _
+          (known_of c.next_line.new.self.ahead (g.S.Source.left c.next_line.new.s)) _ c.in-Err.e inv.newlines
+          c.in-Err.ensures.newlines h,
+    )) inv.writes (rw c.stop_of.ensures at c.stopped.ensures.puts.1))
 
 pub returns-in-Err-carry_out : goal.returns-in-Err-carry_out
 returns-in-Err-carry_out g c =
     let here = rw c.in-Ok-Some.field-0-is at c.in-Ok-Some.ensures in
     let inv = c.lines.invariant in
     let stops : StopsLine c.in-Ok-Some.line c.lines.world c.in-Err-carry_out.stop =
-        rw c.as_slice.ensures at c.in-Err-carry_out.ensures.err in
+    rw c.as_slice.ensures at c.in-Err-carry_out.ensures.err in
     rw c.stopped-in-Err-carry_out.ensures.status
     (line_stopped _ _ _ c.lines.reader.taken (g.K.Sink.taken c.lines.sink) c.lines.number
-        (g.K.Sink.faults c.lines.sink) c.lines.world c.stopped-in-Err-carry_out.ensures.puts.0 c.in-Ok-Some.line
-            c.in-Err-carry_out.stop
+    (g.K.Sink.faults c.lines.sink) c.lines.world c.stopped-in-Err-carry_out.ensures.puts.0 c.in-Ok-Some.line
+    c.in-Err-carry_out.stop
     inv.so_far here.answer stops inv.writes c.stopped-in-Err-carry_out.ensures.puts.1)
 
 pub returns-in-Err-put_all : goal.returns-in-Err-put_all
@@ -60,19 +62,19 @@ returns-in-Err-put_all g c =
     let here = rw c.in-Ok-Some.field-0-is at c.in-Ok-Some.ensures in
     let inv = c.lines.invariant in
     let carried : CarriesLine c.in-Ok-Some.line c.lines.world c.carry_out.new.world c.in-Ok.carried =
-        rw c.as_slice.ensures at c.in-Ok.ensures.ok in
+    rw c.as_slice.ensures at c.in-Ok.ensures.ok in
     let bytes : c.as_slice-in-lines.result.now ≡ c.in-Ok.carried.text = c.as_slice-in-lines.ensures in
     part_put _ _ _ _ c.lines.reader.taken c.next_line.new.self.taken (g.K.Sink.taken c.lines.sink) c.lines.number
-        (written_of c.in-Err-put_all.field-0) c.lines.world c.carry_out.new.world c.in-Ok-Some.line c.in-Ok.carried
+    (written_of c.in-Err-put_all.field-0) c.lines.world c.carry_out.new.world c.in-Ok-Some.line c.in-Ok.carried
     inv.so_far here.lines here.takes carried (rw bytes at c.in-Err-put_all.ensures.part)
-        (rw bytes at c.in-Err-put_all.ensures.err) (rw inv.writes at c.in-Err-put_all.ensures.cause.failed)
+    (rw bytes at c.in-Err-put_all.ensures.err) (rw inv.writes at c.in-Err-put_all.ensures.cause.failed)
 
 pub lines-preserved : goal.lines-preserved
 lines-preserved g c =
     let here = rw c.in-Ok-Some.field-0-is at c.in-Ok-Some.ensures in
     let inv = c.lines.invariant in
     let carried : CarriesLine c.in-Ok-Some.line c.lines.world c.carry_out.new.world c.in-Ok.carried =
-        rw c.as_slice.ensures at c.in-Ok.ensures.ok in
+    rw c.as_slice.ensures at c.in-Ok.ensures.ok in
     let bytes : c.as_slice-in-lines.result.now ≡ c.in-Ok.carried.text = c.as_slice-in-lines.ensures in
     record {
       reader = here.over.1 tt;
@@ -92,11 +94,11 @@ returns-then-is_full g c =
     let here = rw c.in-Ok-Some.field-0-is at c.in-Ok-Some.ensures in
     let inv = c.lines.invariant in
     let carried : CarriesLine c.in-Ok-Some.line c.lines.world c.carry_out.new.world c.in-Ok.carried =
-        rw c.as_slice.ensures at c.in-Ok.ensures.ok in
+    rw c.as_slice.ensures at c.in-Ok.ensures.ok in
     let bytes : c.as_slice-in-lines.result.now ≡ c.in-Ok.carried.text = c.as_slice-in-lines.ensures in
     rw c.stopped-then-is_full.ensures.status
     (cut_put _ _ _ _ c.lines.reader.taken c.next_line.new.self.taken
-        (g.K.Sink.taken c.lines.sink) _ c.lines.number _ c.stopped-then-is_full.ensures.puts.0 c.lines.world c.carry_out.new.world
-            c.in-Ok-Some.line c.in-Ok.carried
+    (g.K.Sink.taken c.lines.sink) _ c.lines.number _ c.stopped-then-is_full.ensures.puts.0 c.lines.world c.carry_out.new.world
+    c.in-Ok-Some.line c.in-Ok.carried
     inv.so_far here.lines here.takes carried c.if-is_full.true (rw bytes at c.in-Ok-put_all.ensures.ok)
-        (c.in-Ok-put_all.ensures.cause.same ∙ inv.writes) c.stopped-then-is_full.ensures.puts.1)
+    (c.in-Ok-put_all.ensures.cause.same ∙ inv.writes) c.stopped-then-is_full.ensures.puts.1)

@@ -11,25 +11,29 @@ use Rattle.osd_replay.proofs.Promised.{tells}
 use Rattle.osd_replay.proofs.top_call.run.Goals as goal
 
 pub returns-in-None-clause-promise : goal.returns-in-None-clause-promise
-returns-in-None-clause-promise g c = rw (← c.in-None.ensures)
-    (refl, tells _ _ (g.K.Sink.taken c.args.sink.now) [] words_error (g.K.Sink.faults c.args.sink.now) c.put_pieces-told.result
-        (appends_none (g.K.Sink.taken c.args.sink.now)) c.put_pieces-told.ensures.puts refl)
+returns-in-None-clause-promise g c = rw (← c.in-None.ensures) (
+  refl,
+  tells _ _ (g.K.Sink.taken c.args.sink.now) [] words_error (g.K.Sink.faults c.args.sink.now) c.put_pieces-told.result
+      (appends_none (g.K.Sink.taken c.args.sink.now)) c.put_pieces-told.ensures.puts refl,
+)
 
 pub returns-in-Some-Generate-clause-promise : goal.returns-in-Some-Generate-clause-promise
 returns-in-Some-Generate-clause-promise g c =
     let is : command_of (map string_bytes c.args.words.now) ≡ Some (Generate c.in-Some-Generate.seed c.in-Some-Generate.calls) =
-        search rules in
-    rw is (record { left = refl; reads = refl },
-        c.generate.ensures (g.S.Source.left c.args.source.now) (g.S.Source.faults c.args.source.now))
+    search rules in
+    rw is (
+      record { left = refl; reads = refl },
+      c.generate.ensures (g.S.Source.left c.args.source.now) (g.S.Source.faults c.args.source.now),
+    )
 
 pub returns-in-Some-Generate-clause-words : goal.returns-in-Some-Generate-clause-words
 returns-in-Some-Generate-clause-words g c =
     let is : command_of (map string_bytes c.args.words.now) ≡ Some (Generate c.in-Some-Generate.seed c.in-Some-Generate.calls) =
-        search rules in
+    search rules in
     rw is (
       λ bad. absurd (subst (λ (s : Status). GeneratePromises c.in-Some-Generate.seed c.in-Some-Generate.calls
           (ends None 0 (g.K.Sink.taken c.args.sink.now) (g.K.Sink.faults c.args.sink.now))
-              (ends None 0 (g.K.Sink.taken c.generate.new.sink) (g.K.Sink.faults c.generate.new.sink)) s) bad
-              (c.generate.ensures None 0)),
+          (ends None 0 (g.K.Sink.taken c.generate.new.sink) (g.K.Sink.faults c.generate.new.sink)) s) bad
+          (c.generate.ensures None 0)),
       λ none. absurd (cc none),
     )

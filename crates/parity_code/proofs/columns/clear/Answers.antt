@@ -12,4 +12,4 @@ returns c =
     let long : length new ≡ length old = c.zero.ensures.long ∙ ap length c.as_mut_slice.ensures.value in
     rw (refill_same old new long, same) (stored_row c.args.rows.now old new c.args.row 0 (length old) (λ (_ : ℕ). 0) same long
     (λ k lt. c.zero.ensures.zeros (0 + k) (omega arith)) (λ k lt. absurd (omega arith))
-        (λ k le. get_or_past new k 0 (omega arith) ∙ sym (get_or_past old k 0 (omega arith))))
+    (λ k le. get_or_past new k 0 (omega arith) ∙ sym (get_or_past old k 0 (omega arith))))

@@ -9,4 +9,4 @@ returns c =
     let stored = rw c.as_mut_slice.ensures.value at c.store.ensures in
     rw (refill_same c.get_mut.result.now c.store.new.s stored.long)
     (stored_row c.args.rows.now c.get_mut.result.now c.store.new.s c.args.row c.args.at 64
-        (λ (k : ℕ). get_or c.args.block k 0) same stored.long stored.inside stored.below stored.above)
+    (λ (k : ℕ). get_or c.args.block k 0) same stored.long stored.inside stored.below stored.above)

@@ -11,7 +11,7 @@ returns c =
     let same = get_or_from_slice_get c.args.rows.now c.args.row old [] c.get_mut.ensures.value in
     let room : c.args.k < length old = rw same at c.requires.room in
     stored_row c.args.rows.now old (set old c.args.k c.args.byte) c.args.row c.args.k 1 (λ (_ : ℕ). c.args.byte) same
-        (length-set old c.args.k c.args.byte)
+    (length-set old c.args.k c.args.byte)
     (λ k lt. get_or-set_at old c.args.k (c.args.k + k) c.args.byte 0 (omega arith) room)
     (λ k lt. get_or-set_other old c.args.k k c.args.byte 0 (λ e. omega arith))
     (λ k le. get_or-set_other old c.args.k k c.args.byte 0 (λ e. omega arith))

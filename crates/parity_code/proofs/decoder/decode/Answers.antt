@@ -6,9 +6,14 @@ use Rattle.parity_code.proofs.decoder.decode.Goals as goal
 
 pub overflow_cast-result : goal.overflow_cast-result
 overflow_cast-result c =
-    record { fits =
-    omega (arith, rising_few (length c.args.rows.now) c.args.lost.now c.requires.lost.rising c.requires.lost.below,
-    count_most c.args.code) }
+    record {
+      fits =
+          omega (
+            arith,
+            rising_few (length c.args.rows.now) c.args.lost.now c.requires.lost.rising c.requires.lost.below,
+            count_most c.args.code,
+          );
+    }
 
 pub returns-in-empty-clause-exact : goal.returns-in-empty-clause-exact
 returns-in-empty-clause-exact c =

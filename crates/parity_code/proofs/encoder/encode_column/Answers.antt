@@ -8,39 +8,39 @@ use Rattle.parity_code.proofs.encoder.encode_column.Goals as goal
 pub store_byte-requires-in-PandQ-2-clause-room : goal.store_byte-requires-in-PandQ-2-clause-room
 store_byte-requires-in-PandQ-2-clause-room c =
     let long : c.args.units + 2 ≡ length c.args.rows.now =
-        ap (λ code. c.args.units + count_of code) (sym c.in-PandQ.is) ∙ c.requires.units in
+    ap (λ code. c.args.units + count_of code) (sym c.in-PandQ.is) ∙ c.requires.units in
     rw (same_row c.args.rows.now c.store_byte-in-PandQ.new.rows (c.args.units + 1) [] c.store_byte-in-PandQ.ensures.shape)
-        (c.requires.room (c.args.units + 1) [] (omega arith))
+    (c.requires.room (c.args.units + 1) [] (omega arith))
 
 pub returns-in-Xor : goal.returns-in-Xor
 returns-in-Xor c =
     let long : c.args.units + 1 ≡ length c.args.rows.now =
-        ap (λ code. c.args.units + count_of code) (sym c.in-Xor.is) ∙ c.requires.units in
+    ap (λ code. c.args.units + count_of code) (sym c.in-Xor.is) ∙ c.requires.units in
     let there : (k : ℕ) → k < 1 → c.args.k ≡ c.args.k + k = λ k lt. omega arith in
     let front : c.split_at.result.0.now ≡ take c.args.units c.args.rows.now =
-        c.split_at.ensures.front ∙ ap (take c.args.units) c.as_slice.ensures in
+    c.split_at.ensures.front ∙ ap (take c.args.units) c.as_slice.ensures in
     rw c.in-Xor.is
-        (encoded_p c.args.units c.args.k 1 (λ (_ : ℕ). c.column_p_and_q-p.result.0) c.args.rows.now c.store_byte.new.rows
-        (sym long) c.store_byte.ensures
+    (encoded_p c.args.units c.args.k 1 (λ (_ : ℕ). c.column_p_and_q-p.result.0) c.args.rows.now c.store_byte.new.rows
+    (sym long) c.store_byte.ensures
     (λ k lt. c.column_p_and_q-p.ensures.p ∙ ap (λ (i : ℕ). p_of (column c.split_at.result.0.now i)) (there k lt)
-        ∙ ap (λ rows. p_of (column rows (c.args.k + k))) front
-        ∙ ap p_of (take_column c.args.units c.args.rows.now (c.args.k + k))))
+    ∙ ap (λ rows. p_of (column rows (c.args.k + k))) front
+    ∙ ap p_of (take_column c.args.units c.args.rows.now (c.args.k + k))))
 
 pub returns-in-PandQ : goal.returns-in-PandQ
 returns-in-PandQ c =
     let long : c.args.units + 2 ≡ length c.args.rows.now =
-        ap (λ code. c.args.units + count_of code) (sym c.in-PandQ.is) ∙ c.requires.units in
+    ap (λ code. c.args.units + count_of code) (sym c.in-PandQ.is) ∙ c.requires.units in
     let there : (k : ℕ) → k < 1 → c.args.k ≡ c.args.k + k = λ k lt. omega arith in
     let front : c.split_at.result.0.now ≡ take c.args.units c.args.rows.now =
-        c.split_at.ensures.front ∙ ap (take c.args.units) c.as_slice.ensures in
+    c.split_at.ensures.front ∙ ap (take c.args.units) c.as_slice.ensures in
     rw c.in-PandQ.is
-        (encoded_both c.args.units c.args.k 1 (λ (_ : ℕ). c.column_p_and_q-p.result.0)
-        (λ (_ : ℕ). c.column_p_and_q-p.result.1) c.args.rows.now c.store_byte-in-PandQ.new.rows c.store_byte-in-PandQ-2.new.rows
-            (sym long)
+    (encoded_both c.args.units c.args.k 1 (λ (_ : ℕ). c.column_p_and_q-p.result.0)
+    (λ (_ : ℕ). c.column_p_and_q-p.result.1) c.args.rows.now c.store_byte-in-PandQ.new.rows c.store_byte-in-PandQ-2.new.rows
+    (sym long)
     c.store_byte-in-PandQ.ensures c.store_byte-in-PandQ-2.ensures
     (λ k lt. c.column_p_and_q-p.ensures.p ∙ ap (λ (i : ℕ). p_of (column c.split_at.result.0.now i)) (there k lt)
-        ∙ ap (λ rows. p_of (column rows (c.args.k + k))) front
-        ∙ ap p_of (take_column c.args.units c.args.rows.now (c.args.k + k)))
+    ∙ ap (λ rows. p_of (column rows (c.args.k + k))) front
+    ∙ ap p_of (take_column c.args.units c.args.rows.now (c.args.k + k)))
     (λ k lt. c.column_p_and_q-p.ensures.q ∙ ap (λ (i : ℕ). q_of (column c.split_at.result.0.now i)) (there k lt)
-        ∙ ap (λ rows. q_of (column rows (c.args.k + k))) front
-        ∙ ap q_of (take_column c.args.units c.args.rows.now (c.args.k + k))))
+    ∙ ap (λ rows. q_of (column rows (c.args.k + k))) front
+    ∙ ap q_of (take_column c.args.units c.args.rows.now (c.args.k + k))))

@@ -6,7 +6,7 @@ use Rattle.parity_code.proofs.erasures.restore.Goals as goal
 pub restore_block-requires-clause-room : goal.restore_block-requires-clause-room
 restore_block-requires-clause-room c =
     let width : width_of c.args.rows.now ≡ c.len-width.result =
-        width_at c.args.rows.now _ c.get.ensures ∙ sym c.len-width.ensures in
+    width_at c.args.rows.now _ c.get.ensures ∙ sym c.len-width.ensures in
     room_kept c.args.rows.now c.loop-b.rows (64 * c.loop-b.b + 64) c.loop-b.invariant.shape c.requires.rows.even (omega arith)
 
 pub loop-b-preserved : goal.loop-b-preserved
@@ -17,10 +17,10 @@ loop-b-preserved c =
 pub restore_column-requires-clause-room : goal.restore_column-requires-clause-room
 restore_column-requires-clause-room c =
     let width : width_of c.args.rows.now ≡ c.len-width.result =
-        width_at c.args.rows.now _ c.get.ensures ∙ sym c.len-width.ensures in
+    width_at c.args.rows.now _ c.get.ensures ∙ sym c.len-width.ensures in
     room_kept c.args.rows.now c.loop-k.rows (suc c.loop-k.k) c.loop-k.invariant.shape c.requires.rows.even (omega arith)
 
 pub loop-k-preserved : goal.loop-k-preserved
 loop-k-preserved c =
     become_more c.loop-k.k 1 _ _ c.args.rows.now c.loop-k.rows c.restore_column.new.rows
-        (omega arith) c.loop-k.invariant c.restore_column.ensures
+    (omega arith) c.loop-k.invariant c.restore_column.ensures

@@ -10,7 +10,7 @@ restore-requires-clause-rows c =
 pub returns : goal.returns
 returns c =
     restored_by_two c.args.units c.args.x c.args.y c.repairs_of_two.result.0 c.repairs_of_two.result.1 c.args.rows.now
-        c.clear.new.rows c.clear-2.new.rows c.restore.new.rows c.requires.rows
-            (rw c.as_slice.ensures at c.rows_are_bytes.ensures) c.requires.rising c.requires.last c.requires.both
+    c.clear.new.rows c.clear-2.new.rows c.restore.new.rows c.requires.rows
+    (rw c.as_slice.ensures at c.rows_are_bytes.ensures) c.requires.rising c.requires.last c.requires.both
     c.repairs_of_two.ensures.repair (ap (λ (rs : Repair × Repair). rs.0) c.repairs_of_two.ensures.value)
-        (ap (λ (rs : Repair × Repair). rs.1) c.repairs_of_two.ensures.value) c.clear.ensures c.clear-2.ensures c.restore.ensures
+    (ap (λ (rs : Repair × Repair). rs.1) c.repairs_of_two.ensures.value) c.clear.ensures c.clear-2.ensures c.restore.ensures

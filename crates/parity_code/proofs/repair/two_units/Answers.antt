@@ -9,12 +9,12 @@ inverse-by_q-requires c = rw (c.power.ensures, c.power-2.ensures) (powers_apart 
 pub returns-clause-value : goal.returns-clause-value
 returns-clause-value c =
     units_named c.args.units c.args.x c.args.y c.inverse-by_q.result c.mul-by_p.result c.requires.last
-        (rw (c.power.ensures, c.power-2.ensures) at c.inverse-by_q.ensures.value)
+    (rw (c.power.ensures, c.power-2.ensures) at c.inverse-by_q.ensures.value)
     (c.mul-by_p.ensures ∙ ap (product c.inverse-by_q.result) c.power-3.ensures)
 
 pub returns-clause-repair : goal.returns-clause-repair
 returns-clause-repair c =
     let inverts = rw (c.power.ensures, c.power-2.ensures) at c.inverse-by_q.ensures.undoes in
     repairs_of_units c.args.units c.args.x c.args.y c.inverse-by_q.result c.mul-by_p.result c.requires.rising c.requires.last
-        c.inverse-by_q.type_inv c.mul-by_p.type_inv inverts
-            (c.mul-by_p.ensures ∙ ap (product c.inverse-by_q.result) c.power-3.ensures)
+    c.inverse-by_q.type_inv c.mul-by_p.type_inv inverts
+    (c.mul-by_p.ensures ∙ ap (product c.inverse-by_q.result) c.power-3.ensures)

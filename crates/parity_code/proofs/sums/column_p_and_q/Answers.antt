@@ -12,10 +12,10 @@ loop-i-preserved c =
     let long : c.loop-i.i ≤ length col = omega (arith, length-map c.args.units.now (λ (row : List ℕ). get_or row c.args.k 0)) in
     let unit : c.byte_at-unit.result ≡ get_or col (c.loop-i.i - 1) 0 =
     c.byte_at-unit.ensures ∙ ap (λ (row : List ℕ). get_or row c.args.k 0) c.index-units-i.is
-        ∙ sym (cell c.args.units.now (c.loop-i.i - 1) c.args.k c.index-units-i.result (omega arith)) in
+    ∙ sym (cell c.args.units.now (c.loop-i.i - 1) c.args.k c.index-units-i.result (omega arith)) in
     let bytes : AreBytes (drop (c.loop-i.i - 1) col) =
-        bytes_next col c.loop-i.i c.byte_at-unit.result
-            (omega arith) long unit c.byte_at-unit.type_inv c.loop-i.invariant.bytes in
+    bytes_next col c.loop-i.i c.byte_at-unit.result
+    (omega arith) long unit c.byte_at-unit.type_inv c.loop-i.invariant.bytes in
     record {
       p = p_next col c.loop-i.i c.byte_at-unit.result c.loop-i.p (bit_xor c.byte_at-unit.result c.loop-i.p)
           (omega arith) long unit c.loop-i.invariant.p refl;

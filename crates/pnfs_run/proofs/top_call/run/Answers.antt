@@ -17,4 +17,4 @@ returns-in-Some-Client-clause-promise g c =
     (g.C.Clock.times c.args.clock.now))
     c.run_client.result)
     (sym (sym c.party_named.ensures ∙ c.in-Some-Client.is ∙ ap Some c.in-Some-Client.field-0-is))
-        (c.run_client.ensures.promise (g.C.Clock.times c.args.clock.now))
+    (c.run_client.ensures.promise (g.C.Clock.times c.args.clock.now))

@@ -12,7 +12,7 @@ pub returns-clause-text : goal.returns-clause-text
 returns-clause-text c =
     let e = c.args.event.now in
     IfOk-weaker _ (λ (text : List ℕ). text ≡ codes "=" ++ behind 32 (map word_of (event_parts e)))
-        (λ (text : List ℕ). text ≡ line_text (line.Event e))
+    (λ (text : List ℕ). text ≡ line_text (line.Event e))
     (λ text h. text_is (line.Event e) text h) c.event_bytes.ensures
 
 pub returns-clause-spells : goal.returns-clause-spells

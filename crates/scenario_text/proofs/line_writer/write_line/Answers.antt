@@ -10,7 +10,7 @@ pub returns-clause-text : goal.returns-clause-text
 returns-clause-text c =
     let l = c.args.line.now in
     IfOk-weaker _ (λ (text : List ℕ). text ≡ head_word l ++ behind 32 (map word_of (tail_parts l)))
-        (λ (text : List ℕ). text ≡ line_text l)
+    (λ (text : List ℕ). text ≡ line_text l)
     (λ text h. text_is l text h) c.line_bytes.ensures
 
 pub returns-clause-spells : goal.returns-clause-spells

@@ -13,4 +13,4 @@ loop-rest-preserved c =
 pub returns : goal.returns
 returns c =
     all_out c.loop-rest.out _ c.loop-rest.rest.now
-        (eqb-true _ _ (sym c.is_empty.ensures ∙ c.loop-rest-test.false)) c.loop-rest.invariant
+    (eqb-true _ _ (sym c.is_empty.ensures ∙ c.loop-rest-test.false)) c.loop-rest.invariant

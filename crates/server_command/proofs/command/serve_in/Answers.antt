@@ -8,44 +8,44 @@ use Rattle.server_command.proofs.command.serve_in.Goals as goal
 pub returns-clause-stops : goal.returns-clause-stops
 returns-clause-stops g c =
     let before =
-        ends_of (g.L.Links.told c.args.links.now) (g.L.Links.faults c.args.links.now) (g.C.Clock.times c.args.clock.now) in
+    ends_of (g.L.Links.told c.args.links.now) (g.L.Links.faults c.args.links.now) (g.C.Clock.times c.args.clock.now) in
     let settled =
-        ends_of (g.L.Links.told c.settle_at.new.links) (g.L.Links.faults c.settle_at.new.links)
-            (g.C.Clock.times c.args.clock.now) in
+    ends_of (g.L.Links.told c.settle_at.new.links) (g.L.Links.faults c.settle_at.new.links)
+    (g.C.Clock.times c.args.clock.now) in
     let between =
-        ends_of (g.L.Links.told c.make_files.new.links) (g.L.Links.faults c.make_files.new.links)
-            (g.C.Clock.times c.make_files.new.clock) in
+    ends_of (g.L.Links.told c.make_files.new.links) (g.L.Links.faults c.make_files.new.links)
+    (g.C.Clock.times c.make_files.new.clock) in
     let same = ap
-        (λ (t : Option Traffic). ends_of t (g.L.Links.faults c.settle_at.new.links) (g.C.Clock.times c.args.clock.now))
-            c.in-Ok.ensures.told
+    (λ (t : Option Traffic). ends_of t (g.L.Links.faults c.settle_at.new.links) (g.C.Clock.times c.args.clock.now))
+    c.in-Ok.ensures.told
     ∙ ap (λ (f : Faults). ends_of (g.L.Links.told c.args.links.now) f (g.C.Clock.times c.args.clock.now)) c.in-Ok.ensures.same in
     serving_in_memory c.args.connections c.args.cluster.now before
     (ends_of (g.L.Links.told c.serve_told.new.links) (g.L.Links.faults c.serve_told.new.links)
-        (g.C.Clock.times c.serve_told.new.clock))
+    (g.C.Clock.times c.serve_told.new.clock))
     (g.K.Sink.taken c.args.sink.now) (g.K.Sink.taken c.serve_told.new.sink) (g.K.Sink.faults c.args.sink.now)
-        (g.K.Sink.faults c.serve_told.new.sink)
+    (g.K.Sink.faults c.serve_told.new.sink)
     c.in-Err-serve_told.stop c.without_disk-in-Err-serve_told.result c.make_files.new.server c.serve_told.new.server between
     c.without_disk-in-Err-serve_told.ensures
     (has_made c.args.cluster.now before settled between c.in-Ok-server_of.core c.make_files.new.server c.as_slice-2.result.now
-        same c.as_slice-2.ensures
+    same c.as_slice-2.ensures
     c.in-Ok-server_of.ensures.knows c.in-Ok-make_files.ensures.makes)
     c.in-Err-serve_told.ensures.stops
 
 pub returns-in-Err-make_files-clause-stops : goal.returns-in-Err-make_files-clause-stops
 returns-in-Err-make_files-clause-stops g c =
     let before =
-        ends_of (g.L.Links.told c.args.links.now) (g.L.Links.faults c.args.links.now) (g.C.Clock.times c.args.clock.now) in
+    ends_of (g.L.Links.told c.args.links.now) (g.L.Links.faults c.args.links.now) (g.C.Clock.times c.args.clock.now) in
     let settled =
-        ends_of (g.L.Links.told c.settle_at.new.links) (g.L.Links.faults c.settle_at.new.links)
-            (g.C.Clock.times c.args.clock.now) in
+    ends_of (g.L.Links.told c.settle_at.new.links) (g.L.Links.faults c.settle_at.new.links)
+    (g.C.Clock.times c.args.clock.now) in
     let same = ap
-        (λ (t : Option Traffic). ends_of t (g.L.Links.faults c.settle_at.new.links) (g.C.Clock.times c.args.clock.now))
-            c.in-Ok.ensures.told
+    (λ (t : Option Traffic). ends_of t (g.L.Links.faults c.settle_at.new.links) (g.C.Clock.times c.args.clock.now))
+    c.in-Ok.ensures.told
     ∙ ap (λ (f : Faults). ends_of (g.L.Links.told c.args.links.now) f (g.C.Clock.times c.args.clock.now)) c.in-Ok.ensures.same in
     making_in_memory c.args.connections c.args.cluster.now before
     (ends_of (g.L.Links.told c.make_files.new.links) (g.L.Links.faults c.make_files.new.links)
-        (g.C.Clock.times c.make_files.new.clock))
+    (g.C.Clock.times c.make_files.new.clock))
     (g.K.Sink.taken c.args.sink.now) (g.K.Sink.taken c.args.sink.now) (g.K.Sink.faults c.args.sink.now)
-        (g.K.Sink.faults c.args.sink.now)
+    (g.K.Sink.faults c.args.sink.now)
     c.in-Err-make_files.stop c.without_disk.result c.in-Ok-server_of.core c.make_files.new.server settled c.as_slice-2.result.now
     c.without_disk.ensures same c.as_slice-2.ensures c.in-Ok-server_of.ensures.knows refl c.in-Err-make_files.ensures.stops

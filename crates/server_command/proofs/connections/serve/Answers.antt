@@ -17,12 +17,12 @@ loop-served-init g c = (
 pub loop-served-preserved : goal.loop-served-preserved
 loop-served-preserved g c =
     let accepted =
-        ends_of (g.L.Links.told c.accept.new.self) (g.L.Links.faults c.accept.new.self) (g.C.Clock.times c.loop-served.clock) in (
+    ends_of (g.L.Links.told c.accept.new.self) (g.L.Links.faults c.accept.new.self) (g.C.Clock.times c.loop-served.clock) in (
       served_one c.loop-served.served (g.H.MetadataServer.server c.args.server.now)
           (g.H.MetadataServer.server c.loop-served.server)
           (g.H.MetadataServer.server c.serve_connection.new.server) _ _ accepted _ c.loop-served.invariant.0
           (record { told = c.in_ok-accept.ensures.told; faults = search rules; times = refl })
-              c.in_ok-serve_connection.ensures.serves,
+          c.in_ok-serve_connection.ensures.serves,
       search rules,
       went_then g.H.MetadataServer c.args.server.now c.loop-served.server c.serve_connection.new.server c.loop-served.invariant.2
           c.in_ok-serve_connection.ensures.goes,
@@ -32,7 +32,7 @@ pub returns-in_err-accept-clause-goes : goal.returns-in_err-accept-clause-goes
 returns-in_err-accept-clause-goes g c =
     let same : c.from_residual.result ≡ Err LinkFault = search rules in
     gave_up g.H.MetadataServer DiskFault c.args.server.now c.loop-served.server _ LinkFault same
-        (λ e. cc e) c.loop-served.invariant.2
+    (λ e. cc e) c.loop-served.invariant.2
 
 pub returns-in_err-serve_connection-clause-goes : goal.returns-in_err-serve_connection-clause-goes
 returns-in_err-serve_connection-clause-goes g c =
@@ -41,5 +41,5 @@ returns-in_err-serve_connection-clause-goes g c =
     was_cut g.H.MetadataServer DiskFault c.args.server.now c.serve_connection.new.server _ (serve_err_of e) same
     (broke_as g.H.MetadataServer _ _ _ _ (serve_fault e)
     (broke_then g.H.MetadataServer _ c.args.server.now c.loop-served.server c.serve_connection.new.server
-        c.loop-served.invariant.2
+    c.loop-served.invariant.2
     c.in_err-serve_connection.ensures.goes))

@@ -14,9 +14,9 @@ returns-in_err-still-clause-goes g c =
     let same : c.from_residual-in_err-still.result ≡ Err c.in_err-still.field-0.0 = search rules in
     was_cut g.H.MetadataServer DiskFault c.args.server.now c.work_all.new.server _ _ same
     (broke_then g.H.MetadataServer _ c.args.server.now c.handle.new.server c.work_all.new.server c.in_ok-sends.ensures.goes
-        c.in_err-still.ensures.goes)
+    c.in_err-still.ensures.goes)
 
 pub returns-clause-goes : goal.returns-clause-goes
 returns-clause-goes g c =
     went_then g.H.MetadataServer c.args.server.now c.handle.new.server c.work_all.new.server c.in_ok-sends.ensures.goes
-        c.in_ok-still.ensures.goes
+    c.in_ok-still.ensures.goes

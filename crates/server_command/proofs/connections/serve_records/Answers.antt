@@ -8,9 +8,11 @@ use Rattle.server_command.specs.declared.metadata_server.StepErr.TheVariants.{Di
 use Rattle.server_command.proofs.connections.serve_records.Goals as goal
 
 pub loop-i-init : goal.loop-i-init
-loop-i-init g c =
-    (refl, went_none g.H.MetadataServer c.args.server.now
-    (g.met.H.MetadataServer.kept_stays c.args.server.now) c.requires.goes_on)
+loop-i-init g c = (
+  refl,
+  went_none g.H.MetadataServer c.args.server.now
+      (g.met.H.MetadataServer.kept_stays c.args.server.now) c.requires.goes_on,
+)
 
 pub loop-i-preserved : goal.loop-i-preserved
 loop-i-preserved g c = (
@@ -28,4 +30,4 @@ returns-in_err-stands-clause-goes g c =
     let same : c.from_residual.result ≡ Err c.in_err-stands.field-0.0 = search rules in
     was_cut g.H.MetadataServer DiskFault c.args.server.now c.serve_record.new.server _ _ same
     (broke_then g.H.MetadataServer _ c.args.server.now c.loop-i.server c.serve_record.new.server c.loop-i.invariant.1
-        c.in_err-stands.ensures.goes)
+    c.in_err-stands.ensures.goes)

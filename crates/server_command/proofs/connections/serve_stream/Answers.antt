@@ -15,14 +15,14 @@ returns-in-None-clause-serves g c =
     let taken = rw c.in-None.is at c.in_ok-more.ensures.taken in
     let over = rw c.in-None.is at c.in_ok-more.ensures.over in
     served_over _ _ _ _ c.loop-inbox.inbox c.more.new.self taken.0 c.loop-inbox.invariant.0 taken.1 taken.2 over.0
-        c.in_ok-more.ensures.later refl over.1 refl
+    c.in_ok-more.ensures.later refl over.1 refl
 
 pub loop-inbox-preserved : goal.loop-inbox-preserved
 loop-inbox-preserved g c =
     let taken = rw c.in-Some.is at c.in_ok-more.ensures.taken in (
       served_more _ _ _ _ c.loop-inbox.inbox c.more.new.self taken.0 c.in-Some.records c.loop-inbox.invariant.0
           (record { told = taken.1; faults = c.in_ok-more.ensures.later; times = refl }) taken.2 taken.3
-              c.in_ok-stands-in-Some.ensures.serves,
+          c.in_ok-stands-in-Some.ensures.serves,
       went_then g.H.MetadataServer c.args.server.now c.loop-inbox.server c.serve_records.new.server c.loop-inbox.invariant.1
           c.in_ok-stands-in-Some.ensures.goes,
     )

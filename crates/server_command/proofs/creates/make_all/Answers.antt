@@ -8,9 +8,11 @@ use Rattle.server_command.proofs.MakingLaws.{all_made, all_stops, makes_end}
 use Rattle.server_command.proofs.creates.make_all.Goals as goal
 
 pub rounds-init : goal.rounds-init
-rounds-init g c =
-    ((0, refl), went_none g.H.MetadataServer c.args.server.now
-    (g.met.H.MetadataServer.kept_stays c.args.server.now) c.requires.goes_on)
+rounds-init g c = (
+  (0, refl),
+  went_none g.H.MetadataServer c.args.server.now
+      (g.met.H.MetadataServer.kept_stays c.args.server.now) c.requires.goes_on,
+)
 
 pub rounds-preserved : goal.rounds-preserved
 rounds-preserved g c = (
@@ -30,7 +32,7 @@ rounds-smaller g c =
     (ends_of (g.L.Links.told c.rounds.links) (g.L.Links.faults c.rounds.links) (g.C.Clock.times c.rounds.clock)))
     (serving (g.H.MetadataServer.server c.make_round.new.server) c.make_round.new.waiting true
     (ends_of (g.L.Links.told c.make_round.new.links) (g.L.Links.faults c.make_round.new.links)
-        (g.C.Clock.times c.make_round.new.clock)))
+    (g.C.Clock.times c.make_round.new.clock)))
     (some_wait c.is_empty.result c.rounds.waiting empty c.is_empty.ensures)
     (round_from Makes _ _ _ _ (search rules) (search rules) c.in-Ok.ensures.makes)
 
@@ -47,4 +49,4 @@ returns-in-Err-clause-stops g c =
 pub returns-in-Err-clause-goes : goal.returns-in-Err-clause-goes
 returns-in-Err-clause-goes g c =
     broke_then g.H.MetadataServer _ c.args.server.now c.rounds.server c.make_round.new.server c.rounds.invariant.1
-        c.in-Err.ensures.goes
+    c.in-Err.ensures.goes

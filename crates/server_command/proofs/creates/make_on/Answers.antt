@@ -2,7 +2,8 @@ use Rattle.std.proofs.Common.{rules, ◌≡◌, ◌∙◌, ℕ, true, Option, So
 use Rattle.std.specs.Prelude.{option_map}
 use Rattle.osd_bytes.specs.Asking.{ends_of}
 use Rattle.server_command.specs.Messages.{serving}
-use Rattle.server_command.specs.Faults.{held_line, held_object, silent_line}
+use Rattle.server_command.specs.Faults.{held_line, silent_line}
+use Rattle.reply_matching.specs.Held.{held_object}
 use Rattle.server_command.proofs.KeptLaws.{broke_as, broke_behind, gave_up, was_cut, went_none}
 use Rattle.server_command.proofs.MakingLaws.{drive_loses, drive_makes}
 use Rattle.server_command.specs.declared.server_stop.ServerStop.TheVariants.{DiskFault}
@@ -18,16 +19,16 @@ returns-in_default-clause-stops g c =
     (serving (g.H.MetadataServer.server c.args.server.now) c.args.waiting.now true
     (ends_of (g.L.Links.told c.args.links.now) (g.L.Links.faults c.args.links.now) (g.C.Clock.times c.args.clock.now)))
     (g.L.Links.told c.asked.new.links) (g.L.Links.told c.note.new.self) (g.L.Links.faults c.asked.new.links)
-        (g.L.Links.faults c.note.new.self)
+    (g.L.Links.faults c.note.new.self)
     (rw none at c.in_ok-reply.ensures) refl (rw line at c.in_ok-note.ensures.ok) (search rules)
 
 pub returns-in-Some-2-clause-stops : goal.returns-in-Some-2-clause-stops
 returns-in-Some-2-clause-stops g c =
     let same : c.as_slice.result.now ≡ c.in-Some.reply = search rules in
     let held : held_object c.args.message.now c.in-Some.reply ≡ Some c.in-Some-2.object =
-        rw same at (sym c.in_ok-object.ensures ∙ c.in-Some-2.is) in
+    rw same at (sym c.in_ok-object.ensures ∙ c.in-Some-2.is) in
     let line : c.as_bytes-in-Some-2.result.now ≡ held_line c.args.drive c.in-Some-2.object =
-        c.as_bytes-in-Some-2.ensures.value ∙ c.in_ok-line-2.ensures in
+    c.as_bytes-in-Some-2.ensures.value ∙ c.in_ok-line-2.ensures in
     drive_loses c.args.drive c.args.message.now (held_line c.args.drive c.in-Some-2.object) (Some c.in-Some.reply)
     (serving (g.H.MetadataServer.server c.args.server.now) c.args.waiting.now true
     (ends_of (g.L.Links.told c.args.links.now) (g.L.Links.faults c.args.links.now) (g.C.Clock.times c.args.clock.now)))
@@ -46,22 +47,22 @@ returns-clause-makes g c =
     (ends_of (g.L.Links.told c.args.links.now) (g.L.Links.faults c.args.links.now) (g.C.Clock.times c.args.clock.now)))
     (serving (g.H.MetadataServer.server c.hear_drive.new.server) c.hear_drive.new.waiting true
     (ends_of (g.L.Links.told c.hear_drive.new.links) (g.L.Links.faults c.hear_drive.new.links)
-        (g.C.Clock.times c.hear_drive.new.clock)))
+    (g.C.Clock.times c.hear_drive.new.clock)))
     (ends_of (g.L.Links.told c.asked.new.links) (g.L.Links.faults c.asked.new.links) (g.C.Clock.times c.args.clock.now))
     (rw c.in-Some.is at c.in_ok-reply.ensures) refl (rw heard at (c.in_ok-hear_drive.ensures.hears true))
-        (rw same at (sym c.in_ok-object.ensures ∙ none))
+    (rw same at (sym c.in_ok-object.ensures ∙ none))
 
 -- nothing was handed to the server
 pub returns-in_default-clause-goes : goal.returns-in_default-clause-goes
 returns-in_default-clause-goes g c =
     broke_behind g.H.MetadataServer _ _ _
-        (went_none g.H.MetadataServer c.args.server.now (g.met.H.MetadataServer.kept_stays c.args.server.now) c.requires.goes_on)
+    (went_none g.H.MetadataServer c.args.server.now (g.met.H.MetadataServer.kept_stays c.args.server.now) c.requires.goes_on)
     (λ e. search (rules, e))
 
 pub returns-in-Some-2-clause-goes : goal.returns-in-Some-2-clause-goes
 returns-in-Some-2-clause-goes g c =
     broke_behind g.H.MetadataServer _ _ _
-        (went_none g.H.MetadataServer c.args.server.now (g.met.H.MetadataServer.kept_stays c.args.server.now) c.requires.goes_on)
+    (went_none g.H.MetadataServer c.args.server.now (g.met.H.MetadataServer.kept_stays c.args.server.now) c.requires.goes_on)
     (λ e. search (rules, e))
 
 pub returns-in_err-reply-clause-goes : goal.returns-in_err-reply-clause-goes

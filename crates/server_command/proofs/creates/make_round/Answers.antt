@@ -8,9 +8,11 @@ use Rattle.server_command.proofs.MakingLaws.{round_stops}
 use Rattle.server_command.proofs.creates.make_round.Goals as goal
 
 pub loop-i-init : goal.loop-i-init
-loop-i-init g c =
-    (refl, went_none g.H.MetadataServer c.args.server.now
-    (g.met.H.MetadataServer.kept_stays c.args.server.now) c.requires.goes_on)
+loop-i-init g c = (
+  refl,
+  went_none g.H.MetadataServer c.args.server.now
+      (g.met.H.MetadataServer.kept_stays c.args.server.now) c.requires.goes_on,
+)
 
 pub loop-i-preserved : goal.loop-i-preserved
 loop-i-preserved g c = (
@@ -25,9 +27,9 @@ returns-clause-makes g c = rw (take_all c.loop-i.i c.args.round.now (search rule
 pub returns-in-Err-clause-stops : goal.returns-in-Err-clause-stops
 returns-in-Err-clause-stops g c =
     round_stops c.args.round.now c.loop-i.i c.get.result.now _ _ _ c.in-Err.stop
-        (search rules) c.loop-i.invariant.0 c.in-Err.ensures.stops
+    (search rules) c.loop-i.invariant.0 c.in-Err.ensures.stops
 
 pub returns-in-Err-clause-goes : goal.returns-in-Err-clause-goes
 returns-in-Err-clause-goes g c =
     broke_then g.H.MetadataServer _ c.args.server.now c.loop-i.server c.make_one.new.server c.loop-i.invariant.1
-        c.in-Err.ensures.goes
+    c.in-Err.ensures.goes

@@ -8,5 +8,5 @@ pub add_drive-requires-clause-new : goal.add_drive-requires-clause-new
 add_drive-requires-clause-new c =
     let none : has_number c.args.core.now.drives c.args.drive.now.number ≡ false =
     ap (λ (ds : List Drive). has_number ds c.args.drive.now.number) (sym c.drives.ensures)
-        ∙ (sym c.has_number.ensures ∙ c.if-has_number.false) in
+    ∙ (sym c.has_number.ensures ∙ c.if-has_number.false) in
     is_new c.args.core.now.drives c.args.drive.now.number none

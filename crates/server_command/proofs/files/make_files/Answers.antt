@@ -27,11 +27,13 @@ loop-i-preserved g c =
     )
 
 pub loop-i-init : goal.loop-i-init
-loop-i-init g c =
-    (refl, went_none g.H.MetadataServer c.args.server.now
-    (g.met.H.MetadataServer.kept_stays c.args.server.now) c.requires.goes_on)
+loop-i-init g c = (
+  refl,
+  went_none g.H.MetadataServer c.args.server.now
+      (g.met.H.MetadataServer.kept_stays c.args.server.now) c.requires.goes_on,
+)
 
 pub returns-in-Err-clause-goes : goal.returns-in-Err-clause-goes
 returns-in-Err-clause-goes g c =
     broke_then g.H.MetadataServer _ c.args.server.now c.loop-i.server c.make_file.new.server c.loop-i.invariant.1
-        c.in-Err.ensures.goes
+    c.in-Err.ensures.goes

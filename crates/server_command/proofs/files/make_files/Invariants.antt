@@ -11,5 +11,5 @@ invariant-loop-i g l =
     (serving (g.H.MetadataServer.server l.initial.server) [] true
     (ends_of (g.L.Links.told l.initial.links) (g.L.Links.faults l.initial.links) (g.C.Clock.times l.initial.clock)))
     (serving (g.H.MetadataServer.server l.server) [] true
-        (ends_of (g.L.Links.told l.links) (g.L.Links.faults l.links) (g.C.Clock.times l.clock)))
+    (ends_of (g.L.Links.told l.links) (g.L.Links.faults l.links) (g.C.Clock.times l.clock)))
     × Went g.H.MetadataServer l.initial.server l.server

@@ -7,16 +7,21 @@ use Rattle.server_command.specs.declared.metadata_server.StepErr.TheVariants.{Di
 use Rattle.server_command.proofs.messages.work_all.Goals as goal
 
 pub rounds-init : goal.rounds-init
-rounds-init g c =
-    ((0, refl), went_none g.H.MetadataServer c.args.server.now
-    (g.met.H.MetadataServer.kept_stays c.args.server.now) c.requires.goes_on)
+rounds-init g c = (
+  (0, refl),
+  went_none g.H.MetadataServer c.args.server.now
+      (g.met.H.MetadataServer.kept_stays c.args.server.now) c.requires.goes_on,
+)
 
 pub rounds-preserved : goal.rounds-preserved
 rounds-preserved g c = (
   (
     suc c.rounds.invariant.0.0,
-    (_, c.rounds.invariant.0.1,
-        round_from (Works c.args.sender) _ _ _ _ (search rules) (search rules) c.in_ok-stands.ensures.works),
+    (
+      _,
+      c.rounds.invariant.0.1,
+      round_from (Works c.args.sender) _ _ _ _ (search rules) (search rules) c.in_ok-stands.ensures.works,
+    ),
   ),
   went_then g.H.MetadataServer c.args.server.now c.rounds.server c.work_round.new.server c.rounds.invariant.1
       c.in_ok-stands.ensures.goes,
@@ -30,7 +35,7 @@ rounds-smaller g c =
     (ends_of (g.L.Links.told c.rounds.links) (g.L.Links.faults c.rounds.links) (g.C.Clock.times c.rounds.clock)))
     (serving (g.H.MetadataServer.server c.work_round.new.server) c.work_round.new.waiting c.in_ok-stands.stands
     (ends_of (g.L.Links.told c.work_round.new.links) (g.L.Links.faults c.work_round.new.links)
-        (g.C.Clock.times c.work_round.new.clock)))
+    (g.C.Clock.times c.work_round.new.clock)))
     (some_wait c.is_empty.result c.rounds.waiting empty c.is_empty.ensures)
     (round_from (Works c.args.sender) _ _ _ _ (search rules) (search rules) c.in_ok-stands.ensures.works)
 
@@ -39,4 +44,4 @@ returns-in_err-stands-clause-goes g c =
     let same : c.from_residual.result ≡ Err c.in_err-stands.field-0.0 = search rules in
     was_cut g.H.MetadataServer DiskFault c.args.server.now c.work_round.new.server _ _ same
     (broke_then g.H.MetadataServer _ c.args.server.now c.rounds.server c.work_round.new.server c.rounds.invariant.1
-        c.in_err-stands.ensures.goes)
+    c.in_err-stands.ensures.goes)

@@ -12,7 +12,7 @@ invariant-rounds g l =
     (serving (g.H.MetadataServer.server l.initial.server) l.initial.waiting l.initial.stands
     (ends_of (g.L.Links.told l.initial.links) (g.L.Links.faults l.initial.links) (g.C.Clock.times l.initial.clock)))
     (serving (g.H.MetadataServer.server l.server) l.waiting l.stands
-        (ends_of (g.L.Links.told l.links) (g.L.Links.faults l.links) (g.C.Clock.times l.clock))))
+    (ends_of (g.L.Links.told l.links) (g.L.Links.faults l.links) (g.C.Clock.times l.clock))))
     × Went g.H.MetadataServer l.initial.server l.server
 
 abbrev pub decreases-rounds : goal.decreases-rounds

@@ -25,7 +25,7 @@ pub returns-clause-stops : goal.returns-clause-stops
 returns-clause-stops g c =
     let upto = written_of c.in-Err-put_all.field-0 in
     let cut = subst
-        (λ (line : List ℕ). Appends (g.K.Sink.taken c.put_all.new.sink) (g.K.Sink.taken c.put_all-2.new.sink) (take upto line))
+    (λ (line : List ℕ). Appends (g.K.Sink.taken c.put_all.new.sink) (g.K.Sink.taken c.put_all-2.new.sink) (take upto line))
     (c.as_bytes.ensures.value ∙ c.in_ok-served.ensures) c.in-Err-put_all.ensures.err in (
       inr (
         c.in-Ok-serve.ensures.served,
@@ -40,12 +40,12 @@ returns-clause-stops g c =
 pub returns-in-Err-serve-clause-stops : goal.returns-in-Err-serve-clause-stops
 returns-in-Err-serve-clause-stops g c =
     rw c.stop_of_serving.ensures
-        (stopped_serving c.args.connections (g.H.MetadataServer.server c.args.server.now)
-        (g.H.MetadataServer.server c.serve.new.server)
+    (stopped_serving c.args.connections (g.H.MetadataServer.server c.args.server.now)
+    (g.H.MetadataServer.server c.serve.new.server)
     (ends_of (g.L.Links.told c.args.links.now) (g.L.Links.faults c.args.links.now) (g.C.Clock.times c.args.clock.now))
     (ends_of (g.L.Links.told c.serve.new.links) (g.L.Links.faults c.serve.new.links) (g.C.Clock.times c.serve.new.clock))
     (g.K.Sink.taken c.args.sink.now) (g.K.Sink.taken c.put_all.new.sink) (g.K.Sink.faults c.args.sink.now)
-        (g.K.Sink.faults c.put_all.new.sink)
+    (g.K.Sink.faults c.put_all.new.sink)
     c.in-Err-serve.e c.in-Ok.ensures.ok (λ is. c.in-Err-serve.ensures.refused (ap Err is)))
 
 pub returns-in_err-served-clause-goes : goal.returns-in_err-served-clause-goes
@@ -57,7 +57,7 @@ returns-in_err-served-clause-goes g c =
 pub returns-in-Err-clause-goes : goal.returns-in-Err-clause-goes
 returns-in-Err-clause-goes g c =
     broke_behind g.H.MetadataServer _ _ _
-        (went_none g.H.MetadataServer c.args.server.now (g.met.H.MetadataServer.kept_stays c.args.server.now) c.requires.goes_on)
+    (went_none g.H.MetadataServer c.args.server.now (g.met.H.MetadataServer.kept_stays c.args.server.now) c.requires.goes_on)
     (λ e. search (rules, e))
 
 pub returns-in-Err-serve-clause-goes : goal.returns-in-Err-serve-clause-goes

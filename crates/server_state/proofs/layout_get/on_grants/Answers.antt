@@ -9,7 +9,7 @@ returns-then-must_fence-clause-rule c =
     let q = c.args.asking.now in
     let test = rw c.as_slice.ensures at (sym c.must_fence.ensures ∙ c.if-must_fence.true) in
     serves_as (λ go. fence_first go q.next_grant q.format c.args.grant)
-        (λ go. on_grants go q.next_grant q.format q.time c.args.grant) _ c.args.file.now _ c.args.effects.now _
+    (λ go. on_grants go q.next_grant q.format q.time c.args.grant) _ c.args.file.now _ c.args.effects.now _
     (λ ds chosen. rw test refl) c.fence_first.ensures.rule
 
 pub returns-clause-rule : goal.returns-clause-rule
@@ -18,7 +18,7 @@ returns-clause-rule c =
     let q = c.args.asking.now in
     let test = rw c.as_slice.ensures at (sym c.must_fence.ensures ∙ c.if-must_fence.false) in
     serves_as (λ go. give_or_refuse go q.next_grant c.args.grant)
-        (λ go. on_grants go q.next_grant q.format q.time c.args.grant) _ c.args.file.now _ c.args.effects.now _
+    (λ go. on_grants go q.next_grant q.format q.time c.args.grant) _ c.args.file.now _ c.args.effects.now _
     (λ ds chosen. rw test refl)
-        (for_moved (λ go. give_or_refuse go q.next_grant c.args.grant) _ c.args.file.now _ c.args.effects.now
-        c.give_or_refuse.ensures.rule)
+    (for_moved (λ go. give_or_refuse go q.next_grant c.args.grant) _ c.args.file.now _ c.args.effects.now
+    c.give_or_refuse.ensures.rule)

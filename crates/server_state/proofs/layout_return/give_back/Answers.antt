@@ -11,4 +11,4 @@ by_row-requires-clause-next c = λ e.
 pub by_row-requires-clause-idle : goal.by_row-requires-clause-idle
 by_row-requires-clause-idle c = λ ks e.
     taken_idle c.args.file.now.kept c.args.file.now.job c.args.asking.now.client c.args.report.now ks c.requires.sound.alone
-        (sym c.in_ok-row.ensures ∙ e)
+    (sym c.in_ok-row.ensures ∙ e)

@@ -9,16 +9,16 @@ pub loop-file-init : goal.loop-file-init
 loop-file-init c =
     let items : c.into_iter-file-iterator.result ≡ c.args.files.now.entries = search rules in
     subst (λ (t : Table). AreToCount c.new-counts.result t c.args.files.now.entries) (sym items)
-        (count_first c.new-counts.result c.args.files.now.entries c.new-counts.ensures)
+    (count_first c.new-counts.result c.args.files.now.entries c.new-counts.ensures)
 
 pub loop-file-preserved : goal.loop-file-preserved
 loop-file-preserved c =
     count_more c.loop-file.counts c.add.new.self _ c.in-Some.file.now c.loop-file.file-iterator c.next.new.self
-        c.args.files.now.entries
+    c.args.files.now.entries
     (rest_more deref_pair _ _ c.next.result _ c.in-Some.is c.next.ensures.steps)
-        (rw c.as_slice.ensures at c.in_ok-add.ensures) c.loop-file.invariant
+    (rw c.as_slice.ensures at c.in_ok-add.ensures) c.loop-file.invariant
 
 pub returns : goal.returns
 returns c =
     count_last c.loop-file.counts c.loop-file.file-iterator c.args.files.now.entries
-        (rest_all deref_pair _ _ c.next.result c.in-None.is c.next.ensures.steps) c.loop-file.invariant
+    (rest_all deref_pair _ _ c.next.result c.in-None.is c.next.ensures.steps) c.loop-file.invariant

@@ -11,16 +11,16 @@ loop-number-init c =
     let items : c.into_iter-number-iterator.result ≡ c.args.files.now.entries = search rules in
     subst (λ (ks : Keys). AreToList ks c.into_iter-number-iterator.result c.args.files.now.entries) (sym c.new-replies.ensures)
     (subst (λ (t : Table). AreToList [] t c.args.files.now.entries) (sym items)
-        (at_first c.args.files.now.entries c.iter-number-items.ensures.ordered))
+    (at_first c.args.files.now.entries c.iter-number-items.ensures.ordered))
 
 pub loop-number-preserved : goal.loop-number-preserved
 loop-number-preserved c =
     one_more c.loop-number.replies c.add_of.new.replies c.in-Some.number.now c.in-Some.file.now c.loop-number.number-iterator
-        c.next.new.self c.args.files.now.entries
+    c.next.new.self c.args.files.now.entries
     (rest_more deref_pair _ _ c.next.result (c.in-Some.number, c.in-Some.file) c.in-Some.is c.next.ensures.steps)
-        c.in_ok-add_of.ensures c.loop-number.invariant
+    c.in_ok-add_of.ensures c.loop-number.invariant
 
 pub returns : goal.returns
 returns c =
     at_last c.loop-number.replies c.loop-number.number-iterator c.args.files.now.entries
-        (rest_all deref_pair _ _ c.next.result c.in-None.is c.next.ensures.steps) c.loop-number.invariant
+    (rest_all deref_pair _ _ c.next.result c.in-None.is c.next.ensures.steps) c.loop-number.invariant

@@ -8,8 +8,8 @@ use Rattle.server_state.proofs.lists.unlist.Goals as goal
 pub remove-requires : goal.remove-requires
 remove-requires c =
     rw c.as_slice.ensures
-        (file_counted c.args.state.now.files.entries c.args.state.now.counts c.args.number c.in-Some.file.now
-        (sym c.in-Some.ensures.value) c.requires.counts)
+    (file_counted c.args.state.now.files.entries c.args.state.now.counts c.args.number c.in-Some.file.now
+    (sym c.in-Some.ensures.value) c.requires.counts)
 
 pub returns-in-Some-clause-good : goal.returns-in-Some-clause-good
 returns-in-Some-clause-good c = record {

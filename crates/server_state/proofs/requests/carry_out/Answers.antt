@@ -10,6 +10,6 @@ carry_out_at-requires-clause-room c = subst (λ (s : Server). HasRoom s) (sym c.
 pub returns-clause-did : goal.returns-clause-did
 returns-clause-did c = λ chosen.
     did_between c.in_ok-step.step (λ (s : Server). carried_in s c.args.now chosen c.args.request.now) (server_of c.args.state.now)
-        (server_of c.unlist.new.state)
+    (server_of c.unlist.new.state)
     (server_of c.carry_out_at.new.state) (server_of c.list.new.state) c.unlist.ensures.server c.in_ok-list.ensures.server
-        (c.in_ok-step.ensures.did chosen)
+    (c.in_ok-step.ensures.did chosen)

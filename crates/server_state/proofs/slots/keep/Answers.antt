@@ -10,4 +10,4 @@ pub returns : goal.returns
 returns c =
     let place = rw (c.as_slice.ensures, c.client.ensures) at c.place_of-place.ensures in
     pushed_last c.args.slots.now c.args.slot c.place_of-place.result c.len.result c.push.result c.push.new.self place
-        c.len.ensures c.if-place-len.false c.push.ensures.ok
+    c.len.ensures c.if-place-len.false c.push.ensures.ok

@@ -9,8 +9,8 @@ use Rattle.stripe_client.proofs.answers.on_commit.Goals as goal
 pub returns-in-Some-clause-done : goal.returns-in-Some-clause-done
 returns-in-Some-clause-done c =
     implied c.apply.result c.apply.ensures.done
-        (committed (done_of c.args.state.now c.args.made.now) c.take.new.self c.args.op c.args.answer.now c.args.timed
-        c.in-Some.held
+    (committed (done_of c.args.state.now c.args.made.now) c.take.new.self c.args.op c.args.answer.now c.args.timed
+    c.in-Some.held
     (moved_of c.commit-moved.new.held c.commit-moved.result) (done_of c.apply.new.state c.apply.new.made)
     (sym (rw c.file_of.ensures at c.in-Some.ensures.found)) (rw c.file_of.ensures at c.take.ensures.back) c.commit-moved.ensures)
 

@@ -9,16 +9,16 @@ use Rattle.stripe_client.proofs.driving.reply_to.Goals as goal
 pub returns-in_ok-done-in-Some-clause-done : goal.returns-in_ok-done-in-Some-clause-done
 returns-in_ok-done-in-Some-clause-done c =
     implied c.apply.result c.apply.ensures.done
-        (replied_to (done_of c.args.state.now c.args.made.now) c.take.new.self
-        (call_of c.args.call) c.args.drive c.args.reply c.in-Some.held
+    (replied_to (done_of c.args.state.now c.args.made.now) c.take.new.self
+    (call_of c.args.call) c.args.drive c.args.reply c.in-Some.held
     (moved_of c.take_reply.new.held c.in_ok-done-in-Some.done) (done_of c.apply.new.state c.apply.new.made)
     (sym (rw c.file_of.ensures at c.in-Some.ensures.found))
-        (rw c.file_of.ensures at c.take.ensures.back) c.in_ok-done-in-Some.ensures)
+    (rw c.file_of.ensures at c.take.ensures.back) c.in_ok-done-in-Some.ensures)
 
 pub returns-in-None-clause-done : goal.returns-in-None-clause-done
 returns-in-None-clause-done c =
     let found = sym (rw c.file_of.ensures at c.in-None.ensures.found) in
     replied_none (done_of c.args.state.now c.args.made.now) c.take.new.self
-        (call_of c.args.call) c.args.drive c.args.reply _ found
+    (call_of c.args.call) c.args.drive c.args.reply _ found
     ((rw c.file_of.ensures at c.take.ensures.left) ∙ none_left _ _ found)
     (ap (λ (s : State). done_of s c.args.made.now) c.go_on.ensures.state)

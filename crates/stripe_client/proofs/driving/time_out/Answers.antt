@@ -9,10 +9,10 @@ use Rattle.stripe_client.proofs.driving.time_out.Goals as goal
 pub returns-in_ok-done-in-Some-clause-done : goal.returns-in_ok-done-in-Some-clause-done
 returns-in_ok-done-in-Some-clause-done c =
     implied c.apply.result c.apply.ensures.done
-        (timed_of (done_of c.args.state.now c.args.made.now) c.take.new.self (call_of c.args.call) c.args.component c.in-Some.held
+    (timed_of (done_of c.args.state.now c.args.made.now) c.take.new.self (call_of c.args.call) c.args.component c.in-Some.held
     (moved_of c.timed_out.new.held c.in_ok-done-in-Some.done) (done_of c.apply.new.state c.apply.new.made)
     (sym (rw c.file_of.ensures at c.in-Some.ensures.found))
-        (rw c.file_of.ensures at c.take.ensures.back) c.in_ok-done-in-Some.ensures)
+    (rw c.file_of.ensures at c.take.ensures.back) c.in_ok-done-in-Some.ensures)
 
 pub returns-in-None-clause-done : goal.returns-in-None-clause-done
 returns-in-None-clause-done c =

@@ -16,16 +16,16 @@ loop-i-preserved c =
     let i = c.loop-i.i in
     let lt : i - 1 < length ns = omega (arith, c.loop-i-test.true, c.loop-i.auto.i) in
     let at = one_picked cols ns i c.index-columns-number.result (omega (arith, c.loop-i-test.true)) lt
-        (picked_below cols c.args.position (record { first = c.args.offset; end = c.args.offset + c.args.len }) ns c.requires
-        (i - 1) lt) c.index-columns-number.is in
+    (picked_below cols c.args.position (record { first = c.args.offset; end = c.args.offset + c.args.len }) ns c.requires
+    (i - 1) lt) c.index-columns-number.is in
     let laid = rw c.as_mut_slice.ensures.value at c.lay_column.ensures in
     rw (refill_same c.loop-i.bytes c.lay_column.new.buffer laid.long, at)
     (one_filled c.index-columns-number.result
-        (picked cols (drop i ns)) c.args.position c.args.offset c.args.len c.loop-i.bytes c.lay_column.new.buffer
-            c.loop-i.invariant laid)
+    (picked cols (drop i ns)) c.args.position c.args.offset c.args.len c.loop-i.bytes c.lay_column.new.buffer
+    c.loop-i.invariant laid)
 
 pub returns : goal.returns
 returns c =
     let first : c.loop-i.i ≡ 0 = omega (arith, c.loop-i-test.false) in
     all_picked c.args.columns.now c.args.position c.args.offset c.args.len c.args.numbers.now c.loop-i.bytes c.requires
-        (rw first at c.loop-i.invariant)
+    (rw first at c.loop-i.invariant)

@@ -12,9 +12,11 @@ use Rattle.stripe_plan.proofs.left.left_among.Goals.{then-stretch-position+in_ok
 pub loop-number-init : goal.loop-number-init
 loop-number-init c =
     let some = chosen c.args.had.now c.args.numbers.now in
-    let one = c.in_ok-push_some.ensures ∙ ap (λ xs. xs ++ some_of c.args.interval) c.new-left.ensures in
-    (ap (flat_map (without some c.args.position)) one ∙ of_some some c.args.position c.args.interval, ap (flat_map some_of) one
-        ∙ some_again c.args.interval ∙ sym one)
+    let one = c.in_ok-push_some.ensures ∙ ap (λ xs. xs ++ some_of c.args.interval) c.new-left.ensures in (
+      ap (flat_map (without some c.args.position)) one ∙ of_some some c.args.position c.args.interval,
+      ap (flat_map some_of) one
+          ∙ some_again c.args.interval ∙ sym one,
+    )
 
 pub loop-number-preserved : goal.loop-number-preserved
 loop-number-preserved c =
@@ -24,7 +26,7 @@ loop-number-preserved c =
     let k = c.loop-number.number-index in
     let t : Stretch = get_or had (get_or ns k 0) no_stretch in
     let more : chosen had (drop k ns) ≡ t ∷ chosen had (drop (k + 1) ns) =
-        ap (chosen had) (drop_more ns k 0 c.loop-number-test.true) in
+    ap (chosen had) (drop_more ns k 0 c.loop-number-test.true) in
     elim c.if-stretch-position.branch [
       | then-stretch-position+in_ok-left w ↦
           let now = w.left-is ∙ w.in_ok-left.ensures ∙ ap (flat_map (cut t)) w.as_slice.ensures in (
@@ -50,6 +52,6 @@ returns c =
     let k = c.loop-number.number-index in
     sym c.loop-number.invariant.1
     ∙ sym (all_left (chosen had (drop k ns)) c.args.position c.loop-number.left
-        (ap (chosen had) (drop_of_length-le ns (omega (arith, c.loop-number-test.false)))))
+    (ap (chosen had) (drop_of_length-le ns (omega (arith, c.loop-number-test.false)))))
     ∙ c.loop-number.invariant.0
     ∙ same_without had c.args.position c.args.interval ns c.requires

@@ -7,4 +7,4 @@ use Rattle.stripe_plan.proofs.left.left_among.Given as goal
 abbrev pub invariant-loop-number : goal.invariant-loop-number
 invariant-loop-number l =
     (flat_map (without (chosen l.fn.had (drop l.number-index l.fn.numbers)) l.fn.position) l.left ≡ without
-        (chosen l.fn.had l.fn.numbers) l.fn.position l.fn.interval) × (flat_map some_of l.left ≡ l.left)
+    (chosen l.fn.had l.fn.numbers) l.fn.position l.fn.interval) × (flat_map some_of l.left ≡ l.left)

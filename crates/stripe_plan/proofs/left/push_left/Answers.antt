@@ -6,5 +6,5 @@ pub returns-then-is_empty : goal.returns-then-is_empty
 returns-then-is_empty c =
     let none : length c.find-numbers.result.now ≡ 0 = search (rules, tests) in
     rw (sym (none_had c.args.had.now c.args.position c.args.interval c.from.result c.find-numbers.result.now c.from.ensures none
-        (c.find-numbers.ensures c.args.had.now c.requires)))
+    (c.find-numbers.ensures c.args.had.now c.requires)))
     c.push_some.ensures

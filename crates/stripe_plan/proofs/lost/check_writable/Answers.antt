@@ -15,14 +15,14 @@ loop-init c = (
 pub returns-then-stripe-end : goal.returns-then-stripe-end
 returns-then-stripe-end c =
     inr (rw (sym c.loop.invariant.0
-        ∙ writable_end c.args.map.now c.args.out.now.components c.loop.stripe c.touched_stripes-first.result.1
-            (omega (arith, c.if-stripe-end.true))) refl)
+    ∙ writable_end c.args.map.now c.args.out.now.components c.loop.stripe c.touched_stripes-first.result.1
+    (omega (arith, c.if-stripe-end.true))) refl)
 
 pub returns-in-Some : goal.returns-in-Some
 returns-in-Some c =
     inr (rw (sym c.loop.invariant.0
     ∙ writable_step c.args.map.now c.args.out.now.components c.loop.stripe c.touched_stripes-first.result.1
-        (omega (arith, c.if-stripe-end.false))
+    (omega (arith, c.if-stripe-end.false))
     ∙ found_when _ _ c.in-Some.positions _ (sym c.in-Some.is ∙ c.in_ok-positions.ensures)) refl)
 
 pub loop-preserved : goal.loop-preserved
@@ -48,5 +48,5 @@ returns c =
     let whole : groups m ≤ c.loop.counter = omega (arith, c.loop-test.false, c.groups-groups.ensures.value) in
     inr (rw (sym c.loop.invariant.0
     ∙ all_seen m out
-        (turn_of m c.touched_stripes-first.result.0) c.loop.counter c.loop.stripe c.touched_stripes-first.result.1 c.known.ensures
-            some whole c.loop.invariant.1 c.loop.invariant.2) refl)
+    (turn_of m c.touched_stripes-first.result.0) c.loop.counter c.loop.stripe c.touched_stripes-first.result.1 c.known.ensures
+    some whole c.loop.invariant.1 c.loop.invariant.2) refl)

@@ -8,6 +8,6 @@ use Rattle.stripe_plan.proofs.lost.check_writable.Given as goal
 abbrev pub invariant-loop : goal.invariant-loop
 invariant-loop l =
     (unwritable l.fn.map l.fn.out.components
-        (range_with_len l.stripe (l.end - l.stripe)) ≡ unwritable l.fn.map l.fn.out.components (stripes l.fn.map l.fn.range))
+    (range_with_len l.stripe (l.end - l.stripe)) ≡ unwritable l.fn.map l.fn.out.components (stripes l.fn.map l.fn.range))
     × (l.stripe < l.end → turn_of l.fn.map l.stripe ≡ turn_of l.fn.map l.first + l.counter)
     × AreSeen l.fn.map l.fn.out.components (turn_of l.fn.map l.first) l.counter

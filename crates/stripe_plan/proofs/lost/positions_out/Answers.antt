@@ -29,6 +29,6 @@ returns c =
     let e = c.group.result * c.group_width.result + group_width c.args.map.now in
     sym (append-nil c.loop-position.lost)
     ∙ ap (λ xs. c.loop-position.lost ++ xs)
-        (sym (out_end c.args.map.now c.args.out.now.components c.loop-position.position e
-        (omega (arith, c.loop-position-test.false, c.group_width-2.ensures.value))))
+    (sym (out_end c.args.map.now c.args.out.now.components c.loop-position.position e
+    (omega (arith, c.loop-position-test.false, c.group_width-2.ensures.value))))
     ∙ c.loop-position.invariant

@@ -12,5 +12,5 @@ encode-requires c =
 pub returns : goal.returns
 returns c = λ f had.
     parity_made c.args.map.now c.args.range c.args.bytes.now c.args.stripe c.args.columns f c.args.rows.now c.lay_new.new.rows
-        c.encode.new.rows c.known.ensures c.requires.inside c.requires.bytes had c.lay_new.ensures
+    c.encode.new.rows c.known.ensures c.requires.inside c.requires.bytes had c.lay_new.ensures
     c.encode.ensures.shape (rw c.code_of.ensures at c.encode.ensures.coded)

@@ -12,8 +12,8 @@ returns c =
     let same = get_or_from_slice_get c.args.rows.now c.args.row old [] c.get_mut.ensures.value in
     let laid = rw c.as_mut_slice.ensures.value at c.lay.ensures in
     rw (refill_same old new laid.long, same)
-        (stored_row c.args.rows.now old new c.args.row 0 (length old)
-        (λ (k : ℕ). laid_at c.args.from c.args.bytes.now (c.args.offset + k) (get_or old k 0)) same laid.long
+    (stored_row c.args.rows.now old new c.args.row 0 (length old)
+    (λ (k : ℕ). laid_at c.args.from c.args.bytes.now (c.args.offset + k) (get_or old k 0)) same laid.long
     (λ k lt. let z : 0 + k ≡ k = omega arith in
-        rw z (laid.each k lt)) (λ k lt. absurd (omega (arith, lt)))
-        (λ k le. get_or_past new k 0 (omega (arith, le, laid.long)) ∙ sym (get_or_past old k 0 (omega (arith, le)))))
+    rw z (laid.each k lt)) (λ k lt. absurd (omega (arith, lt)))
+    (λ k le. get_or_past new k 0 (omega (arith, le, laid.long)) ∙ sym (get_or_past old k 0 (omega (arith, le)))))

@@ -14,5 +14,5 @@ new_part-requires-clause-to c =
 pub returns : goal.returns
 returns c =
     own_bytes c.args.map.now c.args.range c.args.bytes.now c.args.stripe c.args.unit c.args.columns _ c.requires.bytes
-        c.requires.own c.requires.some
+    c.requires.own c.requires.some
     (c.in_ok-copied.ensures ∙ c.new_part.ensures.value)

@@ -7,6 +7,6 @@ use Rattle.stripe_plan.proofs.outs.apply_and_encode.Given as goal
 abbrev pub invariant-loop-stripe : goal.invariant-loop-stripe
 invariant-loop-stripe l =
     l.made ++ written l.fn.map (span l.fn.off (length l.fn.bytes)) l.fn.bytes (columns_of l.fn.map l.fn.got) l.fn.out.components
-        (range_with_len l.stripe (l.end - l.stripe))
+    (range_with_len l.stripe (l.end - l.stripe))
     ≡ written l.fn.map (span l.fn.off (length l.fn.bytes)) l.fn.bytes (columns_of l.fn.map l.fn.got) l.fn.out.components
-        (stripes l.fn.map (span l.fn.off (length l.fn.bytes)))
+    (stripes l.fn.map (span l.fn.off (length l.fn.bytes)))

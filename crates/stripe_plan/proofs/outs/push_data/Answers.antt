@@ -9,18 +9,18 @@ pub returns-then-own : goal.returns-then-own
 returns-then-own c =
     sym (append-nil c.args.made.now)
     ∙ ap (λ is. c.args.made.now ++ map
-        (data_column c.args.write.now.map.now c.args.write.now.range c.args.write.now.bytes.now c.args.stripe c.args.unit
-        c.args.position) is)
+    (data_column c.args.write.now.map.now c.args.write.now.range c.args.write.now.bytes.now c.args.stripe c.args.unit
+    c.args.position) is)
     (sym (own_none c.args.write.now.map.now c.args.write.now.range c.args.stripe c.args.unit c.own_columns-own.result
-        c.requires.unit c.own_columns-own.ensures.value c.if-own.true))
+    c.requires.unit c.own_columns-own.ensures.value c.if-own.true))
 
 pub returns : goal.returns
 returns c =
     let m = c.args.write.now.map.now in
     let first : ℕ = c.own_columns-own.result.first in
     data_pushed m c.args.write.now.range c.args.write.now.bytes.now c.args.stripe c.args.unit c.args.position
-        (c.row.result * c.raw.result.unit + first) c.own_columns-own.result c.in_ok-new_bytes.field-0 c.args.made.now
-            c.push.new.self
+    (c.row.result * c.raw.result.unit + first) c.own_columns-own.result c.in_ok-new_bytes.field-0 c.args.made.now
+    c.push.new.self
     c.requires.unit c.own_columns-own.ensures.value c.if-own.false c.in_ok-new_bytes.ensures
     (ap (λ (z : ℕ). z * c.raw.result.unit + first) c.row.ensures.value
-        ∙ ap (λ (x : RawMap). row_of m c.args.stripe * x.unit + first) c.raw.ensures.value) c.in_ok-push.ensures.ok
+    ∙ ap (λ (x : RawMap). row_of m c.args.stripe * x.unit + first) c.raw.ensures.value) c.in_ok-push.ensures.ok

@@ -13,11 +13,11 @@ loop-j-preserved c = λ f had.
     let j = c.loop-j.j in
     let i : Interval = get_or c.args.intervals.now j (record { first = 0; end = 0 }) in
     let there = any_default c.args.parity.now j [] c.index-parity-j.result (omega (arith, c.loop-j-test.true, c.requires.same))
-        ∙ sym c.index-parity-j.is in
+    ∙ sym c.index-parity-j.is in
     let parity : HasParity (parities m) i f c.index-parity-j.result =
-        rw there at (had.each j (record { first = 0; end = 0 }) c.loop-j-test.true) in
+    rw there at (had.each j (record { first = 0; end = 0 }) c.loop-j-test.true) in
     one_more c.loop-j.made (parity_column m c.args.stripe c.args.position f c.args.row i ∷ [])
-        (parity_columns m c.args.stripe c.args.position f c.args.row (drop (j + 1) c.args.intervals.now)) _ c.push.new.self
+    (parity_columns m c.args.stripe c.args.position f c.args.row (drop (j + 1) c.args.intervals.now)) _ c.push.new.self
     (c.in_ok-push.ensures.ok ∙ ap (λ x. c.loop-j.made ++ (x ∷ [])) (c.in_ok-parity_column.ensures f parity))
     (ap (λ is. c.loop-j.made ++ parity_columns m c.args.stripe c.args.position f c.args.row is)
-        (sym (drop_more c.args.intervals.now j (record { first = 0; end = 0 }) c.loop-j-test.true)) ∙ c.loop-j.invariant f had)
+    (sym (drop_more c.args.intervals.now j (record { first = 0; end = 0 }) c.loop-j-test.true)) ∙ c.loop-j.invariant f had)

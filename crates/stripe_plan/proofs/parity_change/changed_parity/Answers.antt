@@ -10,19 +10,21 @@ use Rattle.stripe_plan.proofs.parity_change.changed_parity.Goals as goal
 pub loop-unit-init : goal.loop-unit-init
 loop-unit-init c =
     delta_init c.args.write.now.map.now c.args.write.now.range c.args.write.now.bytes.now
-        (columns_of c.args.write.now.map.now c.args.write.now.got.now) c.args.stripe c.args.columns c.in_ok-p.p c.in_ok-q.q
+    (columns_of c.args.write.now.map.now c.args.write.now.got.now) c.args.stripe c.args.columns c.in_ok-p.p c.in_ok-q.q
     (rw c.data_units-units.ensures.value at c.in_ok-p.ensures) c.in_ok-q.ensures.long (λ two. c.in_ok-q.ensures.got two)
 
 pub loop-unit-preserved : goal.loop-unit-preserved
 loop-unit-preserved c =
     let changed = rw (c.as_mut_slice.ensures.value, c.as_mut_slice-in-loop-unit.ensures.value) at c.in_ok-change_unit.ensures in
-    rw (refill_same c.loop-unit.p c.change_unit.new.p changed.p_long,
-        refill_same c.loop-unit.q c.change_unit.new.q changed.q_long)
+    rw (
+      refill_same c.loop-unit.p c.change_unit.new.p changed.p_long,
+      refill_same c.loop-unit.q c.change_unit.new.q changed.q_long,
+    )
     (delta_step c.args.write.now.map.now c.args.write.now.range c.args.write.now.bytes.now
-        (columns_of c.args.write.now.map.now c.args.write.now.got.now) c.args.stripe c.args.columns c.loop-unit.unit c.loop-unit.p
-            c.loop-unit.q c.change_unit.new.p c.change_unit.new.q
+    (columns_of c.args.write.now.map.now c.args.write.now.got.now) c.args.stripe c.args.columns c.loop-unit.unit c.loop-unit.p
+    c.loop-unit.q c.change_unit.new.p c.change_unit.new.q
     (omega (arith, c.loop-unit-test.true, c.data_units-units.ensures.value)) c.loop-unit.invariant changed.p_long changed.q_long
-        (changed.p c.requires.some) (λ two. changed.q two))
+    (changed.p c.requires.some) (λ two. changed.q two))
 
 pub returns : goal.returns
 returns c =
@@ -35,5 +37,5 @@ returns c =
       | inr more ↦
           let two : parities m ≡ 2 = omega (arith, more, few_parities m, c.requires.some) in
           two_rows m c.args.write.now.range c.args.write.now.bytes.now got c.args.stripe c.args.columns c.loop-unit.unit
-              c.loop-unit.p c.loop-unit.q c.in_ok-rows.rows le two (c.in_ok-rows.ensures.two two) c.loop-unit.invariant
+          c.loop-unit.p c.loop-unit.q c.in_ok-rows.rows le two (c.in_ok-rows.ensures.two two) c.loop-unit.invariant
     ]

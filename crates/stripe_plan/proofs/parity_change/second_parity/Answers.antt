@@ -7,4 +7,4 @@ pub returns-then-parities-eq2-clause-long : goal.returns-then-parities-eq2-claus
 returns-then-parities-eq2-clause-long c =
     ap length c.in_ok-q.ensures
     ∙ got_long c.args.write.now.map.now
-        (columns_of c.args.write.now.map.now c.args.write.now.got.now) c.args.stripe _ c.args.columns
+    (columns_of c.args.write.now.map.now c.args.write.now.got.now) c.args.stripe _ c.args.columns

@@ -12,11 +12,11 @@ use Rattle.stripe_plan.proofs.read_answer.append_stripe.Goals.{then-own+in_ok-by
 pub answered_in-requires-clause-few : goal.answered_in-requires-clause-few
 answered_in-requires-clause-few c = λ gone.
     few_lost c.args.map.now c.args.range c.args.out.now.components c.args.stripe c.known.ensures c.requires.some
-        c.requires.readable c.requires.touched
+    c.requires.readable c.requires.touched
     (hit_is c.args.map.now c.args.range c.args.out.now.components c.args.stripe 0 (data_units c.args.map.now) c.loop-unit.unit
-        (omega arith) (omega (arith, c.loop-unit-test.true, c.data_units-unit-end.ensures.value))
+    (omega arith) (omega (arith, c.loop-unit-test.true, c.data_units-unit-end.ensures.value))
     (touches_is c.args.map.now c.args.range c.args.stripe c.loop-unit.unit c.own_columns-own.result
-        c.own_columns-own.ensures.value c.if-own.true) gone)
+    c.own_columns-own.ensures.value c.if-own.true) gone)
 
 pub loop-unit-preserved : goal.loop-unit-preserved
 loop-unit-preserved c =
@@ -31,30 +31,30 @@ loop-unit-preserved c =
     let e = clamped r ((s + 1) * stripe_length m) in
     let low : u < data_units m = omega (arith, c.loop-unit-test.true, c.data_units-unit-end.ensures.value) in
     let split = between_split m got out a k e (clamped_mono r _ _ (omega (arith, unit_next m s u)))
-        (clamped_mono r _ _
-        (unit_last m s (u + 1) (omega (arith, c.loop-unit-test.true, c.data_units-unit-end.ensures.value)))) in
+    (clamped_mono r _ _
+    (unit_last m s (u + 1) (omega (arith, c.loop-unit-test.true, c.data_units-unit-end.ensures.value)))) in
     elim c.if-own.branch [
       | then-own+in_ok-bytes+in_ok-extend_from_slice w ↦
           one_more c.loop-unit.answer (answered_between m got out a k) (answered_between m got out k e) _ c.if-own.answer
           (w.answer-is ∙ w.in_ok-extend_from_slice.ensures.ok
-              ∙ ap (λ xs. c.loop-unit.answer ++ xs)
-                  (w.as_slice.ensures ∙ w.in_ok-bytes.ensures
-                  ∙ unit_piece m r got out s u c.own_columns-own.result low c.own_columns-own.ensures.value w.if-own.true))
+          ∙ ap (λ xs. c.loop-unit.answer ++ xs)
+          (w.as_slice.ensures ∙ w.in_ok-bytes.ensures
+          ∙ unit_piece m r got out s u c.own_columns-own.result low c.own_columns-own.ensures.value w.if-own.true))
           (ap (λ xs. c.loop-unit.answer ++ xs) (sym split) ∙ c.loop-unit.invariant)
       | else-own w ↦
           ap (λ xs. xs ++ answered_between m got out k e) w.answer-is
           ∙ ap (λ xs. c.loop-unit.answer ++ xs)
-              (sym (split ∙ ap (λ xs. xs ++ answered_between m got out k e)
-              (unit_none m r got out s u c.own_columns-own.result c.known.ensures c.own_columns-own.ensures.value
-              w.if-own.false)))
+          (sym (split ∙ ap (λ xs. xs ++ answered_between m got out k e)
+          (unit_none m r got out s u c.own_columns-own.result c.known.ensures c.own_columns-own.ensures.value
+          w.if-own.false)))
           ∙ c.loop-unit.invariant
     ]
 
 pub returns : goal.returns
 returns c =
     no_more _ _ _
-        (between_none c.args.map.now (columns_of c.args.map.now c.args.got.now) c.args.out.now.components _ _
-        (clamped_mono c.args.range _ _
-        (unit_past c.args.map.now c.args.stripe c.loop-unit.unit
-        (omega (arith, c.loop-unit-test.false, c.data_units-unit-end.ensures.value)))))
+    (between_none c.args.map.now (columns_of c.args.map.now c.args.got.now) c.args.out.now.components _ _
+    (clamped_mono c.args.range _ _
+    (unit_past c.args.map.now c.args.stripe c.loop-unit.unit
+    (omega (arith, c.loop-unit-test.false, c.data_units-unit-end.ensures.value)))))
     c.loop-unit.invariant

@@ -10,11 +10,13 @@ use Rattle.stripe_plan.proofs.read_answer.assemble.Goals as goal
 
 pub loop-stripe-init : goal.loop-stripe-init
 loop-stripe-init c =
-    rw (c.new-answer.ensures,
-        clamp_first c.args.map.now (span c.args.off c.args.len) c.touched_stripes-first.result.0
-            (λ some. (c.touched_stripes-first.ensures.some some).0))
+    rw (
+      c.new-answer.ensures,
+      clamp_first c.args.map.now (span c.args.off c.args.len) c.touched_stripes-first.result.0
+          (λ some. (c.touched_stripes-first.ensures.some some).0),
+    )
     (all_answered c.args.map.now (span c.args.off c.args.len)
-        (columns_of c.args.map.now c.args.got.now) c.args.out.now.components)
+    (columns_of c.args.map.now c.args.got.now) c.args.out.now.components)
 
 pub loop-stripe-preserved : goal.loop-stripe-preserved
 loop-stripe-preserved c =
@@ -28,7 +30,7 @@ loop-stripe-preserved c =
     let next : (s + 1) * stripe_length m ≡ s * stripe_length m + stripe_length m = omega arith in
     let split = between_split m got out a k (c.args.off + c.args.len) (clamped_mono r _ _ (omega (arith, next))) (omega arith) in
     one_more c.loop-stripe.answer (answered_between m got out a k)
-        (answered_between m got out k (c.args.off + c.args.len)) _ _ c.in_ok-append_stripe.ensures
+    (answered_between m got out k (c.args.off + c.args.len)) _ _ c.in_ok-append_stripe.ensures
     (ap (λ xs. c.loop-stripe.answer ++ xs) (sym split) ∙ c.loop-stripe.invariant)
 
 pub returns-clause-exact : goal.returns-clause-exact
@@ -36,23 +38,23 @@ returns-clause-exact c =
     let m = c.args.map.now in
     let r = span c.args.off c.args.len in
     let last = clamp_last m r c.touched_stripes-first.result.1 c.loop-stripe.stripe c.known.ensures
-        (λ some. (c.touched_stripes-first.ensures.some some).1) (omega (arith, c.loop-stripe-test.false)) in
+    (λ some. (c.touched_stripes-first.ensures.some some).1) (omega (arith, c.loop-stripe-test.false)) in
     assembled m r c.args.got.now c.args.out.now.components c.loop-stripe.answer (not_lost _ _ c.in_ok-check_readable.ensures)
     (no_more _ _ _
-        (between_none m (columns_of m c.args.got.now) c.args.out.now.components
-        (clamped r (c.loop-stripe.stripe * stripe_length m)) (c.args.off + c.args.len) (omega (arith, last)))
-        c.loop-stripe.invariant)
+    (between_none m (columns_of m c.args.got.now) c.args.out.now.components
+    (clamped r (c.loop-stripe.stripe * stripe_length m)) (c.args.off + c.args.len) (omega (arith, last)))
+    c.loop-stripe.invariant)
 
 pub returns-clause-follows : goal.returns-clause-follows
 returns-clause-follows c =
     let m = c.args.map.now in
     let r = span c.args.off c.args.len in
     let last = clamp_last m r c.touched_stripes-first.result.1 c.loop-stripe.stripe c.known.ensures
-        (λ some. (c.touched_stripes-first.ensures.some some).1) (omega (arith, c.loop-stripe-test.false)) in
+    (λ some. (c.touched_stripes-first.ensures.some some).1) (omega (arith, c.loop-stripe-test.false)) in
     let is : c.loop-stripe.answer ≡ answered m r (columns_of m c.args.got.now) c.args.out.now.components =
     no_more _ _ _
-        (between_none m (columns_of m c.args.got.now) c.args.out.now.components
-        (clamped r (c.loop-stripe.stripe * stripe_length m)) (c.args.off + c.args.len) (omega (arith, last)))
-        c.loop-stripe.invariant in
+    (between_none m (columns_of m c.args.got.now) c.args.out.now.components
+    (clamped r (c.loop-stripe.stripe * stripe_length m)) (c.args.off + c.args.len) (omega (arith, last)))
+    c.loop-stripe.invariant in
     rw is (read_follows m r (columns_of m c.args.got.now) c.args.out.now.components c.known.ensures
-        (not_lost _ _ c.in_ok-check_readable.ensures))
+    (not_lost _ _ c.in_ok-check_readable.ensures))

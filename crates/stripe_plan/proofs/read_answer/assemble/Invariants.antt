@@ -8,5 +8,5 @@ use Rattle.stripe_plan.proofs.read_answer.assemble.Given as goal
 abbrev pub invariant-loop-stripe : goal.invariant-loop-stripe
 invariant-loop-stripe l =
     l.answer ++ answered_between l.fn.map (columns_of l.fn.map l.fn.got) l.fn.out.components
-        (clamped (span l.fn.off l.fn.len) (l.stripe * stripe_length l.fn.map)) (l.fn.off + l.fn.len)
+    (clamped (span l.fn.off l.fn.len) (l.stripe * stripe_length l.fn.map)) (l.fn.off + l.fn.len)
     ≡ answered l.fn.map (span l.fn.off l.fn.len) (columns_of l.fn.map l.fn.got) l.fn.out.components

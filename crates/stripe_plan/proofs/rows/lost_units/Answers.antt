@@ -18,7 +18,7 @@ loop-unit-preserved c =
     elim c.if-is_out.branch [
       | then-is_out+in_ok-push w ↦
           one_more c.loop-unit.lost (u ∷ []) (lost_from m out s (u + 1) (e - (u + 1))) _ c.if-is_out.lost
-              (w.lost-is ∙ w.in_ok-push.ensures.ok)
+          (w.lost-is ∙ w.in_ok-push.ensures.ok)
           (ap (λ xs. c.loop-unit.lost ++ xs) (sym (rw (sym is ∙ w.if-is_out.true) at step)) ∙ c.loop-unit.invariant)
       | else-is_out w ↦
           ap (λ xs. xs ++ lost_from m out s (u + 1) (e - (u + 1))) w.lost-is
@@ -28,5 +28,5 @@ loop-unit-preserved c =
 pub returns : goal.returns
 returns c =
     no_more _ _ _
-        (lost_end c.args.map.now c.args.out.now.components c.args.stripe c.loop-unit.unit (group_width c.args.map.now)
-        (omega (arith, c.loop-unit-test.false, c.group_width-unit-end.ensures.value))) c.loop-unit.invariant
+    (lost_end c.args.map.now c.args.out.now.components c.args.stripe c.loop-unit.unit (group_width c.args.map.now)
+    (omega (arith, c.loop-unit-test.false, c.group_width-unit-end.ensures.value))) c.loop-unit.invariant

@@ -11,7 +11,7 @@ invariant-loop-place l =
     (length l.rows ≡ group_width l.fn.map)
     × ((got : List Column) →
     (l.made ++ written_stripe l.fn.map l.fn.range l.fn.bytes got l.fn.out.components l.fn.stripe l.place
-        (group_width l.fn.map - l.place)
+    (group_width l.fn.map - l.place)
     ≡ l.fn.made ++ written_stripe l.fn.map l.fn.range l.fn.bytes got l.fn.out.components l.fn.stripe 0 (group_width l.fn.map))
     × Untaken l.fn.map l.fn.stripe l.place
-        (λ (c : ℕ). words_in l.fn.map l.fn.range l.fn.bytes got l.fn.out.components l.fn.stripe c (all_columns l.fn.map)) l.rows)
+    (λ (c : ℕ). words_in l.fn.map l.fn.range l.fn.bytes got l.fn.out.components l.fn.stripe c (all_columns l.fn.map)) l.rows)

@@ -7,11 +7,11 @@ pub encode-requires : goal.encode-requires
 encode-requires c =
     let had = c.in_ok-rows.ensures in
     rw c.code_of.ensures
-        (can_encode c.args.map.now (all_columns c.args.map.now) c.in_ok-rows.rows c.known.ensures had.count
-        (even_rows c.args.map.now c.args.range c.args.bytes.now c.args.stripe c.in_ok-rows.rows had))
+    (can_encode c.args.map.now (all_columns c.args.map.now) c.in_ok-rows.rows c.known.ensures had.count
+    (even_rows c.args.map.now c.args.range c.args.bytes.now c.args.stripe c.in_ok-rows.rows had))
 
 pub returns : goal.returns
 returns c = λ got out.
     let e = rw c.code_of.ensures at c.encode.ensures in
     whole_words c.args.map.now c.args.range c.args.bytes.now c.args.stripe c.in_ok-rows.rows c.encode.new.rows got out
-        c.known.ensures c.requires.all c.in_ok-rows.ensures e.shape e.kept e.coded
+    c.known.ensures c.requires.all c.in_ok-rows.ensures e.shape e.kept e.coded

@@ -11,7 +11,7 @@ returns-then-not-is_empty-clause-exact c =
     let l = c.loop-piece in
     rw c.in_ok-mark_short.ensures.ok
     (look_stops c.args.kept.now c.args.nonce l.todo l.short c.in-Some.piece c.in_ok-reads.reads
-        (sym c.first.ensures ∙ c.in-Some.is) c.in_ok-reads.ensures
+    (sym c.first.ensures ∙ c.in-Some.is) c.in_ok-reads.ensures
     (some_of c.is_empty.result c.in_ok-reads.reads c.is_empty.ensures c.if-not-is_empty.true)
     ∙ l.invariant.same)
 
@@ -31,5 +31,5 @@ pub returns-clause-exact : goal.returns-clause-exact
 returns-clause-exact c =
     let l = c.loop-piece in
     rw c.new.ensures
-        (look_ends c.args.kept.now c.args.nonce l.todo l.short
-        (sym c.first.ensures ∙ none_but c.first.result c.in_default.not-Some) ∙ l.invariant.same)
+    (look_ends c.args.kept.now c.args.nonce l.todo l.short
+    (sym c.first.ensures ∙ none_but c.first.result c.in_default.not-Some) ∙ l.invariant.same)

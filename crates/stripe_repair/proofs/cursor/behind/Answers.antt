@@ -12,9 +12,9 @@ returns-then-unit-spot-gt-MAX_PIECE-clause-rest c =
 pub returns-clause-left : goal.returns-clause-left
 returns-clause-left c =
     past_range c.args.unit c.args.spot c.requires.column c.requires.inside
-        (omega (arith, c.if-unit-spot-gt-MAX_PIECE.false, c.requires.column))
+    (omega (arith, c.if-unit-spot-gt-MAX_PIECE.false, c.requires.column))
 
 pub returns-clause-rest : goal.returns-clause-rest
 returns-clause-rest c =
     λ ranges. past c.args.unit ranges c.args.spot c.requires.column c.requires.inside
-        (omega (arith, c.if-unit-spot-gt-MAX_PIECE.false, c.requires.column))
+    (omega (arith, c.if-unit-spot-gt-MAX_PIECE.false, c.requires.column))

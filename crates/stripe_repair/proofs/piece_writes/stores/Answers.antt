@@ -19,8 +19,8 @@ loop-at-preserved c =
         all =
             rw (w.out-is, w.nonce-is) (rw w.in_ok-push.ensures.ok (append_assoc l.out (w.in-Some.write ∷ []) _
             ∙ ap (λ xs. l.out ++ xs)
-                (sym (next_some f c.args.piece rows c.args.heard.now f.components l.at-index l.component l.nonce _ o
-                w.in-Some.write inside is w.in-Some.is))
+            (sym (next_some f c.args.piece rows c.args.heard.now f.components l.at-index l.component l.nonce _ o
+            w.in-Some.write inside is w.in-Some.is))
             ∙ l.invariant.all));
         place = omega (arith, l.invariant.place);
         low = omega (arith, l.invariant.low, w.nonce-is);
@@ -28,9 +28,9 @@ loop-at-preserved c =
       | in_default w ↦ record {
         all =
             rw (w.out-is, w.nonce-is)
-                (ap (λ xs. l.out ++ xs)
-                (sym (next_none f c.args.piece rows c.args.heard.now f.components l.at-index l.component l.nonce _ o inside is
-                (none_but o w.in_default.not-Some)))
+            (ap (λ xs. l.out ++ xs)
+            (sym (next_none f c.args.piece rows c.args.heard.now f.components l.at-index l.component l.nonce _ o inside is
+            (none_but o w.in_default.not-Some)))
             ∙ l.invariant.all);
         place = omega (arith, l.invariant.place);
         low = omega (arith, l.invariant.low, w.nonce-is);

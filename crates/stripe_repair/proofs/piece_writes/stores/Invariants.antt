@@ -18,5 +18,5 @@ pub record Stored (f : Kept) (p : Piece) (rows : List (List ℕ)) (heard : List 
 abbrev pub invariant-loop-at : goal.invariant-loop-at
 invariant-loop-at l =
     Stored l.fn.kept l.fn.piece
-        (unit_rows l.fn.kept.map l.fn.kept.components l.fn.piece.stripe l.fn.heard l.fn.piece.count) l.fn.heard l.first l.out
-            l.nonce l.component l.at-index
+    (unit_rows l.fn.kept.map l.fn.kept.components l.fn.piece.stripe l.fn.heard l.fn.piece.count) l.fn.heard l.first l.out
+    l.nonce l.component l.at-index

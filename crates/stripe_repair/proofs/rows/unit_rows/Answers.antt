@@ -13,8 +13,8 @@ loop-unit-preserved c =
     c.in_ok-push.ensures.ok
     ∙ ap (λ x. c.loop-unit.rows ++ (x ∷ [])) row
     ∙ ap (λ xs. xs
-        ++ (row_at c.args.heard.now
-        (replica m c.args.components.now (position_of m c.args.stripe c.loop-unit.unit)) c.args.count ∷ [])) c.loop-unit.invariant
+    ++ (row_at c.args.heard.now
+    (replica m c.args.components.now (position_of m c.args.stripe c.loop-unit.unit)) c.args.count ∷ [])) c.loop-unit.invariant
     ∙ sym (map-range_with_len_more
-        (λ u. row_at c.args.heard.now (replica m c.args.components.now (position_of m c.args.stripe u)) c.args.count) 0
-            c.loop-unit.unit c.loop-unit.unit (omega arith))
+    (λ u. row_at c.args.heard.now (replica m c.args.components.now (position_of m c.args.stripe u)) c.args.count) 0
+    c.loop-unit.unit c.loop-unit.unit (omega arith))

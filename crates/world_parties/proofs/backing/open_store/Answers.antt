@@ -10,7 +10,7 @@ use Rattle.world_parties.proofs.backing.open_store.Goals as goal
 pub want_of-requires : goal.want_of-requires
 want_of-requires c =
     all_was_taken
-        (λ at. IsTrue true → IsNoStoreAt c.in-Ok.keys (bytes_of c.args.disk) at) c.in-Err-open.e c.in-Err-open.ensures.refused
+    (λ at. IsTrue true → IsNoStoreAt c.in-Ok.keys (bytes_of c.args.disk) at) c.in-Err-open.e c.in-Err-open.ensures.refused
     (λ at none. no_refusal c.args.made c.args.disk c.in-Ok.keys at c.requires c.in-Ok.ensures (none refl))
     c.in-Err-open.ensures.cause
 

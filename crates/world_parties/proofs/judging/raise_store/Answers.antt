@@ -24,4 +24,4 @@ returns-in-Err-clause-own c =
 pub returns-in-Err-clause-err : goal.returns-in-Err-clause-err
 returns-in-Err-clause-err c =
     either_core c.args.made c.args.store.now c.raise_least.new.self
-        (raised (core_of c.args.store.now) SECOND_FORMAT) c.in-Err.ensures.err
+    (raised (core_of c.args.store.now) SECOND_FORMAT) c.in-Err.ensures.err

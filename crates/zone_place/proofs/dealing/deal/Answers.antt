@@ -27,12 +27,12 @@ loop-group-preserved c =
 pub returns-clause-exact : goal.returns-clause-exact
 returns-clause-exact c =
     dealt_is c.args.ask.now c.args.loads.now c.loop-group.group c.loop-group.chosen c.loop-group.auto.group-end
-        c.loop-group-test.false c.loop-group.invariant
+    c.loop-group-test.false c.loop-group.invariant
 
 pub returns-clause-spread : goal.returns-clause-spread
 returns-clause-spread c = λ can x is.
     let same : x ≡ c.loop-group.chosen = cc is in
     let exact : c.loop-group.chosen ≡ dealt c.args.ask.now (online_placed c.args.loads.now) =
     dealt_is c.args.ask.now c.args.loads.now c.loop-group.group c.loop-group.chosen c.loop-group.auto.group-end
-        c.loop-group-test.false c.loop-group.invariant in
+    c.loop-group-test.false c.loop-group.invariant in
     deal_spreads c.args.ask.now c.args.loads.now x can (same ∙ exact)

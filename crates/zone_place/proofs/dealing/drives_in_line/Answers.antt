@@ -23,7 +23,7 @@ loop-zone-preserved c =
     let next : c.from-lowest.result + 1 ≡ z + 1 = omega (arith, c.from-lowest.ensures) in (
       ap (λ (k : ℕ). c.add_zone.new.line ++ line_from ask k ds) next
           ∙ ap (λ (l : List ℕ). l ++ rest)
-              (c.in_ok-add_zone.ensures ∙ ap (λ (k : ℕ). c.loop-zone.line ++ take k (drives_of (within z ds))) most)
+          (c.in_ok-add_zone.ensures ∙ ap (λ (k : ℕ). c.loop-zone.line ++ take k (drives_of (within z ds))) most)
           ∙ append_assoc c.loop-zone.line (take (zone_most ask) (drives_of (within z ds))) rest
           ∙ ap (λ (l : List ℕ). c.loop-zone.line ++ l) (sym (line_more ask c.loop-zone.lowest z ds found))
           ∙ c.loop-zone.invariant.0,
@@ -39,4 +39,4 @@ returns c =
     ∙ rw (line_over ask c.loop-zone.lowest ds over) at c.loop-zone.invariant.0 in
     let all : c.from-3.result * c.from-4.result ≡ all_asked ask = rw (c.from-3.ensures, c.from-4.ensures) refl in
     c.truncate.ensures ∙ ap (λ (k : ℕ). take k c.loop-zone.line) all ∙ ap (λ (l : List ℕ). take (all_asked ask) l) line
-        ∙ whole_line ask ds
+    ∙ whole_line ask ds

@@ -14,9 +14,9 @@ loop-load-preserved c =
     elim c.if-load.branch [
       | then-load+then-lowest-from w ↦
           let counts =
-              zone_counts c.args.lowest ls i c.loop-load-test.true w.if-load.true (rw w.from.ensures at w.if-lowest-from.true) in
+          zone_counts c.args.lowest ls i c.loop-load-test.true w.if-load.true (rw w.from.ensures at w.if-lowest-from.true) in
           ap (λ f. lowest_of f rest) (w.found-is ∙ w.lower_of-found.ensures)
-              ∙ lowest_more c.loop-load.found (load_at ls i).zone rest
+          ∙ lowest_more c.loop-load.found (load_at ls i).zone rest
           ∙ ap (λ o. lowest_of c.loop-load.found o) (sym counts) ∙ c.loop-load.invariant
       | else-load w ↦
           let same : zone_from c.args.lowest (online_placed (drop i ls)) ≡ rest = elim w.else-load.branch [
@@ -31,4 +31,4 @@ pub returns : goal.returns
 unfolding zone_from
 returns c =
     sym (lowest_none c.loop-load.found)
-        ∙ (rw (past_end c.args.loads.now c.loop-load.load-index c.loop-load-test.false) at c.loop-load.invariant)
+    ∙ (rw (past_end c.args.loads.now c.loop-load.load-index c.loop-load-test.false) at c.loop-load.invariant)

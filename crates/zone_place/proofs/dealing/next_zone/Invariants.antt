@@ -7,4 +7,4 @@ use Rattle.zone_place.proofs.dealing.next_zone.Given as goal
 abbrev pub invariant-loop-load : goal.invariant-loop-load
 invariant-loop-load l =
     lowest_of l.found (zone_from l.lowest (online_placed (drop l.load-index l.loads))) ≡ zone_from l.lowest
-        (online_placed l.loads)
+    (online_placed l.loads)

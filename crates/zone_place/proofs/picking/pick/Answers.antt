@@ -29,11 +29,11 @@ unfolding first_of
 returns-in-Some c =
     ap (λ (o : Option ZoneLoad). option_map (λ (l : ZoneLoad). l.drive) o)
     (sym c.in-Some.is ∙ sym (first_none c.loop-load.found)
-        ∙ (rw (past_end c.args.loads.now c.loop-load.load-index c.loop-load-test.false) at c.loop-load.invariant))
+    ∙ (rw (past_end c.args.loads.now c.loop-load.load-index c.loop-load-test.false) at c.loop-load.invariant))
 
 pub returns-in-None : goal.returns-in-None
 unfolding first_of
 returns-in-None c =
     ap (λ (o : Option ZoneLoad). option_map (λ (l : ZoneLoad). l.drive) o)
     (sym c.in-None.is ∙ sym (first_none c.loop-load.found)
-        ∙ (rw (past_end c.args.loads.now c.loop-load.load-index c.loop-load-test.false) at c.loop-load.invariant))
+    ∙ (rw (past_end c.args.loads.now c.loop-load.load-index c.loop-load-test.false) at c.loop-load.invariant))

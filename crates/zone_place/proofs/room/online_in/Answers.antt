@@ -10,6 +10,6 @@ pub returns : goal.returns
 returns c =
     count_from_yields_List c.filter.result _ c.count.ensures.ran
     (YieldsList-from_filter _ (λ (l : ZoneLoad). l.online && (l.zone == c.args.zone))
-        (YieldsList-from_slice c.args.loads.now cc) c.filter.ensures.closure
+    (YieldsList-from_slice c.args.loads.now cc) c.filter.ensures.closure
     (λ x b q k. search (rules, tests)))
     ∙ online_within c.args.zone c.args.loads.now

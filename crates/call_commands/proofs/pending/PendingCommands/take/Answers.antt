@@ -28,5 +28,5 @@ returns-clause-left c =
     ∙ ap (λ xs. others xs c.args.nonce) c.self.view_is
     ∙ sym (left_is c.args.self.now c.args.nonce c.remove.result
     (ap is_some (sym (kept_drive c.args.drive c.remove.result (sym (ap is_some e) ∙ sym c.has.ensures ∙ c.if-not-has.false))
-        ∙ sym e) ∙ sym c.has.ensures ∙ c.if-not-has.false)
+    ∙ sym e) ∙ sym c.has.ensures ∙ c.if-not-has.false)
     (λ a x. nonce_there c.args.nonce c.self.inside.by_nonce.entries a c.self.invariant (sym c.remove.ensures.value ∙ x)))

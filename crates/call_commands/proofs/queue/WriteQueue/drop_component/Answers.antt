@@ -10,6 +10,6 @@ use Rattle.call_commands.proofs.queue.WriteQueue.drop_component.Goals as goal
 pub returns : goal.returns
 returns c =
     ap present (filter_same _ (λ (x : Option Store). is_to_other x c.args.component) _
-        (λ x b q k. search (rules, tests)) _ _ c.retain.ensures.filtered)
+    (λ x b q k. search (rules, tests)) _ _ c.retain.ensures.filtered)
     ∙ kept_present c.self.inside.places.items c.args.component
     ∙ ap (without_component c.args.component) c.self.view_is

@@ -6,7 +6,7 @@ use Rattle.call_commands.proofs.queue.WriteQueue.push.Goals as goal
 pub invariant_of-self-2 : goal.invariant_of-self-2
 invariant_of-self-2 c =
     rw c.in_ok-push.ensures.items
-        (push_stand c.self.inside.first_place.entries c.self.inside.places.items c.args.write c.self.invariant)
+    (push_stand c.self.inside.first_place.entries c.self.inside.places.items c.args.write c.self.invariant)
 
 pub returns-clause-ok : goal.returns-clause-ok
 returns-clause-ok c =

@@ -14,16 +14,16 @@ pub returns-in_default-clause-left : goal.returns-in_default-clause-left
 returns-in_default-clause-left c =
     let n : NoneBefore c.self.inside.places.items c.args.component (length c.self.inside.places.items) = search rules in
     sym c.self.view_is ∙ sym (none_without c.self.inside.places.items c.args.component n)
-        ∙ ap (without_next c.args.component) c.self.view_is
+    ∙ ap (without_next c.args.component) c.self.view_is
 
 pub returns-clause-next : goal.returns-clause-next
 returns-clause-next c =
     let f : IsFirstTo c.self.inside.places.items c.args.component c.in-Some.place = search rules in
     ap option_to_list c.take_at.ensures.taken ∙ sym (there_next c.self.inside.places.items c.args.component c.in-Some.place f)
-        ∙ ap (next_to c.args.component) c.self.view_is
+    ∙ ap (next_to c.args.component) c.self.view_is
 
 pub returns-clause-left : goal.returns-clause-left
 returns-clause-left c =
     let f : IsFirstTo c.self.inside.places.items c.args.component c.in-Some.place = search rules in
     ap present c.take_at.ensures.left ∙ there_without c.self.inside.places.items c.args.component c.in-Some.place f
-        ∙ ap (without_next c.args.component) c.self.view_is
+    ∙ ap (without_next c.args.component) c.self.view_is

@@ -10,11 +10,14 @@ use Rattle.data_map.proofs.map.DataMap.extents.Goals as goal
 pub loop-number-init : goal.loop-number-init
 loop-number-init c =
     let none : c.args.off / c.raw-unit.result.unit - c.args.off / c.raw-unit.result.unit ≡ 0 = omega arith in
-    let some : 0 < c.raw-unit.result.unit = rw c.raw-unit.ensures.value c.raw-unit.ensures.usable.some_unit in
-    (omega arith,
-        omega (arith,
-        div_mono c.args.off (c.args.off + c.args.len - 1) c.raw-unit.result.unit some (omega (arith, c.if-len-eq0.false))),
-        rw none c.new-parts.ensures)
+    let some : 0 < c.raw-unit.result.unit = rw c.raw-unit.ensures.value c.raw-unit.ensures.usable.some_unit in (
+      omega arith,
+      omega (
+        arith,
+        div_mono c.args.off (c.args.off + c.args.len - 1) c.raw-unit.result.unit some (omega (arith, c.if-len-eq0.false)),
+      ),
+      rw none c.new-parts.ensures,
+    )
 
 pub loop-number-preserved : goal.loop-number-preserved
 loop-number-preserved c =
@@ -34,7 +37,7 @@ pub returns-clause-exact : goal.returns-clause-exact
 returns-clause-exact c =
     let m = c.args.self.now in
     let at_end : c.loop-number.number ≡ (c.args.off + c.args.len - 1) / c.raw-unit.result.unit + 1 =
-        omega (arith, c.loop-number.invariant.1, c.loop-number-test.false) in
+    omega (arith, c.loop-number.invariant.1, c.loop-number-test.false) in
     let unit : c.raw-unit.result.unit ≡ m.unit = ap (λ (r : RawMap). r.unit) c.raw-unit.ensures.value in
     rw (ne_eqb c.args.len 0 c.if-len-eq0.false) (rw (at_end, unit) at c.loop-number.invariant.2)
 
@@ -42,7 +45,7 @@ pub returns-clause-bytes : goal.returns-clause-bytes
 returns-clause-bytes c =
     let m = c.args.self.now in
     let at_end : c.loop-number.number ≡ (c.args.off + c.args.len - 1) / c.raw-unit.result.unit + 1 =
-        omega (arith, c.loop-number.invariant.1, c.loop-number-test.false) in
+    omega (arith, c.loop-number.invariant.1, c.loop-number-test.false) in
     let unit : c.raw-unit.result.unit ≡ m.unit = ap (λ (r : RawMap). r.unit) c.raw-unit.ensures.value in
     rw (rw (at_end, unit) at c.loop-number.invariant.2)
-        (rw (ne_eqb c.args.len 0 c.if-len-eq0.false) at (extents_bytes m c.args.off c.args.len c.raw-unit.ensures.usable))
+    (rw (ne_eqb c.args.len 0 c.if-len-eq0.false) at (extents_bytes m c.args.off c.args.len c.raw-unit.ensures.usable))

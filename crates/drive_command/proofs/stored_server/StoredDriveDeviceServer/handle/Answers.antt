@@ -17,7 +17,7 @@ returns-in-Ok-clause-ok g c = record {
     omega arith,
     λ content left. subst (λ d. IsStoreOf d content) c.in-Ok.ensures.state
         (stays g.D.Disk.tells g.D.Disk.seen g.D.Disk.may_leave g.D.Disk.moment g.D.Disk.left_since g.met.D.Disk.only_now
-            c.handle.new.self content (c.in-Ok.ensures.kept kept) left),
+        c.handle.new.self content (c.in-Ok.ensures.kept kept) left),
   );
 }
 

@@ -8,5 +8,5 @@ pub returns : goal.returns
 unfolding hmac
 returns c = λ key text h.
     let first : c.finalize-first.result ≡ sha256 (padded INNER_PAD (key_of sha256 key) ++ text) =
-        c.finalize-first.ensures _ h.inner in
+    c.finalize-first.ensures _ h.inner in
     c.finalize.ensures _ (c.update.ensures _ h.outer) ∙ rw first refl

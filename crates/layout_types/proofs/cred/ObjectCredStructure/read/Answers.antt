@@ -8,7 +8,7 @@ use Rattle.layout_types.proofs.cred.ObjectCredStructure.read.Goals as goal
 pub returns-clause-found : goal.returns-clause-found
 returns-clause-found c =
     all_found cred_in cred_item CredFits cred_codec c.args.bytes.now
-        (λ i. omega (arith, c.type_inv.bytes i)) c.read_all.result c.read_all.ensures
+    (λ i. omega (arith, c.type_inv.bytes i)) c.read_all.result c.read_all.ensures
 
 pub returns-clause-only : goal.returns-clause-only
 returns-clause-only c = all_only cred_in cred_item CredFits cred_codec c.args.bytes.now c.read_all.result c.read_all.ensures
@@ -16,4 +16,4 @@ returns-clause-only c = all_only cred_in cred_item CredFits cred_codec c.args.by
 pub returns-clause-alone : goal.returns-clause-alone
 returns-clause-alone c =
     all_alone cred_in cred_item CredFits cred_codec c.args.bytes.now
-        (λ i. omega (arith, c.type_inv.bytes i)) c.read_all.result c.read_all.ensures
+    (λ i. omega (arith, c.type_inv.bytes i)) c.read_all.result c.read_all.ensures

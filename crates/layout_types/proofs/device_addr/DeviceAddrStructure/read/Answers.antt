@@ -8,7 +8,7 @@ use Rattle.layout_types.proofs.device_addr.DeviceAddrStructure.read.Goals as goa
 pub returns-clause-found : goal.returns-clause-found
 returns-clause-found c =
     all_found deviceaddr_in deviceaddr_item DeviceAddrFits deviceaddr_codec c.args.bytes.now
-        (λ i. omega (arith, c.type_inv.bytes i)) c.read_all.result c.read_all.ensures
+    (λ i. omega (arith, c.type_inv.bytes i)) c.read_all.result c.read_all.ensures
 
 pub returns-clause-only : goal.returns-clause-only
 returns-clause-only c =
@@ -17,4 +17,4 @@ returns-clause-only c =
 pub returns-clause-alone : goal.returns-clause-alone
 returns-clause-alone c =
     all_alone deviceaddr_in deviceaddr_item DeviceAddrFits deviceaddr_codec c.args.bytes.now
-        (λ i. omega (arith, c.type_inv.bytes i)) c.read_all.result c.read_all.ensures
+    (λ i. omega (arith, c.type_inv.bytes i)) c.read_all.result c.read_all.ensures

@@ -7,4 +7,4 @@ use Rattle.layout_types.proofs.device_addr.DeviceAddrStructure.write.Goals as go
 pub returns-clause-read_back : goal.returns-clause-read_back
 returns-clause-read_back c =
     all_read_back deviceaddr_in deviceaddr_item DeviceAddrFits deviceaddr_codec c.args.self.now c.write_all.result
-        c.write_all.ensures.spelled c.write_all.ensures.fits
+    c.write_all.ensures.spelled c.write_all.ensures.fits

@@ -8,7 +8,7 @@ use Rattle.layout_types.proofs.ioerrs.IoErrsStructure.read.Goals as goal
 pub returns-clause-found : goal.returns-clause-found
 returns-clause-found c =
     all_found ioerrs_in ioerrs_item IoErrsFits ioerrs_codec c.args.bytes.now
-        (λ i. omega (arith, c.type_inv.bytes i)) c.read_all.result c.read_all.ensures
+    (λ i. omega (arith, c.type_inv.bytes i)) c.read_all.result c.read_all.ensures
 
 pub returns-clause-only : goal.returns-clause-only
 returns-clause-only c =
@@ -17,4 +17,4 @@ returns-clause-only c =
 pub returns-clause-alone : goal.returns-clause-alone
 returns-clause-alone c =
     all_alone ioerrs_in ioerrs_item IoErrsFits ioerrs_codec c.args.bytes.now
-        (λ i. omega (arith, c.type_inv.bytes i)) c.read_all.result c.read_all.ensures
+    (λ i. omega (arith, c.type_inv.bytes i)) c.read_all.result c.read_all.ensures

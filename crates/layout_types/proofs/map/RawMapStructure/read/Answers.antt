@@ -8,7 +8,7 @@ use Rattle.layout_types.proofs.map.RawMapStructure.read.Goals as goal
 pub returns-clause-found : goal.returns-clause-found
 returns-clause-found c =
     all_found map_in map_item MapFits map_codec c.args.bytes.now
-        (λ i. omega (arith, c.type_inv.bytes i)) c.read_all.result c.read_all.ensures
+    (λ i. omega (arith, c.type_inv.bytes i)) c.read_all.result c.read_all.ensures
 
 pub returns-clause-only : goal.returns-clause-only
 returns-clause-only c = all_only map_in map_item MapFits map_codec c.args.bytes.now c.read_all.result c.read_all.ensures
@@ -16,4 +16,4 @@ returns-clause-only c = all_only map_in map_item MapFits map_codec c.args.bytes.
 pub returns-clause-alone : goal.returns-clause-alone
 returns-clause-alone c =
     all_alone map_in map_item MapFits map_codec c.args.bytes.now
-        (λ i. omega (arith, c.type_inv.bytes i)) c.read_all.result c.read_all.ensures
+    (λ i. omega (arith, c.type_inv.bytes i)) c.read_all.result c.read_all.ensures

@@ -6,5 +6,11 @@ use Rattle.layout_types.proofs.show.ObjectCredShow.show.Goals as goal
 pub returns : goal.returns
 unfolding cred_lines
 returns c = on_ok c.put_bytes-2.result c.put_bytes-2.ensures
-    (λ e. e ∙ rw (c.in_ok-put_bytes.ensures, c.in_ok-put_u32-2.ensures, c.in_ok-put_u32.ensures, c.in_ok-show_part.ensures,
-    c.number.ensures.number, c.number-2.ensures.number) (one_after_another c.args.out.now _ (_ ∷ _ ∷ _ ∷ _ ∷ [])))
+    (λ e. e ∙ rw (
+      c.in_ok-put_bytes.ensures,
+      c.in_ok-put_u32-2.ensures,
+      c.in_ok-put_u32.ensures,
+      c.in_ok-show_part.ensures,
+      c.number.ensures.number,
+      c.number-2.ensures.number,
+    ) (one_after_another c.args.out.now _ (_ ∷ _ ∷ _ ∷ _ ∷ [])))

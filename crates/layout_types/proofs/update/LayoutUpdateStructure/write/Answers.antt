@@ -7,4 +7,4 @@ use Rattle.layout_types.proofs.update.LayoutUpdateStructure.write.Goals as goal
 pub returns-clause-read_back : goal.returns-clause-read_back
 returns-clause-read_back c =
     all_read_back update_in update_item UpdateFits update_codec c.args.self.now c.write_all.result c.write_all.ensures.spelled
-        c.write_all.ensures.fits
+    c.write_all.ensures.fits

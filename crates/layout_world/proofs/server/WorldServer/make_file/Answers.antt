@@ -14,13 +14,13 @@ pub returns-in-Ok : goal.returns-in-Ok
 returns-in-Ok g c =
     IfOk-weaker c.did.result _ _ (λ act h.
     made_by c.args.self.now _ _ c.args.file c.args.file (raw_of c.args.map.now)
-        (raw_of c.args.map.now) c.args.tag c.args.zoned _ c.did.new.self act
+    (raw_of c.args.map.now) c.args.tag c.args.zoned _ c.did.new.self act
     c.if-not-has_algorithm.ensures.value refl refl refl c.in-Ok.ensures.made h) c.did.ensures
 
 pub returns-in-Err : goal.returns-in-Err
 returns-in-Err g c =
     IfOk-weaker c.tell_refusal.result _ _ (λ act h.
     refused_by c.args.self.now _ _ c.args.file c.args.file (raw_of c.args.map.now)
-        (raw_of c.args.map.now) c.args.tag c.args.zoned _ _ act
+    (raw_of c.args.map.now) c.args.tag c.args.zoned _ _ act
     c.if-not-has_algorithm.ensures.value refl refl refl
     c.in-Err.ensures.refused h refl c.in-Err.ensures.mended) c.tell_refusal.ensures

@@ -28,4 +28,4 @@ returns-in-Ok-clause-watches g c =
     c.args.lines.now c.carry_out.new.lines c.args.self.now _ (returns-in-Ok-clause-steps g c)
     (λ long. subst (λ (x : WorldState). HasSeen c.carry_out.new.parties.network.messages
     (drop (length c.args.lines.now) c.carry_out.new.lines) x.watch c.carry_out.new.watch) c.self.view_is
-        (c.in-Ok.ensures.seen long))
+    (c.in-Ok.ensures.seen long))

@@ -8,13 +8,13 @@ pub invariant_of-self : goal.invariant_of-self
 invariant_of-self c =
     rw (c.get_mut.follows.holds c.set_attr.new.self).0
     (counted_same _ _ _ c.args.object c.in-Some.found.now c.set_attr.new.self (sym c.in-Some.ensures.value)
-        (ap length_of c.in_err-set_attr.ensures.err) c.self.invariant)
+    (ap length_of c.in_err-set_attr.ensures.err) c.self.invariant)
 
 pub returns-in_err-set_attr-clause-err : goal.returns-in_err-set_attr-clause-err
 returns-in_err-set_attr-clause-err c =
     let same = (c.get_mut.follows.holds c.set_attr.new.self).0
-        ∙ written_back _ c.args.object c.in-Some.found.now c.set_attr.new.self
-            (sym c.in-Some.ensures.value) c.in_err-set_attr.ensures.err in
+    ∙ written_back _ c.args.object c.in-Some.found.now c.set_attr.new.self
+    (sym c.in-Some.ensures.value) c.in_err-set_attr.ensures.err in
     rw same (search (rules, c.self.view_is))
 
 pub invariant_of-self-2 : goal.invariant_of-self-2
@@ -22,6 +22,6 @@ invariant_of-self-2 c = elim c.match-get_mut.branch [
   | in-Some+in_ok-set_attr w ↦
       rw (w.self-inside-is, (c.get_mut.follows.holds w.set_attr.new.self).0)
       (counted_same _ _ _ c.args.object w.in-Some.found.now w.set_attr.new.self (sym w.in-Some.ensures.value)
-          (ap length_of w.in_ok-set_attr.ensures.ok) c.self.invariant)
+      (ap length_of w.in_ok-set_attr.ensures.ok) c.self.invariant)
   | in_default w ↦ rw (w.self-inside-is, c.get_mut.follows.holds-at-none) c.self.invariant
 ]

@@ -9,6 +9,6 @@ invariant_of-self c = elim c.match-get_mut.branch [
   | in-Some w ↦
       rw (w.self-inside-is, (c.get_mut.follows.holds w.set_tag.new.self).0)
       (counted_same _ _ _ c.args.object w.in-Some.found.now w.set_tag.new.self (sym w.in-Some.ensures.value)
-          (ap length_of w.set_tag.ensures) c.self.invariant)
+      (ap length_of w.set_tag.ensures) c.self.invariant)
   | in_default w ↦ rw (w.self-inside-is, c.get_mut.follows.holds-at-none) c.self.invariant
 ]

@@ -10,7 +10,7 @@ returns-in-Err-clause-err g c = λ m may.
     let split : c.args.events.items ≡ c.loop-event.yielded ++ c.in-Some.event ∷ c.next.new.self.rest.items = search rules in
     stops_among c.args.events.items c.loop-event.yielded c.next.new.self.rest.items c.in-Some.event c.in-Err.stop split
     (c.in-Err.ensures.err c.loop-event.yielded
-        (c.loop-event.invariant.made m (fit_front c.loop-event.yielded (c.in-Some.event ∷ c.next.new.self.rest.items)
+    (c.loop-event.invariant.made m (fit_front c.loop-event.yielded (c.in-Some.event ∷ c.next.new.self.rest.items)
     (subst (λ (es : List Event). EventsFit es) split may))))
 
 pub loop-event-preserved : goal.loop-event-preserved

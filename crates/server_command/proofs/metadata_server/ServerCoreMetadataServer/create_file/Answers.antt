@@ -9,4 +9,4 @@ returns-in-Ok-clause-ok g c =
 pub returns-in-Err-clause-err : goal.returns-in-Err-clause-err
 returns-in-Err-clause-err g c =
     core_not _ _ _ _ _ c.in-Err.e c.make_err_of.result c.make_err_of.ensures.refused c.make_err_of.ensures.memory
-        c.in-Err.ensures.refused
+    c.in-Err.ensures.refused

@@ -8,7 +8,7 @@ use Rattle.server_entries.proofs.record.RecordStructure.read.Goals as goal
 pub returns-clause-found : goal.returns-clause-found
 returns-clause-found c =
     all_found record_in record_item RecordFits record_codec c.args.bytes.now
-        (λ i. omega (arith, c.type_inv.bytes i)) c.read_all.result c.read_all.ensures
+    (λ i. omega (arith, c.type_inv.bytes i)) c.read_all.result c.read_all.ensures
 
 pub returns-clause-only : goal.returns-clause-only
 returns-clause-only c =
@@ -17,4 +17,4 @@ returns-clause-only c =
 pub returns-clause-alone : goal.returns-clause-alone
 returns-clause-alone c =
     all_alone record_in record_item RecordFits record_codec c.args.bytes.now
-        (λ i. omega (arith, c.type_inv.bytes i)) c.read_all.result c.read_all.ensures
+    (λ i. omega (arith, c.type_inv.bytes i)) c.read_all.result c.read_all.ensures

@@ -8,5 +8,5 @@ abbrev pub invariant-loop-component : goal.invariant-loop-component
 invariant-loop-component l =
     (d : ℕ) → d < MAX_DRIVES →
     (slice_index l.self d + standing d l.fn.components ≡ slice_index l.fn.self d + standing d
-        (drop l.component-index l.fn.components))
+    (drop l.component-index l.fn.components))
     × (standing d l.fn.components ≤ slice_index l.fn.self d)

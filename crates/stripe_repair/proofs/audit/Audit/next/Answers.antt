@@ -5,5 +5,5 @@ pub returns : goal.returns
 returns c =
     let s = c.self.inside in
     rw (← c.self.view_is)
-        (next_audits c.inspect_on.result c.args.kept.now c.args.nonce s.todo c.inspect_on.new.todo
-        (record { lengths = s.lengths; short = s.short; bad = s.bad }) c.inspect_on.new.short c.inspect_on.ensures.exact)
+    (next_audits c.inspect_on.result c.args.kept.now c.args.nonce s.todo c.inspect_on.new.todo
+    (record { lengths = s.lengths; short = s.short; bad = s.bad }) c.inspect_on.new.short c.inspect_on.ensures.exact)

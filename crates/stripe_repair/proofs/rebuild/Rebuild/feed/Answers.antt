@@ -13,8 +13,8 @@ returns-in-Some-write-clause-rules c = λ g at.
     let s = c.self.inside in
     let write = rw (c.as_slice.ensures, c.in_ok-bytes.ensures.value) at c.in_ok-write.ensures in
     rw (← c.self.view_is)
-        (gathered_stores c.args.kept.now c.args.nonce g s.target s.todo c.args.heard.now c.in-Some.piece c.in-Some-write.write at
-        (sym c.first.ensures ∙ c.in-Some.is) (sym write ∙ c.in-Some-write.is))
+    (gathered_stores c.args.kept.now c.args.nonce g s.target s.todo c.args.heard.now c.in-Some.piece c.in-Some-write.write at
+    (sym c.first.ensures ∙ c.in-Some.is) (sym write ∙ c.in-Some-write.is))
 
 pub next-requires-clause-pieces : goal.next-requires-clause-pieces
 next-requires-clause-pieces c =
@@ -22,7 +22,7 @@ next-requires-clause-pieces c =
     elim c.match-first.branch [
       | in-Some+in_ok-bytes+in_ok-write+in_default-write w ↦
           rw (w.self-is, w.advance.ensures)
-              (All-drop (IsPieceOf c.args.kept.now.map s.target) 1 s.todo (rw (← c.self.view_is) at c.requires.pieces))
+          (All-drop (IsPieceOf c.args.kept.now.map s.target) 1 s.todo (rw (← c.self.view_is) at c.requires.pieces))
       | in_default w ↦ rw w.self-is c.requires.pieces
     ]
 
@@ -34,14 +34,14 @@ returns-clause-rules c =
       | in-Some+in_ok-bytes+in_ok-write+in_default-write w ↦
           let write = rw (w.as_slice.ensures, w.in_ok-bytes.ensures.value) at w.in_ok-write.ensures in
           same_fill c.next.result f c.args.nonce (λ g. gathered g s.target s.todo c.args.heard.now)
-              (λ g. fills g s.target (drop 1 s.todo)) c.next.new.self
+          (λ g. fills g s.target (drop 1 s.todo)) c.next.new.self
           (λ g at. gathered_past f c.args.nonce g s.target s.todo c.args.heard.now w.in-Some.piece at
-              (sym c.first.ensures ∙ w.in-Some.is) (sym write ∙ none_but w.in_ok-write.write w.in_default-write.not-Some))
+          (sym c.first.ensures ∙ w.in-Some.is) (sym write ∙ none_but w.in_ok-write.write w.in_default-write.not-Some))
           (rw (w.self-is, w.advance.ensures) at c.next.ensures.rules)
       | in_default w ↦
           same_fill c.next.result f c.args.nonce (λ g. gathered g s.target s.todo c.args.heard.now)
-              (λ g. fills g s.target s.todo) c.next.new.self
+          (λ g. fills g s.target s.todo) c.next.new.self
           (λ g at. gathered_ends g s.target s.todo c.args.heard.now
-              (sym c.first.ensures ∙ none_but c.first.result w.in_default.not-Some))
+          (sym c.first.ensures ∙ none_but c.first.result w.in_default.not-Some))
           (rw (w.self-is, ← c.self.view_is) at c.next.ensures.rules)
     ])

@@ -8,4 +8,4 @@ invariant_of-result c = omega (arith, c.requires.component, c.known.ensures.few_
 pub returns-clause-pieces : goal.returns-clause-pieces
 returns-clause-pieces c =
     rw (c.new.ensures, c.group_with-group.ensures)
-        (pieces_of_target c.args.map c.args.target c.args.high c.known.ensures c.requires.high)
+    (pieces_of_target c.args.map c.args.target c.args.high c.known.ensures c.requires.high)

@@ -7,5 +7,5 @@ use Rattle.world_calm.proofs.marks.Marks.finish.Goals as goal
 pub returns : goal.returns
 returns c =
     filter_same _ (λ (m : Marked). not (m.write == c.args.write)) _
-        (λ x b q k. search (rules, tests)) _ _ c.retain.ensures.filtered
+    (λ x b q k. search (rules, tests)) _ _ c.retain.ensures.filtered
     ∙ ap (λ ms. unmarked ms c.args.write) c.self.view_is

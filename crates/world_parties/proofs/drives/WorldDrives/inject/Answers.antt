@@ -7,5 +7,5 @@ pub returns-in_err-judge-in-Some-clause-err : goal.returns-in_err-judge-in-Some-
 returns-in_err-judge-in-Some-clause-err c =
     rw ((c.get_mut.follows.holds c.judge.new.self).0, sym c.self.view_is, sym c.number.ensures.number)
     (on_err _ _ (injected_or c.self.inside.by_number.entries c.number.result
-        (reading c.args.bytes.now) c.in-Some.found.now c.judge.new.self
+    (reading c.args.bytes.now) c.in-Some.found.now c.judge.new.self
     (sym c.in-Some.ensures.value) c.in_err-judge-in-Some.ensures.err))

@@ -1,7 +1,0 @@
-use Rattle.std.specs.Prelude.{◌≡◌, ◌++◌, drop}
-use Rattle.kept_server.specs.FileDifferences.{issued_of}
-use Rattle.kept_server.proofs.file_differences.add_issued.Given as goal
-
-abbrev pub invariant-loop-grant : goal.invariant-loop-grant
-invariant-loop-grant l =
-    l.entries ++ issued_of l.fn.old (drop l.grant-index l.fn.grants) ≡ l.fn.entries ++ issued_of l.fn.old l.fn.grants

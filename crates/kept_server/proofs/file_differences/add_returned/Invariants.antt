@@ -1,7 +1,0 @@
-use Rattle.std.specs.Prelude.{◌≡◌, ◌++◌, drop}
-use Rattle.kept_server.specs.FileDifferences.{returned_of}
-use Rattle.kept_server.proofs.file_differences.add_returned.Given as goal
-
-abbrev pub invariant-loop-was : goal.invariant-loop-was
-invariant-loop-was l =
-    l.entries ++ returned_of (drop l.was-index l.fn.old) l.fn.grants ≡ l.fn.entries ++ returned_of l.fn.old l.fn.grants

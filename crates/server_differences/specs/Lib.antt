@@ -1,0 +1,4 @@
+pub mod Views
+pub mod Sameness
+pub mod FileDifferences
+pub mod Differences

@@ -1,0 +1,12 @@
+//! What a step changes of what a metadata server keeps, as entries; and whether a copy is what it keeps.
+//!
+//! [`differences`] has the entries that make what is kept now of what was kept before. [`is_mirror`] tells whether a state
+//! without jobs stands for what a server keeps.
+#![tactic(auto)]
+
+mod differences;
+mod file_differences;
+mod sameness;
+
+pub use differences::differences;
+pub use sameness::is_mirror;
