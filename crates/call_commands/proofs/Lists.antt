@@ -1,9 +1,12 @@
 -- Lists that are read from the front.
-use Rattle.std.proofs.Common.{◌≡◌, ◌≤◌, ℕ, zero, suc, ◌+◌, ◌++◌, List, [], ◌∷◌, length, drop, refl, ap, ◌∙◌, arith, true, false}
-use Rattle.std.specs.Prelude.{nat_lt, slice_get, Some}
+use Rattle.std.proofs.Common.{◌≡◌, ◌≤◌, ℕ, zero, suc, ◌+◌, ◌++◌, List, [], ◌∷◌, length, drop, refl, ap, ◌∙◌, arith, inl, inr, true, false}
+use Rattle.std.specs.Prelude.{nat_lt, is_some, slice_get, Some}
+use Rattle.std.proofs.lemmas.Bool.{cases_Bool}
 use Rattle.std.proofs.Math.ListN.{drop_of_length-le}
+use Rattle.client_rules.specs.declared.grants.Listed.{Listed}
 use Rattle.client_rules.specs.Io.{timed_with}
 use Rattle.call_commands.specs.State.{TimedOut}
+use Rattle.client_rules.specs.Grants.{missing_from}
 
 -- from one member on
 pub drop_at : {X : Type 0} (xs : List X) (i : ℕ) (x : X) → slice_get xs i ≡ Some x → drop i xs ≡ x ∷ drop (i + 1) xs
@@ -41,3 +44,12 @@ timed_behind one ts i other e t = ap (timed_with one) (drop_at ts i other e) ∙
 
 pub timed_end : (one : TimedOut) (ts : List TimedOut) (i : ℕ) → length ts ≤ i → timed_with one (drop i ts) ≡ one ∷ []
 timed_end one ts i l = timed_last one (drop i ts) (drop_of_length-le ts l)
+
+-- ---- of the missing components
+pub missing_step : (l : Listed) (ls : List Listed) (k : ℕ) →
+    missing_from (l ∷ ls) k ≡ missing_from (l ∷ []) k ++ missing_from ls (k + 1)
+unfolding missing_from
+missing_step l ls k = elim (cases_Bool (is_some l.credential)) [
+  | inl t ↦ rw t refl
+  | inr f ↦ rw f refl
+]

@@ -1,3 +1,5 @@
 pub mod SameFile
 pub mod Taking
 pub mod Moves
+pub mod Hearings
+pub mod Resending

@@ -170,3 +170,9 @@ pub part_below : (m : RawMap) (parts : List Part) (p : ℕ) (i : Interval) (ns :
     Sifts p i (stretches_of (columns_of m parts)) 0 ns → (j : ℕ) → j < length ns → get_or ns j 0 < length parts
 part_below m parts p i ns s j lt =
     omega (arith, picked_below (columns_of m parts) p i ns s j lt, length-map parts (part_column m))
+
+pub chosen_below : (ts : List Stretch) (p : ℕ) (i : Interval) (ns : List ℕ) → Sifts p i ts 0 ns → (j : ℕ) → j < length ns →
+    get_or ns j 0 < length ts
+chosen_below ts p i ns s j lt = sifted_below p i ts 0 (length ts) ns (omega arith) s j lt
+
+-- ---- an index that is made

@@ -1,3 +1,4 @@
 pub mod Short
 pub mod Mapped
 pub mod Last
+pub mod Places

@@ -11,7 +11,7 @@ use Rattle.drive_store.proofs.ContentLaws.{one_drive, refused_is_none}
 use Rattle.world_history.specs.Drives.{first_key}
 use Rattle.world_parties.specs.declared.backing.DriveMake.{DriveMake}
 use Rattle.world_parties.specs.declared.backing.Backing.TheVariants.{Stored, Resting}
-use Rattle.world_parties.specs.Backing.{IsOnDisk, IsOwnStore, Rests, Stays, drive_on}
+use Rattle.world_parties.specs.Backing.{IsOnDisk, IsOpened, IsOwnStore, Rests, Stays, drive_on}
 use Rattle.world_parties.specs.Drive.{IsMadeOf}
 use Rattle.world_parties.proofs.StoreOn.{drive_is}
 
@@ -48,6 +48,28 @@ module _ (made : DriveMake) where
       IsNoStoreAt keys (bytes_of disk) at → ⊥
   no_refusal disk keys at rests own none =
       refused_is_none keys (bytes_of disk) at none (drive_on made (bytes_of disk)) rests.store (rests.made_of.keys_are ∙ sym own)
+
+  pub again : (disk : Medium) (store : StoredDrive Medium) → Rests made disk → IsOpened (drive_on made (bytes_of disk)) store
+      → Stays made (Resting disk) (Stored store)
+  again disk store rests o = record {
+    state = o.drive_is;
+    stands = record {
+      stored = rests.stored;
+      made_of = subst (λ (d : DriveState). IsMadeOf made d) (sym o.drive_is) rests.made_of;
+      on_disk = λ on. o.on_disk;
+    };
+  }
+
+  -- a disk that comes back has the same bytes
+  pub came_back : (old new : Medium) → Rests made old → bytes_of new ≡ bytes_of old → Stays made (Resting old) (Resting new)
+  came_back old new rests same = record {
+    state = ap (λ (c : List ℕ). drive_on made c) same;
+    stands = record {
+      stored = rests.stored;
+      made_of = subst (λ (c : List ℕ). IsMadeOf made (drive_on made c)) (sym same) rests.made_of;
+      store = subst (λ (c : List ℕ). IsStoreOf (drive_on made c) c) (sym same) rests.store;
+    };
+  }
 
   -- a store after a command that was answered, and after one that wasn't
   pub own_answered : (old new : StoredDrive Medium) (after : DriveState) → IsOwnStore made old → IsMadeOf made after →

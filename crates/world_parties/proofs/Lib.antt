@@ -6,3 +6,4 @@ mod StoreOn
 mod Wants
 mod Made
 mod Backings
+pub mod Refused
