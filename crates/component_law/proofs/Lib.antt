@@ -47,16 +47,12 @@ pub mod Servers
 pub mod Moves
 pub mod Keys
 pub mod Sealing
-mod Fewer
-mod SizeSteps
-mod SizeServing
 pub mod Server
 mod Kept
 mod Client
 pub mod PartyAnswering
 mod Knowing
 pub mod SizeMoments
-pub mod Listing
 pub mod PartyKeeping
 pub mod Offline
 pub mod DrivesKnown

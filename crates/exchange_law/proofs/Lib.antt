@@ -80,7 +80,7 @@ pub mod HeldTaken
 pub mod HeldMoving
 pub mod HeldGoing
 pub mod HeldStepping
-mod Grants
+pub mod Grants
 pub mod HeldServing
 pub mod HeldSteps
 pub mod HeldAnswered
