@@ -86,7 +86,9 @@ pub mod HeldSteps
 pub mod HeldAnswered
 pub mod Meeting
 pub mod HeldAsking
+pub mod ClientsWalk
 pub mod HeldWorlds
+pub mod HeldHearing
 mod HeldLines
 mod Ending
 mod Lengths
