@@ -205,8 +205,8 @@ answer_names s now chosen q named = made_names s now chosen q (file_at s.files q
 
 -- ---- a step of the server
 
-may_named : (f : Kept) (client : ℕ) (a : RequestArgs) (v : Served) → MayGive f client a v → client ≤ MAX_CLIENT → AreNamed f.grants
-    → AreNamed v.going.file.kept.grants
+may_named : (f : Kept) (client : ℕ) (a : RequestArgs) (v : Served) → MayGive f client a v → client ≤ MAX_CLIENT
+    → AreNamed f.grants → AreNamed v.going.file.kept.grants
 may_named f client a v may low named c g e = elim (may.grants c g e) [
   | inl old ↦ named c g old
   | inr new ↦ omega (arith, new.0, low)

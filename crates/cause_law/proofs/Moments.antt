@@ -30,7 +30,7 @@ use Rattle.exchange_law.proofs.HeldHearing.{step_is_fine}
 use Rattle.exchange_law.proofs.SlotMoments.{always}
 use Rattle.exchange_law.specs.Meeting.{IsFitting, IsReadableThrough, ClientsAgree}
 use Rattle.exchange_law.proofs.HeldMoving.{IsSame}
-use Rattle.exchange_law.proofs.HeldWorlds.{next_moment, readable_fronts, readable_there}
+use Rattle.exchange_law.proofs.HeldWorlds.{none_held, none_kept, next_moment, readable_fronts, readable_there}
 use Rattle.component_law.proofs.Given.{taken_gives}
 use Rattle.cause_law.proofs.Listed.{ListsAt, lists_at}
 use Rattle.cause_law.proofs.Made.{IsFileAt, AnswerGiven, file_later, SlotsGiven, more, runs_on, step_slots}
@@ -142,13 +142,6 @@ module _ (more_events : OneEventMore) (own : AnswersAreOwn) (agree : ClientsAgre
 
     move_stands : Stands v
     move_stands = by_step (step_of w h k m d)
-
-  none_held : (file : ℕ) (h : Held) → held_of [] file ≡ Some h → ⊥
-  unfolding held_of
-  none_held file h e = cc e
-
-  none_kept : (c : ℕ) (t : Slot) → slot_of empty_world.server.slots c ≡ Some t → ⊥
-  none_kept c t e = cc e
 
   first : Stand empty_world []
   first t = record {

@@ -1,15 +1,13 @@
 -- At each moment what clients hold, and what is kept for them, lists the components that the server has.
-use Rattle.std.proofs.Common.{◌≡◌, ◌++◌, ℕ, [], List, Some, sym, subst}
+use Rattle.std.proofs.Common.{◌++◌, ℕ, List, sym, subst}
 use Rattle.scenario_text.specs.declared.line.Line.{Line}
-use Rattle.client_rules.specs.Grants.{held_of}
 use Rattle.server_rules.specs.History.{step}
 use Rattle.server_rules.specs.Laws.{SlotsAreKept}
-use Rattle.server_rules.specs.Slots.{slot_of}
 use Rattle.world_history.specs.ClientNames.{Held, Listed}
-use Rattle.world_history.specs.ServerNames.{Server, Slot}
+use Rattle.world_history.specs.ServerNames.{Server}
 use Rattle.world_history.specs.History.{OneEventMore}
 use Rattle.world_history.specs.Sending.{move}
-use Rattle.world_history.specs.State.{World, empty_world}
+use Rattle.world_history.specs.State.{World}
 use Rattle.history_law.specs.BookMoments.{IsMoment, lines_in}
 use Rattle.history_law.specs.Grants.{GrantsAreSafe}
 use Rattle.history_law.specs.Parties.{AllPartiesRun}
@@ -20,7 +18,7 @@ use Rattle.exchange_law.proofs.ClientsWalk.{holds_always}
 use Rattle.exchange_law.proofs.Each.{clients_are_in_step}
 use Rattle.exchange_law.proofs.HeldHearing.{step_is_fine}
 use Rattle.exchange_law.proofs.HeldMoving.{IsSame}
-use Rattle.exchange_law.proofs.HeldWorlds.{own_request, next_moment, readable_fronts, readable_there, reached}
+use Rattle.exchange_law.proofs.HeldWorlds.{none_held, none_kept, own_request, next_moment, readable_fronts, readable_there, reached}
 use Rattle.component_law.specs.Listed.{ListsComponents, ComponentsAgree}
 use Rattle.component_law.proofs.DrivesKnown.{AllKnown, all_known}
 use Rattle.component_law.proofs.Given.{KeepKeys}
@@ -31,13 +29,6 @@ use Rattle.component_law.proofs.PartyStepping.{ListsAt, AllFitting, Lists, step_
 same_lists : (s : Server) (c n : ℕ) (h k : Held) → IsSame h k → ListsAt s c n h → ListsAt s c n k
 same_lists s c n h k same lists f g found has =
     subst (λ (ls : List Listed). ListsComponents s.drives f.kept g ls) (sym same.components) (lists f g found has)
-
-none_held : (file : ℕ) (h : Held) → held_of [] file ≡ Some h → ⊥
-unfolding held_of
-none_held file h e = cc e
-
-none_kept : (c : ℕ) (t : Slot) → slot_of empty_world.server.slots c ≡ Some t → ⊥
-none_kept c t e = cc e
 
 module _ (kept : SlotsAreKept) (more : OneEventMore) (run : AllPartiesRun) (safe : GrantsAreSafe) (own : AnswersAreOwn)
     (agree : ClientsAgree) where

@@ -1,5 +1,5 @@
 -- At each moment of a history each client knows the sizes of its files.
-use Rattle.std.proofs.Common.{◌≡◌, ◌⊎◌, ◌++◌, ℕ, List, [], Option, Some, None, Ok, inl, inr, refl, sym, ap, subst, ◌∙◌}
+use Rattle.std.proofs.Common.{◌≡◌, ◌⊎◌, ℕ, List, Option, Some, None, Ok, inl, inr, refl, sym, ap, subst, ◌∙◌}
 use Rattle.osd_lists.specs.declared.node.Node.{Node}
 use Rattle.osd_lists.proofs.Options.{same_some}
 use Rattle.layout_ops.specs.declared.messages.Answer.{Answer}
@@ -13,14 +13,13 @@ use Rattle.client_rules.specs.Messages.{Message, TakesAnswer, takes, on_call}
 use Rattle.client_rules.specs.Results.{status_of}
 use Rattle.server_rules.specs.Files.{file_at}
 use Rattle.server_rules.specs.Grants.{grant_of}
-use Rattle.server_rules.specs.History.{step}
 use Rattle.server_rules.specs.Laws.{SlotsAreKept}
 use Rattle.server_rules.specs.Slots.{slot_of}
 use Rattle.server_rules.proofs.FileLaws.{number_at}
 use Rattle.world_history.specs.ClientNames.{Client, CallOp, Held, Request, TimedOut, Get, Commit, Phase, Waits}
-use Rattle.world_history.specs.ServerNames.{Server, File, Grant, Slot, ClientRequest}
+use Rattle.world_history.specs.ServerNames.{Server, File, Grant, Slot}
 use Rattle.world_history.specs.History.{OneEventMore}
-use Rattle.world_history.specs.State.{World, ClientAt, at_number, empty_world}
+use Rattle.world_history.specs.State.{World, ClientAt, at_number}
 use Rattle.history_law.specs.Grants.{GrantsAreSafe}
 use Rattle.history_law.specs.BookMoments.{IsMoment}
 use Rattle.exchange_law.specs.Doing.{IsHeardByClient}
@@ -29,10 +28,10 @@ use Rattle.exchange_law.specs.Taking.{AnswersAreOwn, TakesOwn}
 use Rattle.exchange_law.proofs.Each.{clients_are_in_step}
 use Rattle.exchange_law.proofs.Granted.{taken_covers}
 use Rattle.exchange_law.specs.Calls.{Knows, CallFine}
-use Rattle.exchange_law.specs.Meeting.{KeptGood, IsMet, IsReadableThrough, ClientsAgree, Reads}
+use Rattle.exchange_law.specs.Meeting.{KeptGood, IsMet, IsReadableThrough, ClientsAgree}
 use Rattle.exchange_law.proofs.ClientsWalk.{holds_always}
 use Rattle.exchange_law.proofs.HeldHearing.{made_file}
-use Rattle.exchange_law.proofs.HeldWorlds.{own_request, readable_fronts, readable_there, reached}
+use Rattle.exchange_law.proofs.HeldWorlds.{none_held, none_kept, own_request, readable_fronts, readable_there, reached}
 use Rattle.component_law.specs.Sizes.{IsCommitted, SizesAgree}
 use Rattle.component_law.proofs.PartyAnswering.{WaitsFor, Tells, taken_size, answer_goes}
 use Rattle.component_law.proofs.Client.{IsCommitting, AskedFine, IsSized, finished_sized, behind, IsGood, step_keeps}
@@ -183,13 +182,6 @@ module _ (kept : SlotsAreKept) (more : OneEventMore) (safe : GrantsAreSafe) (own
     client_knows i heard = step_keeps P R a.state sized plain i (good i heard)
 
   -- ---- at each moment
-
-  none_held : (file : ℕ) (h : Held) → held_of [] file ≡ Some h → ⊥
-  unfolding held_of
-  none_held file h e = cc e
-
-  none_kept : (c : ℕ) (t : Slot) → slot_of empty_world.server.slots c ≡ Some t → ⊥
-  none_kept c t e = cc e
 
   knows : (w : World) (h : List Line) → IsMoment w h → IsReadableThrough h → (c : ℕ) → Know w.server c (client_of w c)
   knows =

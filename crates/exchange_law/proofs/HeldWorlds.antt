@@ -15,7 +15,7 @@ use Rattle.world_history.specs.ServerNames.{File, Server, Slot, ClientRequest, R
 use Rattle.world_history.specs.declared.messages.Body.{Body}
 use Rattle.world_history.specs.declared.messages.Body.TheVariants.{Envelope as OfEnvelope}
 use Rattle.world_history.specs.Spelled.{spelled}
-use Rattle.world_history.specs.State.{World, ClientAt, at_number}
+use Rattle.world_history.specs.State.{World, ClientAt, at_number, empty_world}
 use Rattle.world_history.specs.Plans.{due, plan_of}
 use Rattle.world_history.specs.Runs.{world_after, plan_after}
 use Rattle.world_history.specs.Sending.{Move, move}
@@ -127,10 +127,13 @@ own_request in_step w h k readable c i heard now q is mine named new =
     ap (λ (b : Body). message_in (node.Client c) (spelled b)) (sym r.body) ∙ read in
     (r.request, out, reads_fit c r.request q (readable.requests c r.request out) here)
 
--- nothing is held at the begin
-none_held : (file : ℕ) (h : Held) → held_of [] file ≡ Some h → ⊥
+-- nothing is held at the begin, and no answer is kept
+pub none_held : (file : ℕ) (h : Held) → held_of [] file ≡ Some h → ⊥
 unfolding held_of
 none_held file h e = cc e
+
+pub none_kept : (c : ℕ) (t : Slot) → slot_of empty_world.server.slots c ≡ Some t → ⊥
+none_kept c t e = cc e
 
 -- ---- a move
 

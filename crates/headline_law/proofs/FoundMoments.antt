@@ -12,7 +12,7 @@ use Rattle.world_history.specs.ServerNames.{Server, Slot}
 use Rattle.world_history.specs.Moves.{acts}
 use Rattle.world_history.specs.Plans.{due}
 use Rattle.world_history.specs.Sending.{Move, move}
-use Rattle.world_history.specs.State.{World, at_number, empty_world}
+use Rattle.world_history.specs.State.{World, at_number}
 use Rattle.history_law.specs.Moments.{IsMoment, lines_in, plan_at}
 use Rattle.history_law.specs.Unforged.{AreUnforged}
 use Rattle.history_law.proofs.Unforged.{unforged_front}
@@ -21,6 +21,7 @@ use Rattle.exchange_law.specs.InStep.{state_of}
 use Rattle.exchange_law.proofs.HeldMoving.{IsSame}
 use Rattle.exchange_law.proofs.ClientsWalk.{always_of_each}
 use Rattle.exchange_law.proofs.HeldHearing.{step_is_fine}
+use Rattle.exchange_law.proofs.HeldWorlds.{none_held, none_kept}
 use Rattle.file_simulation.specs.Claim.{IsOfScenario}
 use Rattle.file_simulation.specs.Relation.{client_of}
 use Rattle.file_simulation.proofs.Fronts.{scenario_before}
@@ -57,13 +58,6 @@ same_became w c n x y same b = record { file = b.file; there = b.there; became =
     by : Became w c b.file x → Became w c b.file y
     by (Lasts open_ each) = Lasts open_ (λ k l cr i. each k l cr (listed k l cr i))
     by (Ended each) = Ended (λ k l cr i. each k l cr (listed k l cr i))
-
-none_held : (file : ℕ) (x : Held) → held_of [] file ≡ Some x → ⊥
-unfolding held_of
-none_held file x e = cc e
-
-none_kept : (c : ℕ) (t : Slot) → slot_of empty_world.server.slots c ≡ Some t → ⊥
-none_kept c t e = cc e
 
 -- ---- at each moment
 

@@ -31,7 +31,7 @@ use Rattle.exchange_law.proofs.ClientGiven.{taken_given}
 use Rattle.exchange_law.proofs.ClientsWalk.{always_of_each}
 use Rattle.exchange_law.proofs.HeldHearing.{AnyKnown, step_is_fine}
 use Rattle.exchange_law.proofs.HeldMoving.{IsSame}
-use Rattle.exchange_law.proofs.HeldWorlds.{readable_fronts}
+use Rattle.exchange_law.proofs.HeldWorlds.{none_held, readable_fronts}
 use Rattle.exchange_law.proofs.PlaceTaken.{IsTaken, is_taken, credential_is}
 use Rattle.component_law.proofs.Given.{taken_gives, given_is}
 use Rattle.cause_law.proofs.Moments.{Stands, stands}
@@ -99,10 +99,6 @@ same_names file h k same names n some =
     ap (λ (cs : List Listed). unwrap_or (credential_in (slice_get cs n)) no_credential) same.components in
     ap (λ (y : _). y.capability.grant) own ∙ names n (λ none. some (ap (λ (y : _). y.capability) own ∙ none))
     ∙ sym same.number
-
-none_held : (file : ℕ) (h : Held) → held_of [] file ≡ Some h → ⊥
-unfolding held_of
-none_held file h e = cc e
 
 module _ (more : OneEventMore) (own : AnswersAreOwn) (agree : ClientsAgree) where
   -- behind any step a client is as it should be, and its capabilities name their grants

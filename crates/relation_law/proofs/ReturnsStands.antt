@@ -119,7 +119,8 @@ module _ (laws : ReturnsLaws) where
         (λ (op : CallOp) (report : List IoErr).
         CantBeBorne (step w.server m.chosen g.input).state c (file_of op) (report_read report))
         (λ none op report b. borne_behind w.server m.chosen c x none (file_of op) (report_read report) b g.input
-        (laws.safe w (reached w h k)) (own_request laws.in_step w h k (readable_there w h k t) c g.input g.heard)) x.held x.call fine (s c);
+        (laws.safe w (reached w h k)) (own_request laws.in_step w h k (readable_there w h k t) c g.input g.heard)) x.held x.call
+        fine (s c);
   }
 
   -- so it is at each moment
