@@ -46,7 +46,8 @@ use Rattle.ready_law.specs.Ready.{Scene, scene_of, IsReady, touched}
 use Rattle.ready_law.specs.Worlds.{ScenesAreRead}
 use Rattle.ready_law.proofs.Calls.{ReadyCall, op_at, kept_at, opposed_at, first_at, queue_at, IsIn}
 use Rattle.ready_law.proofs.Stages.{GoesOn, Further, Over, asking_at, work_at}
-use Rattle.ready_law.proofs.Going.{StagesGoOn, OpensCall}
+use Rattle.ready_law.proofs.Going.{StagesGoOn}
+use Rattle.ready_law.proofs.Opening.{body_of_moves, opened_clean, opens_call}
 use Rattle.ready_law.proofs.Walking.{Whole, IsFrontOf, fair_at, clean_behind, prompt_plan, counted, IsSilent, ends_behind, IsAt, EndsWithin, goes, nothing_due}
 
 -- ---- how many messages lines tell of
@@ -89,13 +90,6 @@ unfolding calls
 taken a op free range spent = rw free (rw range (rw spent refl))
 
 -- ---- the line of the event
-
--- nothing is guessed in a `do`
-clean_call : (h : List Line) (c : ℕ) (x : EventCall) → unguessed h ≡ true
-    → unguessed (h ++ line.Event (event.Do c x) ∷ []) ≡ true
-clean_call h c x e =
-    ap (λ (g : Guarded). g.unguessed) (fold-append guards _ h (line.Event (event.Do c x) ∷ []))
-    ∙ ap (λ (b : Bool). b && true) e
 
 -- it tells no end of a call
 ends_alone : {c : ℕ} → {op : CallOp} → (e : Event) (ls : List Line) → EndsOk c op (line.Event e ∷ ls) → EndsOk c op ls
@@ -209,10 +203,7 @@ module _ (more : OneEventMore) (apart : EventsStandApart) (scenes : ScenesAreRea
       own_lines = ap (λ (a : Action). with_event a (move v m).lines) opens
 
       body_is : body ≡ (move v m).lines ++ lines_of (move v m).world ns
-      body_is =
-          let all : line.Event own ∷ body ≡ line.Event own ∷ lines_of v (m ∷ ns) =
-          carries.lines_are ∙ ap (λ (ms : List Move). line.Event own ∷ lines_of v ms) moves_are in
-          cc all
+      body_is = body_of_moves v after own body carries m ns moves_are
 
       after_is : after ≡ world_after (move v m).world ns
       after_is = carries.world_is ∙ ap (λ (ms : List Move). world_after v ms) moves_are
@@ -232,34 +223,15 @@ module _ (more : OneEventMore) (apart : EventsStandApart) (scenes : ScenesAreRea
           (ap (λ (l : List Line). line.Event own ∷ l) body_is
           ∙ ap (λ (l : List Line). l ++ lines_of (move v m).world ns) (sym own_lines))
 
-      clean : unguessed (s.history ++ lines_in v m) ≡ true
-      clean =
-          ap (λ (l : List Line). unguessed (s.history ++ l)) own_lines
-          ∙ ap unguessed (sym (append_assoc s.history (line.Event own ∷ []) (move v m).lines))
-          ∙ clean_behind (s.history ++ line.Event own ∷ []) (move v m).lines
-          (subst (λ (a : Action). NoEvent (sends_all (acts v m.chosen a)).lines) (sym opens) (opens_plain v m.chosen own))
-          (clean_call s.history s.client s.its s.ready.unguessed)
-
       next_in : IsIn s (move v m).world (s.history ++ lines_in v m)
       unfolding next_moment
       next_in = record {
         fair =
             fair_at readable t (move v m).world (s.history ++ lines_in v m) (next_moment v s.history start_moment m are_due.0)
-            one_front clean;
+            one_front (opened_clean s m opens);
         begins = refl;
         behind = refl;
         event_is = refl;
-      }
-
-      opening : OpensCall s m
-      opening = record {
-        action_is = opens;
-        queue_is =
-            subst (λ (a : Action). queue_at s (move v (record { action = a; chosen = m.chosen })).world
-            ≡ posted (acts v m.chosen a).posts) (sym opens)
-            (queue_is_due.stays v (first_at s) (record { action = Opens own; chosen = m.chosen }) tt (omega arith)
-            ∙ ap (λ (ms : List Message). ms ++ posted (acts v m.chosen (Opens own)).posts) (queue_is_due.first v));
-        count_is = counted v m;
       }
 
       -- ---- and those behind it
@@ -313,7 +285,7 @@ module _ (more : OneEventMore) (apart : EventsStandApart) (scenes : ScenesAreRea
       ends_within =
           subst (λ (w : World). EndsWithin s w body) (sym after_is)
           (subst (EndsWithin s (world_after (move v m).world ns)) (sym body_is)
-          (all_within (stages.opens s m opening begins_in next_in)))
+          (all_within (stages.opens s m (opens_call s m opens) begins_in next_in)))
 
     all_moves : (ms : List Move) → carries.moves ≡ ms → EndsWithin s after body
     all_moves [] none =
