@@ -34,8 +34,8 @@ pub mod OnDrives
 pub mod Zones
 pub mod Holders
 pub mod Keeping
+pub mod RequestWalk
 pub mod Walking
-pub mod ZoneServing
 pub mod ZoneMaking
 pub mod Aiming
 pub mod ZoneStepping
@@ -68,7 +68,6 @@ pub mod OrderSteps
 pub mod Histories
 pub mod SentNumbers
 pub mod ObjectJobs
-pub mod ObjectServing
 pub mod ObjectSteps
 pub mod ObjectRuns
 pub mod Sent

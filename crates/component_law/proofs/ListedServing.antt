@@ -1,5 +1,5 @@
 -- What a request does to the grants of its file, and to what a live one is for.
-use Rattle.std.proofs.Common.{◌≡◌, ◌⊎◌, ◌==◌, ◌++◌, ℕ, Bool, true, false, List, [], ◌∷◌, Option, Some, None, inl, inr, refl, sym, ap, ◌∙◌, if◌then◌else◌}
+use Rattle.std.proofs.Common.{◌≡◌, ◌⊎◌, ◌==◌, ℕ, Bool, true, false, Option, Some, None, inl, inr, refl, sym, ap, ◌∙◌, if◌then◌else◌}
 use Rattle.layout_ops.specs.declared.statuses.TheConstants.{LAYOUTIOMODE4_RW}
 use Rattle.server_rules.specs.declared.limits.TheConstants.{GREATEST_TAG}
 use Rattle.world_history.specs.ServerNames.{Kept, Grant, Job, Revoking, RequestArgs, Get, Commit, Return}
