@@ -14,9 +14,8 @@ use Rattle.client_rules.specs.Layouts.{taken}
 use Rattle.server_rules.specs.Files.{file_at}
 use Rattle.server_rules.specs.History.{Act as ServerAct, state_after}
 use Rattle.server_rules.specs.Making.{new_server}
-use Rattle.server_rules.specs.Slots.{slot_of}
 use Rattle.world_history.specs.ClientNames.{Client, CallOp, Held}
-use Rattle.world_history.specs.ServerNames.{Server, File, Slot}
+use Rattle.world_history.specs.ServerNames.{Server, File}
 use Rattle.world_history.specs.History.{OneEventMore}
 use Rattle.world_history.specs.Plans.{due}
 use Rattle.world_history.specs.Sending.{Move, move}

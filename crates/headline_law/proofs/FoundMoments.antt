@@ -1,7 +1,7 @@
 -- What became of each grant that a client holds, or is to take from an answer that the server keeps for it, from each moment to
 -- the next.
 -- Towards `EachHeldBecame` (`headline_law/specs/FoundHeld.antt`).
-use Rattle.std.proofs.Common.{◌≡◌, ℕ, ◌++◌, [], List, slice_get, Some, Ok, sym, ap, ◌∙◌}
+use Rattle.std.proofs.Common.{◌≡◌, ℕ, ◌++◌, List, slice_get, Some, Ok, sym, ap, ◌∙◌}
 use Rattle.layout_ops.specs.declared.messages.Answer.{Answer}
 use Rattle.scenario_text.specs.declared.line.Line.{Line}
 use Rattle.client_rules.specs.Grants.{held_of}

@@ -1,7 +1,6 @@
 -- The lines of the event of a ready call are of its client alone.
-use Rattle.std.proofs.Common.{◌≡◌, ◌&&◌, ℕ, Bool, true, false, List, [], ◌∷◌, ◌++◌, Option, Some, None, is_some, if◌then◌else◌, refl, sym, ap, subst, ◌∙◌, append_assoc, inl, arith}
+use Rattle.std.proofs.Common.{◌≡◌, ℕ, Bool, true, false, List, [], ◌∷◌, ◌++◌, Option, Some, None, is_some, if◌then◌else◌, refl, sym, ap, subst, ◌∙◌, append_assoc, inl, arith}
 use Rattle.std.proofs.lemmas.List.{append-nil}
-use Rattle.std.proofs.lemmas.List.Sums.{fold-append}
 use Rattle.scenario_text.specs.declared.event.Event.{Event}
 use Rattle.scenario_text.specs.declared.event.Event.TheVariants as event
 use Rattle.scenario_text.specs.declared.line.Line.{Line}
@@ -9,13 +8,12 @@ use Rattle.scenario_text.specs.declared.line.Line.TheVariants as line
 use Rattle.server_rules.specs.Laws.{In}
 use Rattle.client_rules.specs.Steps.{awaits}
 use Rattle.world_history.specs.ClientNames as client_rules
-use Rattle.world_history.specs.declared.messages.Message.{Message}
 use Rattle.world_history.specs.State.{World, ClientAt, at_number}
-use Rattle.world_history.specs.Moves.{Action, Opens, Delivers, TimesOut, Pends, op_of, acts}
-use Rattle.world_history.specs.Sending.{Move, move, sends_all}
+use Rattle.world_history.specs.Moves.{Action, Opens, Delivers, TimesOut, Pends, op_of}
+use Rattle.world_history.specs.Sending.{Move, move}
 use Rattle.world_history.specs.Plans.{Plan, Rule, Alone, Prompt, next_pending, due_pending, due_by, due, when_quiet, quiet_at, went_on, plan_of, rule_of, is_refused}
 use Rattle.world_history.specs.Runs.{lines_of, AreDue, plan_after, Carries}
-use Rattle.world_history.specs.Guesses.{Guarded, guards, unguessed}
+use Rattle.world_history.specs.Guesses.{unguessed}
 use Rattle.world_history.proofs.ReadMessages.{never_opens}
 use Rattle.history_law.specs.Read.{AreWritten}
 use Rattle.history_law.specs.Moments.{IsMoment, with_event, lines_in}
@@ -24,18 +22,17 @@ use Rattle.exchange_law.specs.Doing.{posted}
 use Rattle.exchange_law.proofs.HeldWorlds.{next_moment}
 use Rattle.cause_law.specs.Queue.{IsHead}
 use Rattle.cause_law.specs.Readable.{FilesAndAnswersAreReadable}
-use Rattle.cause_law.proofs.Eventless.{NoEvent, opens_plain}
 use Rattle.cause_law.proofs.PendingMoves.{taken_rule}
 use Rattle.cause_law.proofs.Queue.{queue_is_due}
 use Rattle.ready_law.specs.Answered.{scene_in}
 use Rattle.ready_law.specs.Events.{StandsApart, EventsStandApart}
 use Rattle.ready_law.specs.Ready.{Scene, scene_of, IsReady}
 use Rattle.ready_law.specs.Worlds.{ScenesAreRead}
-use Rattle.ready_law.proofs.Calls.{ReadyCall, op_at, first_at, queue_at, IsIn}
+use Rattle.ready_law.proofs.Calls.{ReadyCall, op_at, first_at, IsIn}
 use Rattle.ready_law.proofs.Going.{StagesGoOn}
 use Rattle.ready_law.proofs.Opening.{body_of_moves, opened_clean, opens_call}
 use Rattle.ready_law.proofs.Stages.{Stage, GoesOn, Further, Over}
-use Rattle.ready_law.proofs.Walking.{Whole, IsFrontOf, fair_at, clean_behind, prompt_plan, counted, IsAt, goes_on, next_at, nothing_due}
+use Rattle.ready_law.proofs.Walking.{Whole, IsFrontOf, fair_at, prompt_plan, counted, IsAt, goes_on, next_at, nothing_due}
 use Rattle.history_claims.specs.Plain.{AreOnlyOf, ReadyCallsAreAlone}
 use Rattle.history_claims.proofs.PlainMoves.{GoesOnlyTo, delivered_to, timed_to, pends_to, opens_to, both_only, move_only}
 use Rattle.history_claims.proofs.PlainStages.{queue_received}

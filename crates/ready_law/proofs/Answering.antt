@@ -1,5 +1,5 @@
 -- Each ready call whose event is over ended in ok, within its bound of messages.
-use Rattle.std.proofs.Common.{◌≡◌, ◌≤◌, ◌+◌, ◌*◌, ◌&&◌, max, ℕ, Bool, true, false, List, [], ◌∷◌, ◌++◌, length, map, fold, slice_get, Option, Some, None, is_err, refl, sym, ap, subst, ◌∙◌, append_assoc, arith}
+use Rattle.std.proofs.Common.{◌≡◌, ◌≤◌, ◌+◌, ◌*◌, max, ℕ, false, List, [], ◌∷◌, ◌++◌, length, map, fold, slice_get, Option, Some, None, is_err, refl, sym, ap, subst, ◌∙◌, append_assoc, arith}
 use Rattle.std.specs.List.{list_any, sum_by}
 use Rattle.std.proofs.Math.Nat.{mul-le-mul_left}
 use Rattle.std.proofs.lemmas.Bool.{or_parts}
@@ -20,13 +20,13 @@ use Rattle.world_history.specs.declared.limits.TheConstants.{MAX_KEPT}
 use Rattle.world_history.specs.declared.messages.Sent.{Sent}
 use Rattle.world_history.specs.declared.messages.Message.{Message}
 use Rattle.world_history.specs.State.{World, ClientAt, at_number}
-use Rattle.world_history.specs.Moves.{Action, Opens, op_of, acts}
-use Rattle.world_history.specs.Sending.{Move, move, sends_all}
+use Rattle.world_history.specs.Moves.{Action, Opens, op_of}
+use Rattle.world_history.specs.Sending.{Move, move}
 use Rattle.world_history.specs.Reading.{arrived, left_out, changed_by, changed_at, sent_after_event, sent_after, sent_in}
 use Rattle.world_history.specs.Plans.{Plan, Rule, went_on, plan_of, is_refused}
 use Rattle.world_history.specs.Runs.{world_after, lines_of, AreDue, plan_after, IsOver, Carries}
 use Rattle.world_history.specs.History.{Lawful, StandsFor, OneEventMore}
-use Rattle.world_history.specs.Guesses.{Guarded, guards, unguessed}
+use Rattle.world_history.specs.Guesses.{unguessed}
 use Rattle.world_history.specs.Laws.{shown, MessagesAreRead}
 use Rattle.history_law.specs.Read.{AreWritten}
 use Rattle.history_law.proofs.Staying.{written_front}
@@ -34,21 +34,18 @@ use Rattle.history_law.specs.Moments.{IsReached, IsMoment, with_event, lines_in}
 use Rattle.exchange_law.specs.Counters.{ClientsAreCounted, ClientCounts}
 use Rattle.exchange_law.specs.Text.{AreOfText, AreFew}
 use Rattle.exchange_law.proofs.HeldWorlds.{next_moment}
-use Rattle.exchange_law.specs.Doing.{posted}
 use Rattle.cause_law.specs.Readable.{FilesAndAnswersAreReadable}
 use Rattle.cause_law.proofs.Files.{few_there}
 use Rattle.cause_law.proofs.PendingMoves.{taken_rule}
-use Rattle.cause_law.proofs.Eventless.{NoEvent, opens_plain}
-use Rattle.cause_law.proofs.Queue.{queue_is_due}
 use Rattle.ready_law.specs.Answered.{scene_in, EndsOk, ends_call, messages_at, message_bound, ReadyIsAnswered}
 use Rattle.ready_law.specs.Events.{IsOver as IsOverIn, StandsApart, EventsStandApart}
 use Rattle.ready_law.specs.Ready.{Scene, scene_of, IsReady, touched}
 use Rattle.ready_law.specs.Worlds.{ScenesAreRead}
-use Rattle.ready_law.proofs.Calls.{ReadyCall, op_at, kept_at, opposed_at, first_at, queue_at, IsIn}
+use Rattle.ready_law.proofs.Calls.{ReadyCall, op_at, kept_at, opposed_at, IsIn}
 use Rattle.ready_law.proofs.Stages.{GoesOn, Further, Over, asking_at, work_at}
 use Rattle.ready_law.proofs.Going.{StagesGoOn}
 use Rattle.ready_law.proofs.Opening.{body_of_moves, opened_clean, opens_call}
-use Rattle.ready_law.proofs.Walking.{Whole, IsFrontOf, fair_at, clean_behind, prompt_plan, counted, IsSilent, ends_behind, IsAt, EndsWithin, goes, nothing_due}
+use Rattle.ready_law.proofs.Walking.{Whole, IsFrontOf, fair_at, prompt_plan, counted, IsSilent, ends_behind, IsAt, EndsWithin, goes, nothing_due}
 
 -- ---- how many messages lines tell of
 
