@@ -43,6 +43,7 @@ use Rattle.exchange_law.proofs.ClientMoves.{clients_always}
 use Rattle.exchange_law.proofs.Commands.{MaySend}
 use Rattle.exchange_law.proofs.CountGrowing.{fewer}
 use Rattle.exchange_law.proofs.CountMoments.{at_moment, reached}
+use Rattle.exchange_law.proofs.HeldHearing.{AnyKnown}
 use Rattle.exchange_law.proofs.Knowing.{lawful_at}
 use Rattle.exchange_law.proofs.Parts.{each_in}
 use Rattle.exchange_law.proofs.PlaceGoing.{CallFits, ClientFits}
