@@ -38,7 +38,8 @@ use Rattle.exchange_law.specs.Given.{IsNew, CanTake}
 use Rattle.exchange_law.specs.Sent.{Names, message_of}
 use Rattle.cause_law.specs.Fresh.{GrantsAreFresh}
 use Rattle.cause_law.proofs.Made.{no_get_given}
-use Rattle.cause_law.proofs.Moments.{WasHeld, Stands, stands, taken_held, made_file}
+use Rattle.exchange_law.proofs.HeldHearing.{made_file}
+use Rattle.cause_law.proofs.Moments.{WasHeld, Stands, stands, taken_held}
 
 -- ---- lists
 

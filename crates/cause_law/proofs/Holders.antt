@@ -205,9 +205,9 @@ answer_names s now chosen q named = made_names s now chosen q (file_at s.files q
 
 -- ---- a step of the server
 
-may_named : (f : Kept) (client : ℕ) (v : Served) → MayGive f client v → client ≤ MAX_CLIENT → AreNamed f.grants
-    → AreNamed v.going.file.kept.grants
-may_named f client v may low named c g e = elim (may.grants c g e) [
+may_named : (f : Kept) (client : ℕ) (a : RequestArgs) (v : Served) → MayGive f client a v → client ≤ MAX_CLIENT
+    → AreNamed f.grants → AreNamed v.going.file.kept.grants
+may_named f client a v may low named c g e = elim (may.grants c g e) [
   | inl old ↦ named c g old
   | inr new ↦ omega (arith, new.0, low)
 ]
@@ -232,9 +232,9 @@ request_named s now chosen q low named = each_request s now chosen q (λ (t : St
   served = λ new f found.
       let go : Going = at_file s chosen f in
       let v : Served = serves go s.next_grant s.format now q.client q.args in
-      let may : MayGive f.kept q.client v = serves_may go s.next_grant s.format now q.client q.args in
+      let may : MayGive f.kept q.client q.args v = serves_may go s.next_grant s.format now q.client q.args in
       put_named s.files q.file v.going.file (may.number ∙ number_at s.files q.file f found) named
-      (may_named f.kept q.client v may low (named q.file f found));
+      (may_named f.kept q.client q.args v may low (named q.file f found));
 })
 
 step_named : (s : Server) (chosen : List ℕ) (i : Input) → AreSafe s.files → GrantsAreNamed s

@@ -94,7 +94,6 @@ pub mod ReopenMoments
 pub mod Giving
 pub mod Counting
 pub mod PlaceJobs
-pub mod PlaceServing
 pub mod PlaceSteps
 pub mod PlaceMoments
 pub mod EachAt

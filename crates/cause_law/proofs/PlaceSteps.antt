@@ -15,16 +15,16 @@ use Rattle.server_rules.specs.Requests.{serves}
 use Rattle.server_rules.specs.Rounds.{Round}
 use Rattle.server_rules.specs.Served.{Served}
 use Rattle.server_rules.proofs.FileLaws.{number_at}
-use Rattle.history_law.specs.Names.{Server, File, Drive, Effects, Target, ClientRequest}
+use Rattle.history_law.specs.Names.{Server, File, Kept, Drive, Effects, Target, ClientRequest}
 use Rattle.history_law.specs.Steps.{answered_file, new_file, StepCases, RequestCases}
 use Rattle.history_law.proofs.Files.{Each, in_at, put_each, add_each, crashed_each}
 use Rattle.history_law.proofs.Steps.{each_request, each_step}
 use Rattle.component_law.specs.Distinct.{AreDistinct}
 use Rattle.component_law.specs.Objects.{objects_of, target_of}
 use Rattle.component_law.proofs.SentNumbers.{in_new}
+use Rattle.component_law.proofs.Walking.{IsWalked, ends_making, ends_fence, ends_hears, ends_declares, ends_opens, ends_serves}
 use Rattle.cause_law.proofs.Barring.{of_each}
-use Rattle.cause_law.proofs.PlaceJobs.{Ends, IsAim, ends_making, ends_fence, ends_hears, ends_declares, ends_opens}
-use Rattle.cause_law.proofs.PlaceServing.{ends_served}
+use Rattle.cause_law.proofs.PlaceJobs.{Lasts, Ends, IsAim, places_walked}
 
 -- ---- whatever is so of each file's component numbers and objects, and of each new object number
 
@@ -33,6 +33,12 @@ module _ (C : ℕ → ℕ → ℕ → Type 0) (next : ℕ) (fresh : (n k o : ℕ
   Has f =
       ((k o : ℕ) → slice_get (objects_of f.kept.components) k ≡ Some o → C f.kept.number k o)
       × IsAim (C f.kept.number) (target_of f.job)
+
+  abbrev Stay : ℕ → List Drive → ℕ → Kept → Option Target → Type 0
+  Stay n = Lasts (C n) n next
+
+  walked : (n : ℕ) → IsWalked (Stay n)
+  walked n = places_walked (C n) n next (fresh n)
 
   start : (g : Going) → next ≤ g.effects.object → Has g.file → Ends (C g.file.kept.number) g.file.kept.number next g
   start g from h = ((refl, from, h.0), h.1)
@@ -63,7 +69,7 @@ module _ (C : ℕ → ℕ → ℕ → Type 0) (next : ℕ) (fresh : (n k o : ℕ
   declared_all d ds (f ∷ fs) m chosen from all =
       let g : Going = record { file = f; effects = m; drives = ds; chosen = chosen } in
       let e = finish f.kept.number (declares g d)
-      (ends_declares (C f.kept.number) f.kept.number next (fresh f.kept.number) g d (start g from (all f (inl refl)))) in
+      (ends_declares (Stay f.kept.number) (walked f.kept.number) g d (start g from (all f (inl refl)))) in
       let r = declared_all d ds fs (declares g d).effects (declares g d).chosen e.0 (λ x i. all x (inr i)) in
       (r.0, then_all (declares g d).file _ e.1 r.1)
 
@@ -74,7 +80,7 @@ module _ (C : ℕ → ℕ → ℕ → Type 0) (next : ℕ) (fresh : (n k o : ℕ
   opened_all format ds (f ∷ fs) m from all =
       let g : Going = record { file = f; effects = m; drives = ds; chosen = [] } in
       let e = finish f.kept.number (opens format g)
-      (ends_opens (C f.kept.number) f.kept.number next (fresh f.kept.number) format g (start g from (all f (inl refl)))) in
+      (ends_opens (Stay f.kept.number) (walked f.kept.number) format g (start g from (all f (inl refl)))) in
       let r = opened_all format ds fs (opens format g).effects e.0 (λ x i. all x (inr i)) in
       (r.0, then_all (opens format g).file _ e.1 r.1)
 
@@ -103,7 +109,7 @@ module _ (C : ℕ → ℕ → ℕ → Type 0) (next : ℕ) (fresh : (n k o : ℕ
       served = λ new f found.
           let v : Served = serves (at_file s chosen f) s.next_grant s.format now q.client q.args in
           let e = finish f.kept.number v.going
-          (ends_served (C f.kept.number) f.kept.number next (fresh f.kept.number) (at_file s chosen f) s.next_grant s.format
+          (ends_serves (Stay f.kept.number) (walked f.kept.number) (at_file s chosen f) s.next_grant s.format
           now q.client q.args (begun f (in_at s.files q.file f found))) in
           (e.0, put_each Has s.files q.file v.going.file all e.1);
     }
@@ -116,7 +122,7 @@ module _ (C : ℕ → ℕ → ℕ → Type 0) (next : ℕ) (fresh : (n k o : ℕ
       answered = λ x is.
           let g : Going = answered_file s chosen x in
           let e = finish x.file.kept.number g
-          (ends_hears (C x.file.kept.number) x.file.kept.number next (fresh x.file.kept.number) (at_file s chosen x.file) x.job
+          (ends_hears (Stay x.file.kept.number) (walked x.file.kept.number) (at_file s chosen x.file) x.job
           x.awaited x.reply (hearing x.file.kept x.awaited x.reply) is.runs (begun x.file is.there)) in
           (e.0, put_each Has s.files g.file.kept.number g.file all e.1);
       recalled = λ f is. (from_here, all);
@@ -125,8 +131,8 @@ module _ (C : ℕ → ℕ → ℕ → Type 0) (next : ℕ) (fresh : (n k o : ℕ
       fenced = λ f is kind free low.
           let g : Going = fence_begins kind s.format (at_file s chosen f) in
           let e = finish f.kept.number g
-          (ends_fence (C f.kept.number) f.kept.number next (fresh f.kept.number) kind s.format (at_file s chosen f)
-          (begun f (in_at s.files is.target f is.found)).0) in
+          (ends_fence (Stay f.kept.number) (walked f.kept.number) kind s.format (at_file s chosen f)
+          ((begun f (in_at s.files is.target f is.found)).0, tt)) in
           (e.0, put_each Has s.files f.kept.number g.file all e.1);
       declared = λ d known. declared_all d (offline s.drives d) s.files (begins s) chosen from_here all;
       told = λ t now o is result p. p;
@@ -139,7 +145,7 @@ module _ (C : ℕ → ℕ → ℕ → Type 0) (next : ℕ) (fresh : (n k o : ℕ
           (subst (λ (z : ℕ). z ≤ o) is_next
           (in_new (drives_for zoned s.drives m chosen) s.next_object o (get_in (objects_of f.kept.components) k o e)).0) in
           let e = finish n (making g)
-          (ends_making (C n) n next (fresh n) g (refl, omega (arith, is_next), own)) in
+          (ends_making (Stay n) (walked n) g ((refl, omega (arith, is_next), own), tt)) in
           (e.0, put_each Has (add_file s.files f) n (making g).file (add_each Has s.files f all (own, tt)) e.1);
       added = λ d is. (from_here, all);
       zoned = λ d zone is. (from_here, all);

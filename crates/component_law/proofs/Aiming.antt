@@ -109,13 +109,13 @@ room_for g at k t zoned e = elim (cases_Bool at.missing) [
 
 module _ (start : List Drive) where
   -- the drives are those of the start, all different, and a zoned file is spread over their zones
-  abbrev pub Spread : List Drive → Kept → Option Target → Type 0
-  Spread ds k o =
+  abbrev pub Spread : List Drive → (next : ℕ) → Kept → Option Target → Type 0
+  Spread ds m k o =
       (ds ≡ start) × AreDifferent (numbers ds) × (k.zoned ≡ true → IsSpread (in_zones ds) k × HasRoom (in_zones ds) k o)
 
-  same_spread : (ds : List Drive) (k l : Kept) (o : Option Target) → l.zoned ≡ k.zoned → l.map ≡ k.map
-      → l.components ≡ k.components → Spread ds k o → Spread ds l o
-  same_spread ds k l o zoned map components h =
+  same_spread : (ds : List Drive) (m : ℕ) (k l : Kept) (o : Option Target) → l.zoned ≡ k.zoned → l.map ≡ k.map
+      → l.components ≡ k.components → Spread ds m k o → Spread ds m l o
+  same_spread ds m k l o zoned map components h =
       (h.0, h.1, λ e. let x = h.2 (sym zoned ∙ e) in (spread x.0, room o x.1))
     where
       spread : IsSpread (in_zones ds) k → IsSpread (in_zones ds) l
@@ -131,12 +131,12 @@ module _ (start : List Drive) where
 
   pub spread_walked : IsWalked Spread
   spread_walked = record {
-    same = same_spread;
-    ends = λ ds k o h. (h.0, h.1, λ e. ((h.2 e).0, tt));
+    same = λ ds m k l o number zoned map components h. same_spread ds m k l o zoned map components h;
+    ends = λ ds m k o h. (h.0, h.1, λ e. ((h.2 e).0, tt));
     aims = λ g at n t is h. (h.0, h.1, λ e. ((h.2 e).0, room_for g at n t e is));
-    placed = λ ds k t h.
+    placed = λ ds m k t h.
         (h.0, h.1, λ e. let x = h.2 e in (spread_placed (in_zones ds) (different_zones ds h.1) k t x.0 x.1, tt));
-    lost = λ ds k o ns h. (
+    lost = λ ds m k o ns h. (
       h.0,
       h.1,
       λ e. let x = h.2 e in (
@@ -145,7 +145,7 @@ module _ (start : List Drive) where
         room_same (in_zones ds) k (lose_from ns k.components 0) o (holders_lost ns k.components 0 0) x.1,
       ),
     );
-    declared = λ ds k o d h. (
+    declared = λ ds m k o d h. (
       h.0,
       h.1,
       λ e. let x = h.2 e in (

@@ -1,15 +1,14 @@
 -- What a job sends for its file, function by function: no tag is earlier than its object, and each CREATE is at the
 -- file's present tag.
-use Rattle.std.proofs.Common.{◌≡◌, ◌==◌, ◌||◌, ℕ, ◌+◌, ◌≤◌, ◌++◌, nat_lt, Bool, true, false, List, [], ◌∷◌, filter, replicate, slice_set, Option, Some, None, refl, sym, ap, subst, arith, inl, inr, if◌then◌else◌}
+use Rattle.std.proofs.Common.{◌≡◌, ◌==◌, ◌||◌, ℕ, ◌+◌, ◌≤◌, ◌++◌, nat_lt, Bool, true, false, List, [], ◌∷◌, filter, replicate, slice_set, Option, Some, None, refl, sym, subst, arith, inl, inr, if◌then◌else◌}
 use Rattle.std.proofs.lemmas.Bool.{cases_Bool}
 use Rattle.server_rules.specs.declared.limits.TheConstants.{GREATEST_TAG}
 use Rattle.server_rules.specs.Columns.{end_of}
 use Rattle.server_rules.specs.Laws.{In}
 use Rattle.server_rules.specs.Going.{Going, over, noting, noting_if, keeping, with_components, rests, rests_or, waits_on}
 use Rattle.server_rules.specs.Standing.{any_on, lose_on, lose_from}
-use Rattle.server_rules.specs.Zoning.{takers}
 use Rattle.server_rules.specs.Audit.{audits, audit_begins}
-use Rattle.server_rules.specs.Rebuild.{picked, target_on, target_for, makes, makes_or, rebuilds, stands_at, sources, to_fill, fills, filling, target_gone, target_full}
+use Rattle.server_rules.specs.Rebuild.{target_for, makes, makes_or, rebuilds, stands_at, sources, to_fill, fills, filling, target_gone, target_full}
 use Rattle.server_rules.specs.Repair.{after_repair, mended, repairs, storing, stored, repair_begins}
 use Rattle.server_rules.specs.Replies.{renewed, renews, fills_up, hears, Hearing, Older, Full, Done, Nothing, others}
 use Rattle.server_rules.specs.Jobs.{making, ending, fenced, fence_begins, fetched, written, gathered, filled_in, audited_on, goes_on, waits_or_on, refills, remakes, loses, declared_in, targets, declares}
@@ -19,6 +18,7 @@ use Rattle.server_rules.specs.Openings.{is_unsettled, opens_made, opens_spent, o
 use Rattle.server_rules.proofs.Members.{in_either, in_mapped, in_filtered}
 use Rattle.history_law.specs.Names.{Repairing, Fenced, Component, Awaited, Heard, Piece, Target, Job, JobKind, Making, Revoking, Rebuilding, Auditing, Work, Creates, Fences, Fetches, Stores, Targets, Gathers, Fills, Lengths, Checks, Tally, Rebuilt, NoDrive, NoSpace, Reply}
 use Rattle.component_law.specs.Objects.{objects_of, target_in, target_of}
+use Rattle.component_law.proofs.Walking.{target_is}
 use Rattle.component_law.proofs.SentNumbers.{in_set, objects_set, objects_from, objects_on}
 use Rattle.component_law.proofs.BirthSent.{IsBorn, IsAsked, AllAsked, AllNew, is_creating, one_asked, asked_for, each_asked, stores_asked, repair_asked, sources_asked}
 use Rattle.component_law.proofs.BirthEnds.{IsAim, born_later, AllSent, Owns, Holds, Ends, holds_on}
@@ -92,21 +92,6 @@ module _ (birth : ℕ → ℕ) (n : ℕ) (before : List Awaited) where
 
   -- ---- rebuild
 
-  target_object : (g : Going) (k : ℕ) (o : Option ℕ) (t : Target) → target_on g k o ≡ Some t
-      → t.object ≡ g.effects.object
-  target_object g k None t e = absurd (cc e)
-  target_object g k (Some d) t e =
-      let it : record { component = k; drive = d; object = g.effects.object } ≡ t = cc e in
-      ap (λ (x : Target). x.object) (sym it)
-
-  aims_at : (g : Going) (at : Component) (k : ℕ) (t : Target) → target_for g at k ≡ Some t
-      → t.object ≡ g.effects.object
-  unfolding target_for
-  aims_at g at k t e = elim (cases_Bool at.missing) [
-    | inl m ↦ target_object g k (picked g.chosen (takers g.drives g.file.kept k)) t (rw m at e)
-    | inr p ↦ absurd (cc (rw p at e))
-  ]
-
   -- its number is given at the file's present tag, which no longer rises in the step
   ends_makes : (g : Going) (t : Target) → t.object ≡ n → Own g → End (makes g t)
   ends_makes g t e h =
@@ -150,7 +135,7 @@ module _ (birth : ℕ → ℕ) (n : ℕ) (before : List Awaited) where
   ends_makes_or : (g : Going) (at : Component) (k : ℕ) (o : Option Target) (later : Going) → target_for g at k ≡ o
       → Own g → End later → End (makes_or g o later)
   ends_makes_or g at k None later is h l = l
-  ends_makes_or g at k (Some t) later is h l = ends_makes g t (omega (arith, aims_at g at k t is, h.0)) h
+  ends_makes_or g at k (Some t) later is h l = ends_makes g t (omega (arith, (target_is g at k t is).1, h.0)) h
 
   ends_rebuilds : (g : Going) (cs : List Component) (k : ℕ) → Own g → End (rebuilds g cs k)
   unfolding rebuilds

@@ -6,14 +6,13 @@ use Rattle.layout_ops.specs.declared.messages.Answer.{Answer}
 use Rattle.world_history.specs.ClientNames.{Client, Call, CallOp, Held, Due, Awaited, TimedOut, Request, Need, First, Get, Commit, Report, Close, Phase, Starts, Needs, Waits, Reads, Probes, Gathers, Scatters, Turn, Goes, Ends, Forgets, Moved, Done}
 use Rattle.client_rules.specs.Calls.{file_of}
 use Rattle.client_rules.specs.Commands.{of_component}
-use Rattle.client_rules.specs.Going.{quiet, by_turn, moved, begins, begun, held_after, requests, asks_under, returns, with_held}
+use Rattle.client_rules.specs.Going.{quiet, by_turn, moved, begins, held_after, requests, asks_under, returns, with_held}
 use Rattle.client_rules.specs.Grants.{held_of, put_held, without_held}
 use Rattle.client_rules.specs.History.{Input, Hears, step}
 use Rattle.client_rules.specs.Io.{awaited_in}
-use Rattle.client_rules.specs.Messages.{Step, TakesAnswer, finished, on_call, recalled, takes}
+use Rattle.client_rules.specs.Messages.{Step, TakesAnswer, finished, on_call, takes}
 use Rattle.client_rules.specs.Replies.{answers, replied, timed_out}
 use Rattle.client_rules.specs.Requests.{args_of}
-use Rattle.client_rules.specs.Steps.{leaves}
 use Rattle.exchange_law.proofs.ClientKeeping.{put_read, without_read}
 use Rattle.client_rules.proofs.ReadSteps.{held_file}
 use Rattle.history_law.specs.Turns.{IsBeginning, TurnCases, FinishCases}

@@ -1,5 +1,5 @@
 -- Each component of a file, and what a rebuild makes anew, stands on a drive that the server knows.
-use Rattle.std.proofs.Common.{◌≡◌, ◌⊎◌, ◌==◌, ◌&&◌, ◌+◌, not, ℕ, zero, suc, nat_lt, List, [], ◌∷◌, Bool, true, false, Option, Some, None, is_some, find, map, filter, take, length, option_map, slice_get, slice_set, refl, sym, ap, subst, ◌∙◌, inl, inr, if◌then◌else◌}
+use Rattle.std.proofs.Common.{◌≡◌, ◌⊎◌, ◌==◌, ◌&&◌, ◌+◌, not, ℕ, zero, suc, nat_lt, List, [], ◌∷◌, Bool, true, false, Option, Some, None, is_some, find, filter, take, length, option_map, slice_get, slice_set, refl, sym, ap, subst, ◌∙◌, inl, inr, if◌then◌else◌}
 use Rattle.std.specs.List.{list_any}
 use Rattle.std.proofs.lemmas.Bool.{cases_Bool, eq-eqb, and_parts}
 use Rattle.osd_lists.proofs.Tests.{second_true}
@@ -28,8 +28,7 @@ use Rattle.history_law.specs.Steps.{new_file, answered_file}
 use Rattle.history_law.proofs.Files.{Each, in_at, put_each, add_each, crashed_each, declared_each, opened_each}
 use Rattle.history_law.proofs.Steps.{each_step, each_request}
 use Rattle.component_law.proofs.Drives.{drives, drives_lost, drives_on}
-use Rattle.component_law.proofs.Walking.{IsWalked, Ends, ends_hears, ends_fence, ends_declares, ends_opens, ends_making}
-use Rattle.component_law.proofs.ZoneServing.{ends_serves}
+use Rattle.component_law.proofs.Walking.{IsWalked, Ends, ends_hears, ends_fence, ends_declares, ends_opens, ends_making, ends_serves}
 use Rattle.component_law.specs.Listed.{IsKnown}
 use Rattle.component_law.proofs.Servers.{known_keys, offline_keys, zoned_keys}
 use Rattle.component_law.specs.Objects.{target_of}
@@ -220,12 +219,12 @@ in_set (c ∷ cs) (suc k) at n (inr i) = elim (in_set cs k at n i) [ inl e ↦ i
 
 module _ (start : List Drive) where
   -- the drives are those of the start
-  abbrev Lasts : List Drive → Kept → Option Target → Type 0
-  Lasts ds k o = (ds ≡ start) × StandKnown start k.components × TargetKnown start o
+  abbrev Lasts : List Drive → (next : ℕ) → Kept → Option Target → Type 0
+  Lasts ds m k o = (ds ≡ start) × StandKnown start k.components × TargetKnown start o
 
-  lasts_same : (ds : List Drive) (k l : Kept) (o : Option Target) → drives l.components ≡ drives k.components → Lasts ds k o
-      → Lasts ds l o
-  lasts_same ds k l o same h = (h.0, λ n i. h.1 n (subst (In n) same i), h.2)
+  lasts_same : (ds : List Drive) (m : ℕ) (k l : Kept) (o : Option Target) → drives l.components ≡ drives k.components
+      → Lasts ds m k o → Lasts ds m l o
+  lasts_same ds m k l o same h = (h.0, λ n i. h.1 n (subst (In n) same i), h.2)
 
   lasts_placed : (ds : List Drive) (cs : List Component) (k : ℕ) (at : Component) → IsKnown ds at.drive → StandKnown ds cs
       → StandKnown ds (slice_set cs k at)
@@ -236,13 +235,13 @@ module _ (start : List Drive) where
 
   known_walked : IsWalked Lasts
   known_walked = record {
-    same = λ ds k l o zoned map components h. lasts_same ds k l o (ap drives components) h;
-    ends = λ ds k o h. (h.0, h.1, tt);
+    same = λ ds m k l o number zoned map components h. lasts_same ds m k l o (ap drives components) h;
+    ends = λ ds m k o h. (h.0, h.1, tt);
     aims = λ g at n t is h. (h.0, h.1, subst (λ (ds : List Drive). IsKnown ds t.drive) h.0 (known_target g at n t is));
-    placed = λ ds k t h. (h.0, lasts_placed start k.components t.component _ h.2 h.1, tt);
-    lost = λ ds k o ns h. lasts_same ds k (record k { components = lose_from ns k.components 0 }) o
+    placed = λ ds m k t h. (h.0, lasts_placed start k.components t.component _ h.2 h.1, tt);
+    lost = λ ds m k o ns h. lasts_same ds m k (record k { components = lose_from ns k.components 0 }) o
         (drives_lost ns k.components 0) h;
-    declared = λ ds k o d h. lasts_same ds k (record k { components = lose_on d k.components }) o
+    declared = λ ds m k o d h. lasts_same ds m k (record k { components = lose_on d k.components }) o
         (drives_on d k.components) h;
   }
 
@@ -316,7 +315,8 @@ module _ (s : Server) (chosen : List ℕ) (i : Input) (h : AllKnown s) where
     fenced = λ f is kind none low.
         put f.kept.number (fence_begins kind s.format (at_file s chosen f))
         (ends_fence (Lasts s.drives) (known_walked s.drives) kind s.format (at_file s chosen f)
-        ((known_walked s.drives).ends s.drives f.kept (target_of f.job) (begun f (in_at s.files is.target f is.found))));
+        ((known_walked s.drives).ends s.drives s.next_object f.kept (target_of f.job)
+        (begun f (in_at s.files is.target f is.found))));
     declared = λ d known. declared d;
     told = λ t now o is result l. l;
     made = λ n m tag zoned is none. made n m tag zoned;

@@ -18,11 +18,11 @@ use Rattle.world_history.specs.ClientNames.{CallOp, Credential, Held, Listed}
 use Rattle.world_history.specs.ServerNames.{Component, Drive, Grant, Kept}
 use Rattle.history_law.specs.Granted.{NumbersFit}
 use Rattle.history_law.proofs.Exact.{same_ok, one_of, body_read}
+use Rattle.exchange_law.proofs.Listing.{listed_all}
 use Rattle.exchange_law.proofs.PlaceTaken.{IsTaken, is_taken}
 use Rattle.exchange_law.specs.Held.{credential_of, listed_at, listed_from}
 use Rattle.exchange_law.specs.HeldTaken.{OnDrives}
 use Rattle.component_law.specs.Listed.{IsCredentialFor, IsKnown, IsOffline, ListsComponent, ListsComponents}
-use Rattle.component_law.proofs.Listing.{listed_all}
 use Rattle.component_law.proofs.PartyKeeping.{IsAlike, IsLost}
 
 -- ---- what is listed

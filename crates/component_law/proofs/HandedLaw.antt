@@ -1,6 +1,6 @@
 -- What was sent was told at some line. So a credential that was given leads back to the line at which its answer was first
 -- sent, and to the grant that the book had live then.
-use Rattle.std.proofs.Common.{◌≡◌, ℕ, zero, suc, ◌+◌, ◌≤◌, List, [], ◌∷◌, ◌++◌, length, slice_get, Some, Ok, refl, sym, ap, subst, ◌∙◌, append_assoc, arith, inl, inr}
+use Rattle.std.proofs.Common.{◌≡◌, ℕ, zero, suc, ◌≤◌, List, [], ◌∷◌, ◌++◌, length, slice_get, Some, Ok, refl, sym, ap, subst, ◌∙◌, append_assoc, arith, inl, inr}
 use Rattle.std.proofs.lemmas.List.{append-nil, length-append}
 use Rattle.osd_lists.proofs.Slices.{found_more}
 use Rattle.layout_types.specs.declared.cred.ObjectCred.{ObjectCred}

@@ -1,5 +1,5 @@
 -- What the server hears of a CREATE that it awaits is true: the object is there.
-use Rattle.std.proofs.Common.{◌≡◌, ◌⊎◌, ◌==◌, ℕ, ◌<◌, ◌^◌, ◌++◌, ◌∷◌, [], List, true, nat_lt, Some, Result, Ok, Err, slice_get, refl, sym, ap, subst, ◌∙◌, append_assoc, arith, inl, inr}
+use Rattle.std.proofs.Common.{◌≡◌, ◌⊎◌, ◌==◌, ℕ, ◌<◌, ◌^◌, ◌++◌, ◌∷◌, [], List, true, Some, Result, Ok, Err, slice_get, refl, sym, ap, subst, ◌∙◌, append_assoc, arith, inl, inr}
 use Rattle.std.proofs.lemmas.Bool.Decides.{nat_tests}
 use Rattle.std.proofs.lemmas.List.{append-nil}
 use Rattle.std.proofs.lemmas.Bool.{and_parts}
@@ -46,13 +46,6 @@ use Rattle.component_law.proofs.There.{there_stays}
 use Rattle.component_law.proofs.Creating.{counts, made_behind}
 
 -- ---- the awaited command
-
-low_nonce : (w : World) → counters_have_room w.server ≡ true → w.server.next_nonce < 2 ^ 63
-unfolding counters_have_room
-low_nonce w e = less w.server.next_nonce (2 ^ 63) (and_parts _ _ e).0
-  where
-    less : (a b : ℕ) → nat_lt a b ≡ true → a < b
-    less a b x = grind (arith, x, nat_tests)
 
 format_counts : (x : Reply) → x.verdict ≡ 16 → (x.verdict ≡ 0) ⊎ (x.verdict ≡ 8) → ⊥
 format_counts x is (inl e) = absurd (omega (arith, is, e))

@@ -30,10 +30,10 @@ use Rattle.exchange_law.specs.Calls.{CallFine, IsNoGet}
 use Rattle.exchange_law.specs.Meeting.{KeptGood, IsMet, Reads}
 use Rattle.exchange_law.proofs.HeldAsking.{IsItsGet, call_or_not, no_get_asked, none_told, IsOwn}
 use Rattle.component_law.specs.Sizes.{IsCommit}
-use Rattle.component_law.proofs.SizeServing.{MayGive, serves_may}
+use Rattle.exchange_law.proofs.HeldServing.{NoCommit, serves_may}
+use Rattle.exchange_law.proofs.HeldSteps.{IsFewer, HasNone, step_did}
 use Rattle.component_law.proofs.Server.{IsSize, IsCommitOf, Commits, Stays, Grows, commits_as, size_over, v, t, number, its_file, other_size, slot_stays}
-use Rattle.component_law.proofs.SizeSteps.{Did, step_did}
-use Rattle.history_law.specs.Files.{Quiet, Asked}
+use Rattle.history_law.specs.Files.{FilesGo, Quiet, Asked}
 
 -- its LAYOUTCOMMIT on the file is carried out
 pub record IsLate (s : Server) (c : ℕ) (x : Client) (n : ℕ) : Type 0 where
@@ -146,9 +146,11 @@ module _ (s : Server) (now : ℕ) (chosen : List ℕ) (q : ClientRequest) (x : C
         (old g (ap (λ (y : File). grant_of y.kept.grants c) (sym it) ∙ has))
         ∙ sym size ∙ ap (λ (y : File). y.kept.size) (sym it)
 
-    by_may : (n : ℕ) (h : Held) → q.file ≡ n → held_of x.held n ≡ Some h → MayGive f.kept c w → IsSize u c n h.size
-    by_may n h same has may =
-        here_stays n h same (sized n h has) may.size (λ g e. old g (may.grants c g e))
+    -- where it is no LAYOUTCOMMIT
+    no_commit : (n : ℕ) (h : Held) → q.file ≡ n → held_of x.held n ≡ Some h → NoCommit q.args → IsSize u c n h.size
+    no_commit n h same has none =
+        let may = serves_may (at_file s chosen f) s.next_grant s.format now c q.args in
+        here_stays n h same (sized n h has) (may.size none) (λ g e. old g (may.grants c g e))
       where
         old : (g : Grant) → (grant_of f.kept.grants c ≡ Some g) ⊎ ((c ≡ c) × (w.told.grant ≡ Some g))
             → grant_of f.kept.grants c ≡ Some g
@@ -186,13 +188,9 @@ module _ (s : Server) (now : ℕ) (chosen : List ℕ) (q : ClientRequest) (x : C
     at_it : (n : ℕ) (h : Held) (a : RequestArgs) → q.file ≡ n → held_of x.held n ≡ Some h → q.args ≡ a
         → IsSize u c n h.size ⊎ IsLate u c x n
     at_it n h (Get iomode offset count) same has is =
-        inl (by_may n h same has
-        (subst (λ (a : RequestArgs). MayGive f.kept c (serves (at_file s chosen f) s.next_grant s.format now c a))
-        (sym is) (serves_may (at_file s chosen f) s.next_grant s.format now c (Get iomode offset count) tt)))
+        inl (no_commit n h same has (subst NoCommit (sym is) tt))
     at_it n h (Return report) same has is =
-        inl (by_may n h same has
-        (subst (λ (a : RequestArgs). MayGive f.kept c (serves (at_file s chosen f) s.next_grant s.format now c a))
-        (sym is) (serves_may (at_file s chosen f) s.next_grant s.format now c (Return report) tt)))
+        inl (no_commit n h same has (subst NoCommit (sym is) tt))
     at_it n h (Commit last) same has is =
         by_commit n h last same has is
         (subst (λ (a : RequestArgs). IsCommitOf f.kept c (serves (at_file s chosen f) s.next_grant s.format now c a))
@@ -239,7 +237,8 @@ admitted s now chosen q New c x safe met e own k = elim (cases_eq q.client c) [
       others_carried s now chosen q c x safe (λ (i : c ≡ q.client). other (sym i)) (file_at s.files q.file) refl k
 ]
 
-did_known : (s : Server) (chosen : List ℕ) (i : Input) (c : ℕ) (x : Client) → Did s chosen i (step s chosen i)
+did_known : (s : Server) (chosen : List ℕ) (i : Input) (c : ℕ) (x : Client)
+    → FilesGo IsFewer HasNone s chosen i (step s chosen i)
     → AreSafe s.files → IsMet s c x → IsOwn s c x i → Known s c x → Known (step s chosen i).state c x
 unfolding on_request
 did_known s chosen i c x (Quiet all same) safe met own k =

@@ -34,8 +34,8 @@ pub mod OnDrives
 pub mod Zones
 pub mod Holders
 pub mod Keeping
+pub mod RequestWalk
 pub mod Walking
-pub mod ZoneServing
 pub mod ZoneMaking
 pub mod Aiming
 pub mod ZoneStepping
@@ -47,16 +47,12 @@ pub mod Servers
 pub mod Moves
 pub mod Keys
 pub mod Sealing
-mod Fewer
-mod SizeSteps
-mod SizeServing
 pub mod Server
 mod Kept
 mod Client
 pub mod PartyAnswering
 mod Knowing
 pub mod SizeMoments
-pub mod Listing
 pub mod PartyKeeping
 pub mod Offline
 pub mod DrivesKnown
@@ -72,7 +68,6 @@ pub mod OrderSteps
 pub mod Histories
 pub mod SentNumbers
 pub mod ObjectJobs
-pub mod ObjectServing
 pub mod ObjectSteps
 pub mod ObjectRuns
 pub mod Sent

@@ -1,6 +1,5 @@
 -- What a request does to the grants of its file, and to what a live one is for.
-use Rattle.std.proofs.Common.{◌≡◌, ◌⊎◌, ◌==◌, ◌++◌, ℕ, Bool, true, false, List, [], ◌∷◌, Option, Some, None, inl, inr, refl, sym, ap, ◌∙◌, if◌then◌else◌}
-use Rattle.std.proofs.lemmas.Bool.{cases_eq, eq-eqb, ne_eqb}
+use Rattle.std.proofs.Common.{◌≡◌, ◌⊎◌, ◌==◌, ℕ, Bool, true, false, Option, Some, None, inl, inr, refl, sym, ap, ◌∙◌, if◌then◌else◌}
 use Rattle.layout_ops.specs.declared.statuses.TheConstants.{LAYOUTIOMODE4_RW}
 use Rattle.server_rules.specs.declared.limits.TheConstants.{GREATEST_TAG}
 use Rattle.world_history.specs.ServerNames.{Kept, Grant, Job, Revoking, RequestArgs, Get, Commit, Return}
@@ -12,6 +11,8 @@ use Rattle.server_rules.specs.Get.{Early, BadMode, Invalid, Unable, Waits, On, L
 use Rattle.server_rules.specs.Commit.{commits, commit_row}
 use Rattle.server_rules.specs.Requests.{serves}
 use Rattle.server_rules.specs.Return.{return_row, returns_on}
+use Rattle.history_law.proofs.IssueTelling.{asked_client}
+use Rattle.exchange_law.proofs.HeldServing.{found_more}
 use Rattle.component_law.proofs.PartyKeeping.{Fewer, IsAlike, alike_then, given_alike, fewer_itself, fence_fewer, commit_fewer, return_fewer}
 
 module _ (Off : ℕ → Type 0) where
@@ -39,18 +40,6 @@ module _ (Off : ℕ → Type 0) where
       before c g (inl old) =
           let y = x.grants c g old.0 in inl (y.0, alike_then Off f k v.going.file.kept y.1 old.1)
       before c g (inr new) = inr new
-
-  -- one more grant
-  found_more : (gs : List Grant) (n g : Grant) (c : ℕ) → grant_of (gs ++ (n ∷ [])) c ≡ Some g
-      → (grant_of gs c ≡ Some g) ⊎ ((n.client ≡ c) × (n ≡ g))
-  found_more [] n g c e = elim (cases_eq n.client c) [
-    | inl is ↦ inr (is, cc (rw (eq-eqb n.client c is) at e))
-    | inr other ↦ absurd (cc (rw (ne_eqb n.client c other) at e))
-  ]
-  found_more (x ∷ xs) n g c e = elim (cases_eq x.client c) [
-    | inl is ↦ rw (eq-eqb x.client c is) (inl (rw (eq-eqb x.client c is) at e))
-    | inr other ↦ rw (ne_eqb x.client c other) (found_more xs n g c (rw (ne_eqb x.client c other) at e))
-  ]
 
   either_may : (f : Kept) (client : ℕ) (b : Bool) (x y : Served) → MayGive f client x → MayGive f client y
       → MayGive f client (if b then x else y)
@@ -101,11 +90,6 @@ module _ (Off : ℕ → Type 0) where
     early_may go format now Unable = gives_none go.file.kept client _ (fewer_itself Off go.file.kept)
     early_may go format now (Waits k) = gives_none go.file.kept client _ (fewer_itself Off go.file.kept)
     early_may go format now On = grants_may go format now
-
-  asked_client : (f : Kept) (number client now offset count : ℕ) (b : Bool)
-      → (asked f number client now offset count b).client ≡ client
-  unfolding asked
-  asked_client f number client now offset count b = refl
 
   pub serves_may : (go : Going) (next format now client : ℕ) (a : RequestArgs)
       → MayGive go.file.kept client (serves go next format now client a)

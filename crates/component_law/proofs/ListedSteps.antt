@@ -9,10 +9,10 @@ use Rattle.server_rules.proofs.Runs.{ran_making}
 use Rattle.world_history.specs.ServerNames.{Server, File, Drive}
 use Rattle.history_law.specs.Files.{FilesGo, FileCases}
 use Rattle.history_law.proofs.Files.{safe_in, files_go}
+use Rattle.exchange_law.proofs.Grants.{hears_none}
 use Rattle.component_law.specs.Listed.{IsOffline}
 use Rattle.component_law.proofs.Offline.{now_out}
 use Rattle.component_law.proofs.PartyKeeping.{Fewer, fewer_itself, fence_fewer, declares_fewer, opens_fewer}
-use Rattle.component_law.proofs.Fewer.{answered_none}
 
 abbrev pub Goes : List Drive → File → File → Type 0
 Goes ds f g = Fewer (IsOffline ds) f.kept g.kept
@@ -36,7 +36,8 @@ cases : (s : Server) (chosen : List ℕ) (i : Input) → AreSafe s.files → Fil
 cases s chosen i safe = record {
   same = λ ds f. fewer_itself (IsOffline ds) f.kept;
   number = λ ds f g x. x.number;
-  answered = λ x is. answered_none s chosen x is.runs (safe_in s.files safe x.file is.there);
+  answered = λ x is.
+      hears_none (at_file s chosen x.file) x.reply x.job x.awaited is.runs (safe_in s.files safe x.file is.there);
   fenced = λ f is kind none. fence_fewer (IsOffline s.drives) kind s.format (at_file s chosen f);
   declared = λ d known f there m placed.
       declares_fewer (IsOffline (offline s.drives d))

@@ -1,5 +1,5 @@
 -- A file is made; and what each step leaves.
-use Rattle.std.proofs.Common.{◌≡◌, ℕ, ◌≤◌, ◌<◌, ◌==◌, ◌∷◌, [], List, Bool, true, false, Option, Some, None, map, nat_lt, length, take, refl, sym, ap, subst, ◌∙◌, arith, inl, inr, eq-eqb, ne_eqb}
+use Rattle.std.proofs.Common.{◌≡◌, ℕ, ◌≤◌, ◌<◌, ◌==◌, ◌∷◌, [], List, Bool, true, false, Option, Some, None, nat_lt, length, take, refl, sym, ap, subst, ◌∙◌, arith, inl, inr, eq-eqb, ne_eqb}
 use Rattle.std.proofs.lemmas.Bool.{cases_Bool, cases_eq}
 use Rattle.std.proofs.lemmas.List.{length-take}
 use Rattle.scenario_text.specs.declared.names.TheConstants.{FILES}

@@ -19,12 +19,12 @@ use Rattle.server_rules.specs.Jobs.{declares, fence_begins, making}
 use Rattle.server_rules.specs.Making.{components_on, refusal, drives_for, unmade, with_file, makes_file, unless_refused, create_file}
 use Rattle.server_rules.specs.History.{Input, Hears, Makes, Obeys, Adds, Zones, Formats, Resends, Crashes, Opens, step, unless_made}
 use Rattle.server_rules.proofs.Members.{in_mapped}
-use Rattle.history_law.specs.Names.{Server, File, Target, Drive, Job, JobKind, Revoking, Rebuilding, Auditing, Effects, Reply, ClientRequest, Awaited, Refusal, OrderKind, ToRecall, ToRevoke, ToDeclare, ToRebuild, ToAudit, Busy, Spent}
+use Rattle.history_law.specs.Names.{Server, File, Kept, Target, Drive, Job, JobKind, Revoking, Rebuilding, Auditing, Effects, Reply, ClientRequest, Awaited, Refusal, OrderKind, ToRecall, ToRevoke, ToDeclare, ToRebuild, ToAudit, Busy, Spent}
 use Rattle.history_law.proofs.JobFiles.{found_file, in_put, in_add, add_there}
 use Rattle.component_law.specs.Objects.{target_of, IsOwned, AreOwned}
 use Rattle.component_law.proofs.SentNumbers.{in_new, new_differ}
-use Rattle.component_law.proofs.ObjectJobs.{Ends, ends_making, ends_fence, ends_hears, ends_declares, ends_opens}
-use Rattle.component_law.proofs.ObjectServing.{ends_served}
+use Rattle.component_law.proofs.ObjectJobs.{Lasts, Ends, objects_walked}
+use Rattle.component_law.proofs.Walking.{IsWalked, ends_making, ends_fence, ends_hears, ends_declares, ends_opens, ends_serves}
 use Rattle.component_law.proofs.Ends.{IsAim}
 
 -- ---- owners
@@ -62,6 +62,12 @@ module _ (owner : ℕ → ℕ) (n number : ℕ) where
 
   mine_fresh : (o : ℕ) → n ≤ o → Mine o
   mine_fresh o from = owner_from owner n number o from
+
+  abbrev Stay : List Drive → (next : ℕ) → Kept → Option Target → Type 0
+  Stay = Lasts Mine number n
+
+  walked : IsWalked Stay
+  walked = objects_walked Mine number n mine_fresh
 
   -- in the middle of a step
   into : (g : Going) → g.effects.object ≡ n → g.file.kept.number ≡ number → IsOwned owner n g.file
@@ -166,8 +172,8 @@ carries s now chosen q (Some f) e =
     let found = found_file s.files q.file f e in
     let v = serves (at_file s chosen f) s.next_grant s.format now q.client q.args in
     goes_at s q.file f v.going (carried_out s q v) found.0 refl refl (λ owner h.
-    ends_served (Mine owner s.next_object f.kept.number) f.kept.number s.next_object
-    (mine_fresh owner s.next_object f.kept.number) (at_file s chosen f) s.next_grant s.format now q.client q.args
+    ends_serves (Stay owner s.next_object f.kept.number) (walked owner s.next_object f.kept.number) (at_file s chosen f)
+    s.next_grant s.format now q.client q.args
     (begun s chosen f owner h))
 
 admitted : (s : Server) (now : ℕ) (chosen : List ℕ) (q : ClientRequest) (a : Admit) → Steps s (by_admit s now chosen q a)
@@ -196,8 +202,7 @@ heard_one s chosen r f j (Some a) i is = (
   f,
   i,
   λ owner h.
-      ends_hears (Mine owner s.next_object f.kept.number) f.kept.number s.next_object
-      (mine_fresh owner s.next_object f.kept.number) (at_file s chosen f) j a r
+      ends_hears (Stay owner s.next_object f.kept.number) (walked owner s.next_object f.kept.number) (at_file s chosen f) j a r
       (hearing (at_file s chosen f).file.kept a r) is (begun s chosen f owner h),
 )
 
@@ -247,8 +252,8 @@ job_begun s chosen kind f None i =
     either_order s (f.kept.tag == GREATEST_TAG) _ _
     (goes_at s f.kept.number f (noting (at_file s chosen f) Spent) _ i refl refl (λ owner h. begun s chosen f owner h))
     (goes_at s f.kept.number f (fence_begins kind s.format (at_file s chosen f)) _ i refl refl (λ owner h.
-    ends_fence (Mine owner s.next_object f.kept.number) f.kept.number s.next_object
-    (mine_fresh owner s.next_object f.kept.number) kind s.format (at_file s chosen f) (begun s chosen f owner h).0))
+    ends_fence (Stay owner s.next_object f.kept.number) (walked owner s.next_object f.kept.number) kind s.format
+    (at_file s chosen f) ((begun s chosen f owner h).0, tt)))
 
 started : (s : Server) (chosen : List ℕ) (kind : JobKind) (n : ℕ) (o : Option File) → file_at s.files n ≡ o
     → Steps s (starts s chosen kind o).step
@@ -307,8 +312,7 @@ declared_each drive ds [] m chosen owner own = no_files owner m chosen
 declared_each drive ds (f ∷ fs) m chosen owner own =
     let g : Going = record { file = f; effects = m; drives = ds; chosen = chosen } in
     let h : Going = declares g drive in
-    let e = ends_declares (Mine owner m.object f.kept.number) f.kept.number m.object
-    (mine_fresh owner m.object f.kept.number) g drive
+    let e = ends_declares (Stay owner m.object f.kept.number) (walked owner m.object f.kept.number) g drive
     (into owner m.object f.kept.number g refl refl (own f (inl refl))) in
     then_all owner m.object f h _ e
     (declared_each drive ds fs h.effects h.chosen (with_owner owner m.object f.kept.number)
@@ -321,8 +325,7 @@ opened_each format ds [] m owner own = no_files owner m []
 opened_each format ds (f ∷ fs) m owner own =
     let g : Going = record { file = f; effects = m; drives = ds; chosen = [] } in
     let h : Going = opens format g in
-    let e = ends_opens (Mine owner m.object f.kept.number) f.kept.number m.object
-    (mine_fresh owner m.object f.kept.number) format g
+    let e = ends_opens (Stay owner m.object f.kept.number) (walked owner m.object f.kept.number) format g
     (into owner m.object f.kept.number g refl refl (own f (inl refl))) in
     then_all owner m.object f h _ e
     (opened_each format ds fs h.effects (with_owner owner m.object f.kept.number)
@@ -413,8 +416,8 @@ made s number m tag zoned ds =
     let t : Server = with_file s f in
     let goes : Steps t (makes_file s f) =
     goes_at t number f (making (at_file t [] f)) (makes_file s f) (add_there s.files f) refl refl (λ o h.
-    ends_making (Mine o t.next_object number) number t.next_object (mine_fresh o t.next_object number) (at_file t [] f)
-    (begun t [] f o h).0) in
+    ends_making (Stay o t.next_object number) (walked o t.next_object number) (at_file t [] f)
+    ((begun t [] f o h).0, tt)) in
     record {
       keeps = λ owner own.
           let k = with_keeps s number m tag zoned ds owner own in

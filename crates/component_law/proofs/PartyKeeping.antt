@@ -15,6 +15,7 @@ use Rattle.layout_types.specs.declared.ioerrs.IoErr.{IoErr}
 use Rattle.server_rules.specs.Standing.{lose_from, lose_on, any_on}
 use Rattle.server_rules.proofs.Runs.{ran_fences, ran_declares}
 use Rattle.server_rules.specs.Commands.{Creating, All, to_all}
+use Rattle.exchange_law.proofs.Grants.{find_without}
 use Rattle.world_history.specs.ServerNames.{Making, Creates}
 
 -- drives of which components may get lost
@@ -237,33 +238,6 @@ module _ (Off : ℕ → Type 0) where
         phase = refl;
         components = same_lose go.file.kept.components go.file.kept.components refl;
       })
-
-  find_without : (gs : List Grant) (gone client : ℕ) (g : Grant) → grant_of (without gs gone) client ≡ Some g
-      → grant_of gs client ≡ Some g
-  find_without [] gone client g e = e
-  find_without (x ∷ xs) gone client g e = elim (cases_eq x.client gone) [
-    | inl is ↦
-        let later : grant_of (without xs gone) client ≡ Some g = rw (eq-eqb x.client gone is) at e in
-        elim (cases_eq x.client client) [
-          | inl same ↦
-              absurd (none xs client
-              (subst (λ (n : ℕ). grant_of (without xs n) client ≡ Some g) (sym is ∙ same) later))
-          | inr other ↦ rw (ne_eqb x.client client other) (find_without xs gone client g later)
-        ]
-    | inr other ↦ elim (cases_eq x.client client) [
-      | inl same ↦ rw (eq-eqb x.client client same) (rw (ne_eqb x.client gone other, eq-eqb x.client client same) at e)
-      | inr not_it ↦
-          rw (ne_eqb x.client client not_it)
-          (find_without xs gone client g (rw (ne_eqb x.client gone other, ne_eqb x.client client not_it) at e))
-    ]
-  ]
-    where
-      none : (ys : List Grant) (n : ℕ) → grant_of (without ys n) n ≡ Some g → ⊥
-      none [] n f = cc f
-      none (y ∷ ys) n f = elim (cases_eq y.client n) [
-        | inl is ↦ none ys n (rw (eq-eqb y.client n is) at f)
-        | inr not_it ↦ none ys n (rw (ne_eqb y.client n not_it, ne_eqb y.client n not_it) at f)
-      ]
 
   ends_fewer : (go : Going) (client : ℕ) → Fewer go.file.kept (ends_grant go client).file.kept
   ends_fewer go client = record {

@@ -1,14 +1,13 @@
 -- What a job sends for its file, function by function: commands to objects of the file, that aren't past it.
-use Rattle.std.proofs.Common.{◌≡◌, ◌==◌, ◌||◌, ℕ, ◌+◌, ◌≤◌, ◌++◌, nat_lt, Bool, true, false, List, [], ◌∷◌, filter, replicate, slice_set, Option, Some, None, refl, sym, ap, subst, ◌∙◌, arith, inl, inr, if◌then◌else◌}
+use Rattle.std.proofs.Common.{◌≡◌, ◌==◌, ◌||◌, ℕ, ◌+◌, ◌≤◌, ◌++◌, nat_lt, Bool, true, false, List, [], ◌∷◌, filter, replicate, slice_set, Option, Some, None, refl, sym, subst, ◌∙◌, arith, inl, inr, if◌then◌else◌}
 use Rattle.std.proofs.lemmas.Bool.{cases_Bool}
 use Rattle.server_rules.specs.declared.limits.TheConstants.{GREATEST_TAG}
 use Rattle.server_rules.specs.Columns.{end_of}
 use Rattle.server_rules.specs.Laws.{In}
 use Rattle.server_rules.specs.Going.{Going, over, noting, noting_if, keeping, with_components, rests, rests_or}
 use Rattle.server_rules.specs.Standing.{any_on, lose_on, lose_from}
-use Rattle.server_rules.specs.Zoning.{takers}
 use Rattle.server_rules.specs.Audit.{audits, audit_begins}
-use Rattle.server_rules.specs.Rebuild.{picked, target_on, target_for, makes_or, rebuilds, stands_at, sources, to_fill, fills, filling, target_gone, target_full}
+use Rattle.server_rules.specs.Rebuild.{target_for, makes_or, rebuilds, stands_at, sources, to_fill, fills, filling, target_gone, target_full}
 use Rattle.server_rules.specs.Repair.{after_repair, mended, repairs, storing, stored, repair_begins}
 use Rattle.server_rules.specs.Replies.{renewed, renews, fills_up, hears, Hearing, Older, Full, Done, Nothing, others}
 use Rattle.server_rules.specs.Jobs.{making, fencing, ending, fenced, fence_begins, fetched, written, gathered, filled_in, audited_on, goes_on, waits_or_on, refills, remakes, loses, declared_in, targets, declares}
@@ -18,6 +17,7 @@ use Rattle.server_rules.specs.Messages.{awaited_by}
 use Rattle.server_rules.proofs.Members.{in_either, in_mapped, in_filtered}
 use Rattle.history_law.specs.Names.{Kept, Phase, Still, Fencing, Repairing, FencingAgain, Command, Fenced, Component, Awaited, Heard, Piece, Target, Job, JobKind, Making, Revoking, Rebuilding, Auditing, Work, Creates, Fences, Fetches, Stores, Targets, Gathers, Fills, Lengths, Checks, Tally, Rebuilt, NoDrive, NoSpace, Reply}
 use Rattle.component_law.specs.Objects.{objects_of, target_in, target_of, NoneIs, AllDiffer}
+use Rattle.component_law.proofs.Walking.{target_is}
 use Rattle.component_law.proofs.SentNumbers.{none_above, in_set, set_differ, objects_set, objects_from, objects_on}
 use Rattle.component_law.specs.Tagged.{is_fence, fence_open, IsBehind}
 use Rattle.component_law.proofs.Sent.{IsMine, AllMine, is_raising, one_mine, mine_for, each_mine, stores_mine, repair_mine, sources_mine}
@@ -102,26 +102,11 @@ module _ (P : ℕ → Type 0) (number n : ℕ) (fresh : (o : ℕ) → n ≤ o �
 
   -- ---- rebuild
 
-  target_object : (g : Going) (k : ℕ) (o : Option ℕ) (t : Target) → target_on g k o ≡ Some t
-      → t.object ≡ g.effects.object
-  target_object g k None t e = absurd (cc e)
-  target_object g k (Some d) t e =
-      let same : record { component = k; drive = d; object = g.effects.object } ≡ t = cc e in
-      ap (λ (x : Target). x.object) (sym same)
-
-  aims_at : (g : Going) (at : Component) (k : ℕ) (t : Target) → target_for g at k ≡ Some t
-      → t.object ≡ g.effects.object
-  unfolding target_for
-  aims_at g at k t e = elim (cases_Bool at.missing) [
-    | inl m ↦ target_object g k (picked g.chosen (takers g.drives g.file.kept k)) t (rw m at e)
-    | inr p ↦ absurd (cc (rw p at e))
-  ]
-
   ends_makes_or : (g : Going) (at : Component) (k : ℕ) (o : Option Target) (later : Going) → target_for g at k ≡ o
       → Own g → End later → End (makes_or g o later)
   ends_makes_or g at k None later is h l = l
   ends_makes_or g at k (Some t) later is h l =
-      let e = aims_at g at k t is in
+      let e = (target_is g at k t is).1 in
       let used : IsUsed P (t.object + 1) t.object = (fresh t.object (omega (arith, e, h.1)), omega arith) in
       let mine : AllMine P (t.object + 1) g.file.kept
       (sent_to g.file.kept Creating t.component t.drive t.object g.effects.nonce ∷ []) =

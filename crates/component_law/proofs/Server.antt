@@ -15,13 +15,11 @@ use Rattle.server_rules.specs.Requests.{serves, keeps, answer_without, answer_wi
 use Rattle.server_rules.specs.Served.{Served}
 use Rattle.server_rules.specs.Slots.{Admit, New, Again, Misordered, slot_of, admit, keep}
 use Rattle.server_rules.proofs.FileLaws.{number_at, safe_at, put_other, keep_same, keep_other}
-use Rattle.component_law.proofs.SizeServing.{MayGive, serves_may}
-use Rattle.component_law.proofs.SizeSteps.{FewerAt, AllFewer, Did, step_did}
-use Rattle.history_law.specs.Files.{Quiet, Asked}
+use Rattle.osd_lists.proofs.Options.{same_some}
+use Rattle.history_law.specs.Files.{FilesGo, Quiet, Asked}
 use Rattle.history_law.proofs.Files.{put_gives}
-
-same_some : {A : Type 0} (x y : A) (o : Option A) → o ≡ Some x → o ≡ Some y → x ≡ y
-same_some x y o e f = cc (sym e ∙ f)
+use Rattle.exchange_law.proofs.HeldServing.{NoCommit, MayGive, serves_may}
+use Rattle.exchange_law.proofs.HeldSteps.{IsFewer, HasNone, FewerAt, AllFewer, step_did}
 
 -- ---- grants
 
@@ -111,8 +109,9 @@ StaysFor f client c v =
     (g : Grant) → grant_of v.going.file.kept.grants c ≡ Some g
     → (grant_of f.grants c ≡ Some g) × (v.going.file.kept.size ≡ f.size)
 
-may_stay : (f : Kept) (client c : ℕ) (v : Served) → (c ≡ client → ⊥) → MayGive f client v → StaysFor f client c v
-may_stay f client c v other may g has = (old (may.grants c g has), may.size)
+may_stay : (f : Kept) (client c : ℕ) (a : RequestArgs) (v : Served) → (c ≡ client → ⊥) → NoCommit a
+    → MayGive f client a v → StaysFor f client c v
+may_stay f client c a v other none may g has = (old (may.grants c g has), may.size none)
   where
     old : (grant_of f.grants c ≡ Some g) ⊎ ((c ≡ client) × (v.told.grant ≡ Some g)) → grant_of f.grants c ≡ Some g
     old (inl e) = e
@@ -132,19 +131,12 @@ commit_stays f client c v apart other x g has =
 pub serves_stay : (go : Going) (next format now client : ℕ) (a : RequestArgs) (c : ℕ) → Apart go.file.kept.grants
     → (c ≡ client → ⊥) → StaysFor go.file.kept client c (serves go next format now client a)
 serves_stay go next format now client (Get iomode offset count) c apart other =
-    may_stay go.file.kept client c _ other (serves_may go next format now client (Get iomode offset count) tt)
+    may_stay go.file.kept client c (Get iomode offset count) _ other tt
+    (serves_may go next format now client (Get iomode offset count))
 serves_stay go next format now client (Commit last) c apart other =
     commit_stays go.file.kept client c _ apart other (commits_as go next format now client last)
 serves_stay go next format now client (Return report) c apart other =
-    may_stay go.file.kept client c _ other (serves_may go next format now client (Return report) tt)
-
-pub serves_number : (go : Going) (next format now client : ℕ) (a : RequestArgs)
-    → (serves go next format now client a).going.file.kept.number ≡ go.file.kept.number
-serves_number go next format now client (Get iomode offset count) =
-    (serves_may go next format now client (Get iomode offset count) tt).number
-serves_number go next format now client (Commit last) = (commits_as go next format now client last).number
-serves_number go next format now client (Return report) =
-    (serves_may go next format now client (Return report) tt).number
+    may_stay go.file.kept client c (Return report) _ other tt (serves_may go next format now client (Return report))
 
 -- ---- the answers that are kept
 
@@ -157,14 +149,14 @@ abbrev pub AnswersSized : Server → Type 0
 AnswersSized s = (c : ℕ) (t : Slot) → slot_of s.slots c ≡ Some t → IsSize s c t.kept.file t.kept.size
 
 -- a quiet step
-pub size_over : (s t : Server) (c n size : ℕ) → AllFewer s.files t.files → IsSize s c n size → IsSize t c n size
+pub size_over : (s t : Server) (c n size : ℕ) → AllFewer t.drives s.files t.files → IsSize s c n size → IsSize t c n size
 size_over s t c n size all is f g at has = by (all n f at)
   where
-    by : FewerAt s.files n f → size ≡ f.kept.size
+    by : FewerAt t.drives s.files n f → size ≡ f.kept.size
     by (inl (e, there, fewer)) = is e g there (fewer.grants c g has) ∙ sym fewer.size
     by (inr none) = absurd (cc (ap (λ (gs : List Grant). grant_of gs c) (sym none) ∙ has))
 
-quiet_sized : (s t : Server) → AllFewer s.files t.files → t.slots ≡ s.slots → AnswersSized s → AnswersSized t
+quiet_sized : (s t : Server) → AllFewer t.drives s.files t.files → t.slots ≡ s.slots → AnswersSized s → AnswersSized t
 quiet_sized s t all same k c slot has =
     size_over s t c slot.kept.file slot.kept.size all
     (k c slot (ap (λ (ss : List Slot). slot_of ss c) (sym same) ∙ has))
@@ -181,7 +173,8 @@ module _ (s : Server) (now : ℕ) (chosen : List ℕ) (q : ClientRequest) where
 
     pub number : v.going.file.kept.number ≡ q.file
     number =
-        serves_number (at_file s chosen f) s.next_grant s.format now q.client q.args ∙ number_at s.files q.file f at
+        (serves_may (at_file s chosen f) s.next_grant s.format now q.client q.args).number
+        ∙ number_at s.files q.file f at
 
     pub its_file : (e : File) → file_at t.files q.file ≡ Some e → e ≡ v.going.file
     its_file e there = put_gives s.files q.file v.going.file e number there
@@ -246,8 +239,8 @@ module _ (s : Server) (now : ℕ) (chosen : List ℕ) (q : ClientRequest) where
   admitted_sized (Again kept) safe k = k
   admitted_sized (Misordered expected) safe k = k
 
-did_sized : (s : Server) (chosen : List ℕ) (i : Input) → Did s chosen i (step s chosen i) → AreSafe s.files
-    → AnswersSized s → AnswersSized (step s chosen i).state
+did_sized : (s : Server) (chosen : List ℕ) (i : Input) → FilesGo IsFewer HasNone s chosen i (step s chosen i)
+    → AreSafe s.files → AnswersSized s → AnswersSized (step s chosen i).state
 unfolding on_request
 did_sized s chosen i (Quiet all same) safe k = quiet_sized s (step s chosen i).state all same k
 did_sized s chosen i (Asked now q is done) safe k =

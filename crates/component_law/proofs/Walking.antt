@@ -1,12 +1,14 @@
--- What is so of a file's components and of a rebuild's target lasts through the job's functions, one by one.
-use Rattle.std.proofs.Common.{◌≡◌, ◌==◌, ◌||◌, ℕ, ◌+◌, Bool, true, false, nat_lt, List, [], ◌∷◌, slice_set, replicate, Option, Some, None, refl, subst, if◌then◌else◌}
+-- What is so of a file's components and of a rebuild's target lasts through the job's functions, one by one, and through a
+-- client's request.
+use Rattle.std.proofs.Common.{◌≡◌, ◌==◌, ◌||◌, ℕ, ◌+◌, Bool, true, false, nat_lt, List, [], ◌∷◌, slice_set, replicate, Option, Some, None, refl, sym, ap, subst, inl, inr, if◌then◌else◌}
+use Rattle.std.proofs.lemmas.Bool.{cases_Bool}
 use Rattle.server_rules.specs.declared.limits.TheConstants.{GREATEST_TAG}
 use Rattle.server_rules.specs.Audit.{audits, audit_begins}
 use Rattle.server_rules.specs.Columns.{end_of}
 use Rattle.server_rules.specs.Going.{Going, over, keeping, noting, noting_if, with_components, rests_or}
 use Rattle.server_rules.specs.Jobs.{making, ending, fenced, fences, fence_begins, fetched, written, gathered, filled_in, audited_on, goes_on, waits_or_on, refills, remakes, loses, declared_in, targets, declares}
 use Rattle.server_rules.specs.Openings.{opens_made, opens_fenced, opens, is_unsettled}
-use Rattle.server_rules.specs.Rebuild.{makes_or, rebuilds, fills, filling, target_gone, target_full, target_for, stands_at}
+use Rattle.server_rules.specs.Rebuild.{picked, target_on, makes_or, rebuilds, fills, filling, target_gone, target_full, target_for, stands_at}
 use Rattle.server_rules.specs.Repair.{after_repair, mended, repairs, storing, stored, repair_begins}
 use Rattle.server_rules.specs.Replies.{fills_up, hears, Hearing, Older, Full, Done, Nothing, others}
 use Rattle.server_rules.specs.Standing.{lose_from, lose_on, any_on}
@@ -25,39 +27,64 @@ use Rattle.server_rules.specs.declared.jobs.Target.{Target}
 use Rattle.server_rules.specs.declared.jobs.Tally.{Tally}
 use Rattle.server_rules.specs.declared.files.Component.{Component}
 use Rattle.osd_commands.specs.declared.replies.Reply.{Reply}
+use Rattle.server_rules.specs.declared.requests.RequestArgs.{RequestArgs}
+use Rattle.server_rules.specs.Requests.{serves}
+use Rattle.server_rules.specs.Zoning.{takers}
 use Rattle.component_law.specs.Objects.{target_of, target_in}
+use Rattle.component_law.proofs.RequestWalk.{IsServed, ends_served}
 
--- Q of the drives, of what is kept of a file and of the target of its rebuild lasts through each part of a job.
-pub record IsWalked (Q : List Drive → Kept → Option Target → Type 0) : Type 0 where
-  -- what leaves map and components
-  pub same : (ds : List Drive) (k l : Kept) (o : Option Target) → l.zoned ≡ k.zoned → l.map ≡ k.map →
-      l.components ≡ k.components → Q ds k o → Q ds l o
+-- ---- what is made anew
+
+target_by : (g : Going) (n : ℕ) (t : Target) (o : Option ℕ) → target_on g n o ≡ Some t →
+    (t.component ≡ n) × (t.object ≡ g.effects.object)
+target_by g n t None e = absurd (cc e)
+target_by g n t (Some d) e =
+    let same : record { component = n; drive = d; object = g.effects.object } ≡ t = cc e in
+    (ap (λ (x : Target). x.component) (sym same), ap (λ (x : Target). x.object) (sym same))
+
+-- where a component is made anew, and with which number
+pub target_is : (g : Going) (at : Component) (n : ℕ) (t : Target) → target_for g at n ≡ Some t →
+    (t.component ≡ n) × (t.object ≡ g.effects.object)
+unfolding target_for
+target_is g at n t e = elim (cases_Bool at.missing) [
+  | inl m ↦ target_by g n t (picked g.chosen (takers g.drives g.file.kept n)) (rw m at e)
+  | inr p ↦ absurd (cc (rw p at e))
+]
+
+-- ---- what lasts
+
+-- Q of the drives, of the next object number, of what is kept of a file and of the target of its rebuild lasts through each part
+-- of a job.
+pub record IsWalked (Q : List Drive → (next : ℕ) → Kept → Option Target → Type 0) : Type 0 where
+  -- what leaves number, map and components
+  pub same : (ds : List Drive) (m : ℕ) (k l : Kept) (o : Option Target) → l.number ≡ k.number → l.zoned ≡ k.zoned →
+      l.map ≡ k.map → l.components ≡ k.components → Q ds m k o → Q ds m l o
   -- no component is made anew any more
-  pub ends : (ds : List Drive) (k : Kept) (o : Option Target) → Q ds k o → Q ds k None
+  pub ends : (ds : List Drive) (m : ℕ) (k : Kept) (o : Option Target) → Q ds m k o → Q ds m k None
   -- one is to be
-  pub aims : (g : Going) (at : Component) (n : ℕ) (t : Target) → target_for g at n ≡ Some t → Q g.drives g.file.kept None →
-      Q g.drives g.file.kept (Some t)
+  pub aims : (g : Going) (at : Component) (n : ℕ) (t : Target) → target_for g at n ≡ Some t →
+      Q g.drives g.effects.object g.file.kept None → Q g.drives (t.object + 1) g.file.kept (Some t)
   -- and is
-  pub placed : (ds : List Drive) (k : Kept) (t : Target) → Q ds k (Some t) →
-      Q ds (record k { components = slice_set k.components t.component (stands_at t) }) None
+  pub placed : (ds : List Drive) (m : ℕ) (k : Kept) (t : Target) → Q ds m k (Some t) →
+      Q ds m (record k { components = slice_set k.components t.component (stands_at t) }) None
   -- components become missing
-  pub lost : (ds : List Drive) (k : Kept) (o : Option Target) (ns : List ℕ) → Q ds k o →
-      Q ds (record k { components = lose_from ns k.components 0 }) o
-  pub declared : (ds : List Drive) (k : Kept) (o : Option Target) (d : ℕ) → Q ds k o →
-      Q ds (record k { components = lose_on d k.components }) o
+  pub lost : (ds : List Drive) (m : ℕ) (k : Kept) (o : Option Target) (ns : List ℕ) → Q ds m k o →
+      Q ds m (record k { components = lose_from ns k.components 0 }) o
+  pub declared : (ds : List Drive) (m : ℕ) (k : Kept) (o : Option Target) (d : ℕ) → Q ds m k o →
+      Q ds m (record k { components = lose_on d k.components }) o
 
-module _ (Q : List Drive → Kept → Option Target → Type 0) (w : IsWalked Q) where
+module _ (Q : List Drive → (next : ℕ) → Kept → Option Target → Type 0) (w : IsWalked Q) where
   -- while no component is made anew
   abbrev pub Own : Going → Type 0
-  Own g = Q g.drives g.file.kept None
+  Own g = Q g.drives g.effects.object g.file.kept None
 
   -- with a target
   abbrev pub Aims : Going → Option Target → Type 0
-  Aims g o = Q g.drives g.file.kept o
+  Aims g o = Q g.drives g.effects.object g.file.kept o
 
   -- with that of its job
   abbrev pub Ends : Going → Type 0
-  Ends g = Q g.drives g.file.kept (target_of g.file.job)
+  Ends g = Q g.drives g.effects.object g.file.kept (target_of g.file.job)
 
   either_going : (b : Bool) (x y : Going) → Ends x → Ends y → Ends (if b then x else y)
   either_going true x y p q = p
@@ -96,9 +123,9 @@ module _ (Q : List Drive → Kept → Option Target → Type 0) (w : IsWalked Q)
 
   ends_fills : (g : Going) (t : Target) (ps : List Piece) → Aims g (Some t) → Ends (fills g t ps)
   unfolding fills
-  ends_fills g t [] h = ends_rebuilds _ _ _ (w.placed g.drives g.file.kept t h)
+  ends_fills g t [] h = ends_rebuilds _ _ _ (w.placed g.drives g.effects.object g.file.kept t h)
   ends_fills g t (p ∷ ps) h =
-      ends_rests_or _ g _ _ _ h (ends_rebuilds (noting g _) _ _ (w.ends g.drives g.file.kept (Some t) h))
+      ends_rests_or _ g _ _ _ h (ends_rebuilds (noting g _) _ _ (w.ends g.drives g.effects.object g.file.kept (Some t) h))
 
   ends_filling : (g : Going) (t : Target) (p : Piece) (ps : List Piece) (bytes : List ℕ) → Aims g (Some t) →
       Ends (filling g t p ps bytes)
@@ -123,7 +150,8 @@ module _ (Q : List Drive → Kept → Option Target → Type 0) (w : IsWalked Q)
   ends_repairs : (kind : JobKind) (g : Going) (ps : List Piece) (short : List ℕ) → Own g → Ends (repairs kind g ps short)
   unfolding repairs
   ends_repairs kind g [] short h =
-      ends_after kind (mended g short) (w.same g.drives g.file.kept (mended g short).file.kept None refl refl refl h)
+      ends_after kind (mended g short)
+      (w.same g.drives g.effects.object g.file.kept (mended g short).file.kept None refl refl refl refl h)
   ends_repairs kind g (p ∷ ps) short h = ends_rests_or _ g _ _ _ h (ends_repairs kind g ps _ h)
 
   ends_storing : (kind : JobKind) (g : Going) (p : Piece) (ps : List Piece) (short : List ℕ) (heard : List Heard) → Own g →
@@ -139,7 +167,7 @@ module _ (Q : List Drive → Kept → Option Target → Type 0) (w : IsWalked Q)
   -- ---- the fence and the job
 
   ends_made : (g : Going) → Own g → Ends (over (noting (keeping g (record g.file.kept { ready = true })) Ready))
-  ends_made g h = w.same g.drives g.file.kept _ None refl refl refl h
+  ends_made g h = w.same g.drives g.effects.object g.file.kept _ None refl refl refl refl h
 
   pub ends_making : (g : Going) → Own g → Ends (making g)
   unfolding making
@@ -147,7 +175,7 @@ module _ (Q : List Drive → Kept → Option Target → Type 0) (w : IsWalked Q)
 
   ends_fenced : (kind : JobKind) (g : Going) → Own g → Ends (fenced kind g)
   unfolding fenced repair_begins
-  ends_fenced kind g h = ends_repairs kind _ _ [] (w.same g.drives g.file.kept _ None refl refl refl h)
+  ends_fenced kind g h = ends_repairs kind _ _ [] (w.same g.drives g.effects.object g.file.kept _ None refl refl refl refl h)
 
   ends_fences : (kind : JobKind) (g : Going) → Own g → Ends (fences kind g)
   ends_fences kind g h = ends_rests_or _ g _ _ _ h (ends_fenced kind g h)
@@ -155,7 +183,8 @@ module _ (Q : List Drive → Kept → Option Target → Type 0) (w : IsWalked Q)
   pub ends_fence : (kind : JobKind) (format : ℕ) (g : Going) → Own g → Ends (fence_begins kind format g)
   unfolding fence_begins
   ends_fence kind format g h =
-      ends_fences kind (keeping g (ending g.file.kept format)) (w.same g.drives g.file.kept _ None refl refl refl h)
+      ends_fences kind (keeping g (ending g.file.kept format))
+      (w.same g.drives g.effects.object g.file.kept _ None refl refl refl refl h)
 
   ends_fetched : (kind : JobKind) (g : Going) (ps : List Piece) (short : List ℕ) (heard : List Heard) → Own g →
       Ends (fetched kind g ps short heard)
@@ -201,11 +230,11 @@ module _ (Q : List Drive → Kept → Option Target → Type 0) (w : IsWalked Q)
   -- ---- a component is lost meanwhile
 
   ends_refills : (g : Going) (t : Target) (ps : List Piece) (gone : Bool) → Aims g (Some t) → Ends (refills g t ps gone)
-  ends_refills g t ps true h = ends_gone g t (w.ends g.drives g.file.kept (Some t) h)
+  ends_refills g t ps true h = ends_gone g t (w.ends g.drives g.effects.object g.file.kept (Some t) h)
   ends_refills g t ps false h = ends_fills g t ps h
 
   ends_remakes : (g : Going) (t : Target) (gone : Bool) → Aims g (Some t) → Ends g → Ends (remakes g t gone)
-  ends_remakes g t true h e = ends_gone g t (w.ends g.drives g.file.kept (Some t) h)
+  ends_remakes g t true h e = ends_gone g t (w.ends g.drives g.effects.object g.file.kept (Some t) h)
   ends_remakes g t false h e = e
 
   ends_loses : (g : Going) (j : Job) (work : Work) (rest : List Awaited) (gone : Bool) → Aims g (target_in work) → Ends g →
@@ -227,14 +256,14 @@ module _ (Q : List Drive → Kept → Option Target → Type 0) (w : IsWalked Q)
       Ends (loses (noting (with_components g (lose_from (a.component ∷ []) g.file.kept.components 0))
       (NoSpace a.component)) j work (others j.awaited a.command.nonce) false)
   ends_lost g j a work h e =
-      ends_loses _ j work _ false (w.lost g.drives g.file.kept _ (a.component ∷ []) h)
-      (w.lost g.drives g.file.kept _ (a.component ∷ []) e)
+      ends_loses _ j work _ false (w.lost g.drives g.effects.object g.file.kept _ (a.component ∷ []) h)
+      (w.lost g.drives g.effects.object g.file.kept _ (a.component ∷ []) e)
 
   ends_fills_up : (g : Going) (j : Job) (a : Awaited) (work : Work) → Aims g (target_in work) → Ends g →
       Ends (fills_up g j a work)
-  ends_fills_up g j a (Targets t) h e = ends_full g t (w.ends g.drives g.file.kept (Some t) h)
-  ends_fills_up g j a (Gathers t ps) h e = ends_full g t (w.ends g.drives g.file.kept (Some t) h)
-  ends_fills_up g j a (Fills t ps) h e = ends_full g t (w.ends g.drives g.file.kept (Some t) h)
+  ends_fills_up g j a (Targets t) h e = ends_full g t (w.ends g.drives g.effects.object g.file.kept (Some t) h)
+  ends_fills_up g j a (Gathers t ps) h e = ends_full g t (w.ends g.drives g.effects.object g.file.kept (Some t) h)
+  ends_fills_up g j a (Fills t ps) h e = ends_full g t (w.ends g.drives g.effects.object g.file.kept (Some t) h)
   ends_fills_up g j a Creates h e = ends_lost g j a Creates h e
   ends_fills_up g j a Fences h e = ends_lost g j a Fences h e
   ends_fills_up g j a (Fetches ps short) h e = ends_lost g j a (Fetches ps short) h e
@@ -246,7 +275,7 @@ module _ (Q : List Drive → Kept → Option Target → Type 0) (w : IsWalked Q)
   pub ends_hears : (g : Going) (j : Job) (a : Awaited) (r : Reply) (x : Hearing) → g.file.job ≡ Some j → Ends g →
       Ends (hears g j a r x)
   ends_hears g j a r Older runs h =
-      w.same g.drives g.file.kept _ (target_in j.work) refl refl refl
+      w.same g.drives g.effects.object g.file.kept _ (target_in j.work) refl refl refl refl
       (subst (λ (o : Option Job). Aims g (target_of o)) runs h)
   ends_hears g j a r Full runs h =
       ends_fills_up g j a j.work (subst (λ (o : Option Job). Aims g (target_of o)) runs h) h
@@ -266,7 +295,7 @@ module _ (Q : List Drive → Kept → Option Target → Type 0) (w : IsWalked Q)
   ends_declares g drive h =
       either_going (any_on drive g.file.kept.components || targets g.file.job drive) _ _
       (ends_declared (with_components g (lose_on drive g.file.kept.components)) drive g.file.job refl
-      (w.declared g.drives g.file.kept (target_of g.file.job) drive h)) h
+      (w.declared g.drives g.effects.object g.file.kept (target_of g.file.job) drive h)) h
 
   -- ---- an opening
 
@@ -278,10 +307,29 @@ module _ (Q : List Drive → Kept → Option Target → Type 0) (w : IsWalked Q)
   unfolding opens_fenced
   ends_opens_fenced format g h =
       either_going (g.file.kept.tag == GREATEST_TAG) _ _ h
-      (ends_fence Revoking format g (w.ends g.drives g.file.kept (target_of g.file.job) h))
+      (ends_fence Revoking format g (w.ends g.drives g.effects.object g.file.kept (target_of g.file.job) h))
 
   pub ends_opens : (format : ℕ) (g : Going) → Ends g → Ends (opens format g)
   unfolding opens
   ends_opens format g h =
       either_going (is_unsettled g.file.kept) _ _ (ends_opens_fenced format g h)
-      (ends_opened g g.file.kept.ready (w.ends g.drives g.file.kept (target_of g.file.job) h))
+      (ends_opened g g.file.kept.ready (w.ends g.drives g.effects.object g.file.kept (target_of g.file.job) h))
+
+  -- ---- a request
+
+  served : IsServed Ends Ends
+  served = record {
+    stays = λ g h. h;
+    fence = λ format g h.
+        ends_fence Revoking format g (w.ends g.drives g.effects.object g.file.kept (target_of g.file.job) h);
+    lost = λ g ks h. w.lost g.drives g.effects.object g.file.kept (target_of g.file.job) ks h;
+    noted = λ g b n h. h;
+    granted = λ g gs high h.
+        w.same g.drives g.effects.object g.file.kept _ (target_of g.file.job) refl refl refl refl h;
+    sized = λ g size h.
+        w.same g.drives g.effects.object g.file.kept _ (target_of g.file.job) refl refl refl refl h;
+  }
+
+  pub ends_serves : (go : Going) (next format now client : ℕ) (r : RequestArgs) → Ends go →
+      Ends (serves go next format now client r).going
+  ends_serves go next format now client r h = ends_served Ends Ends served go next format now client r h

@@ -26,8 +26,7 @@ use Rattle.component_law.proofs.Zones.{same_equal, same_added, same_put, zones_o
 use Rattle.component_law.proofs.Keeping.{stays_moved}
 use Rattle.component_law.proofs.ZoneMaking.{stays_made}
 use Rattle.component_law.proofs.Aiming.{Spread, spread_walked}
-use Rattle.component_law.proofs.Walking.{Ends, ends_hears, ends_fence, ends_declares, ends_opens, ends_making}
-use Rattle.component_law.proofs.ZoneServing.{ends_serves}
+use Rattle.component_law.proofs.Walking.{Ends, ends_hears, ends_fence, ends_declares, ends_opens, ends_making, ends_serves}
 use Rattle.component_law.specs.Objects.{target_of}
 
 module _ (s : Server) (chosen : List ℕ) (i : Input) (apart : AreApart s) (fresh : IsFresh s i) (h : AreSpread s) where
@@ -108,7 +107,8 @@ module _ (s : Server) (chosen : List ℕ) (i : Input) (apart : AreApart s) (fres
     fenced = λ f is kind none low.
         put f.kept.number (fence_begins kind s.format (at_file s chosen f))
         (ends_fence (Spread s.drives) (spread_walked s.drives) kind s.format (at_file s chosen f)
-        ((spread_walked s.drives).ends s.drives f.kept (target_of f.job) (begun f (in_at s.files is.target f is.found))));
+        ((spread_walked s.drives).ends s.drives s.next_object f.kept (target_of f.job)
+        (begun f (in_at s.files is.target f is.found))));
     declared = λ d known. declared d;
     told = λ t now o is result l. l;
     made = λ n m tag zoned is none. made n m tag zoned none;

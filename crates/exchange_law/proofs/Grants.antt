@@ -1,4 +1,4 @@
--- What becomes of the grants of a file: they stay or end, and a LAYOUTGET may give its client one.
+-- What leaves a file its number, map and size, and gives no grant: all but a LAYOUTGET and a LAYOUTCOMMIT. Grants stay or end.
 use Rattle.std.proofs.Common.{◌≡◌, ◌==◌, ℕ, ◌+◌, Bool, true, false, List, [], ◌∷◌, Some, inl, inr, refl, sym, ap, subst, ◌∙◌, if◌then◌else◌}
 use Rattle.std.proofs.lemmas.Bool.{cases_eq, eq-eqb, ne_eqb}
 use Rattle.server_rules.specs.declared.limits.TheConstants.{GREATEST_TAG}
@@ -6,7 +6,6 @@ use Rattle.world_history.specs.ServerNames.{Kept, Component, Grant, JobKind, Rev
 use Rattle.server_rules.specs.Grants.{grant_of, without}
 use Rattle.server_rules.specs.Jobs.{making, ending, fences, fence_begins, declares}
 use Rattle.server_rules.specs.Going.{Going, keeping, noting_if}
-use Rattle.server_rules.specs.Commit.{Committed, NoGrant, Wrong, Sizes, by_commit}
 use Rattle.server_rules.specs.Laws.{Ran, IsSafe}
 use Rattle.server_rules.specs.Numbers.{among}
 use Rattle.server_rules.specs.Openings.{is_unsettled, opens_made, opens_fenced, opens}
@@ -16,38 +15,42 @@ use Rattle.server_rules.specs.Standing.{lose_from}
 use Rattle.server_rules.proofs.Runs.{ran_making, ran_fences, ran_declares}
 use Rattle.server_rules.proofs.HandlerLaws.{ran_hears}
 
--- the file goes on with its number and map, and with no other grants
+-- the file goes on with its number, map and size, and with no other grants
 pub record Fewer (f k : Kept) : Type 0 where
   pub number : k.number ≡ f.number
   pub map : k.map ≡ f.map
+  pub size : k.size ≡ f.size
   pub grants : (client : ℕ) (g : Grant) → grant_of k.grants client ≡ Some g → grant_of f.grants client ≡ Some g
 
 pub fewer_itself : (f : Kept) → Fewer f f
-fewer_itself f = record { number = refl; map = refl; grants = λ client g e. e }
+fewer_itself f = record { number = refl; map = refl; size = refl; grants = λ client g e. e }
 
 pub fewer_then : (f k l : Kept) → Fewer f k → Fewer k l → Fewer f l
 fewer_then f k l a b = record {
   number = b.number ∙ a.number;
   map = b.map ∙ a.map;
+  size = b.size ∙ a.size;
   grants = λ client g e. a.grants client g (b.grants client g e);
 }
 
-same_grants : (f k : Kept) → k.number ≡ f.number → k.map ≡ f.map → k.grants ≡ f.grants → Fewer f k
-same_grants f k number map same = record {
+same_grants : (f k : Kept) → k.number ≡ f.number → k.map ≡ f.map → k.size ≡ f.size → k.grants ≡ f.grants → Fewer f k
+same_grants f k number map size same = record {
   number = number;
   map = map;
+  size = size;
   grants = λ client g e. ap (λ (gs : List Grant). grant_of gs client) (sym same) ∙ e;
 }
 
-no_grants : (f k : Kept) → k.number ≡ f.number → k.map ≡ f.map → k.grants ≡ [] → Fewer f k
-no_grants f k number map none = record {
+no_grants : (f k : Kept) → k.number ≡ f.number → k.map ≡ f.map → k.size ≡ f.size → k.grants ≡ [] → Fewer f k
+no_grants f k number map size none = record {
   number = number;
   map = map;
+  size = size;
   grants = λ client g e. absurd (cc (ap (λ (gs : List Grant). grant_of gs client) (sym none) ∙ e));
 }
 
 ran_fewer : (f : Kept) (go : Going) → Ran f go → Fewer f go.file.kept
-ran_fewer f go r = same_grants f go.file.kept r.number r.map r.grants
+ran_fewer f go r = same_grants f go.file.kept r.number r.map r.size r.grants
 
 -- ---- what isn't a request
 
@@ -56,7 +59,7 @@ pub fence_fewer : (kind : JobKind) (format : ℕ) (go : Going)
 unfolding fence_begins
 fence_fewer kind format go =
     let r = ran_fences kind (keeping go (ending go.file.kept format)) in
-    no_grants go.file.kept (fences kind (keeping go (ending go.file.kept format))).file.kept r.number r.map r.grants
+    no_grants go.file.kept (fences kind (keeping go (ending go.file.kept format))).file.kept r.number r.map r.size r.grants
 
 pub declares_fewer : (go : Going) (drive : ℕ) → IsSafe go.file → Fewer go.file.kept (declares go drive).file.kept
 declares_fewer go drive s = ran_fewer go.file.kept (declares go drive) (ran_declares go drive s.rests)
@@ -91,14 +94,10 @@ pub hears_none : (go : Going) (r : Reply) (j : Job) (a : Awaited) → go.file.jo
 hears_none go r j a e s =
     (ran_hears go j a r (hearing go.file.kept a r) (rw e at s.rests) s.rests).grants ∙ (rw e at s.alone)
 
--- ---- commits and returns
+-- ---- returns
 
-pub commit_fewer : (go : Going) (c : Committed) → Fewer go.file.kept (by_commit go c).going.file.kept
-commit_fewer go NoGrant = fewer_itself go.file.kept
-commit_fewer go Wrong = fewer_itself go.file.kept
-commit_fewer go (Sizes size) = same_grants go.file.kept _ refl refl refl
-
-find_without : (gs : List Grant) (gone client : ℕ) (g : Grant) → grant_of (without gs gone) client ≡ Some g
+-- a grant that is left was there
+pub find_without : (gs : List Grant) (gone client : ℕ) (g : Grant) → grant_of (without gs gone) client ≡ Some g
     → grant_of gs client ≡ Some g
 find_without [] gone client g e = e
 find_without (x ∷ xs) gone client g e = elim (cases_eq x.client gone) [
@@ -129,6 +128,7 @@ ends_fewer : (go : Going) (client : ℕ) → Fewer go.file.kept (ends_grant go c
 ends_fewer go client = record {
   number = refl;
   map = refl;
+  size = refl;
   grants = λ c g e. find_without go.file.kept.grants client c g e;
 }
 
@@ -143,7 +143,7 @@ unfolding takes_loss
 loss_fewer go ks =
     let lost : Going =
     keeping go (record go.file.kept { components = lose_from ks go.file.kept.components 0 }) in
-    fewer_then go.file.kept lost.file.kept _ (same_grants go.file.kept lost.file.kept refl refl refl)
+    fewer_then go.file.kept lost.file.kept _ (same_grants go.file.kept lost.file.kept refl refl refl refl)
     (reports_fewer lost ks go.file.kept.components 0)
 
 pub return_fewer : (go : Going) (format client : ℕ) (r : Returned)

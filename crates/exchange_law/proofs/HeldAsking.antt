@@ -189,7 +189,7 @@ module _ (s : Server) (now : ℕ) (chosen : List ℕ) (q : ClientRequest) (x : C
     abbrev t : Server
     t = (carried_out s q v).state
 
-    may : MayGive f.kept c v
+    may : MayGive f.kept c q.args v
     may = serves_may (at_file s chosen f) s.next_grant s.format now c q.args
 
     number : v.going.file.kept.number ≡ q.file

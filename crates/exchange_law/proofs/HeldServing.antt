@@ -10,29 +10,42 @@ use Rattle.server_rules.specs.Jobs.{fence_begins}
 use Rattle.server_rules.specs.Going.{Going}
 use Rattle.server_rules.specs.Served.{Served}
 use Rattle.server_rules.specs.Get.{Early, BadMode, Invalid, Unable, Waits, On, by_job, Late, NoNumber, Lacks, Conflict, Gives, by_late, late, give_or_refuse, after_fence, fence_first, must_fence, on_grants, by_early, early, gets}
-use Rattle.server_rules.specs.Commit.{commits, commit_row}
+use Rattle.server_rules.specs.Commit.{Committed, NoGrant, Wrong, Sizes, by_commit, commits, commit_row}
 use Rattle.server_rules.specs.Requests.{serves}
 use Rattle.server_rules.specs.Return.{return_row, returns_on}
 use Rattle.history_law.proofs.IssueTelling.{asked_client}
-use Rattle.exchange_law.proofs.Grants.{Fewer, fewer_itself, fence_fewer, commit_fewer, return_fewer}
+use Rattle.exchange_law.proofs.Grants.{Fewer, fewer_itself, fence_fewer, return_fewer}
 
 -- ---- the grants of the file
 
--- no other grant than before, but one of this client that is told
-pub record MayGive (f : Kept) (client : ℕ) (v : Served) : Type 0 where
+-- it is no LAYOUTCOMMIT
+abbrev pub NoCommit : RequestArgs → Type 0
+NoCommit (Commit last) = ⊥
+NoCommit a = Unit {0}
+
+-- no other grant than before, but one of this client that is told, and the size stays, but for a LAYOUTCOMMIT
+pub record MayGive (f : Kept) (client : ℕ) (a : RequestArgs) (v : Served) : Type 0 where
   pub number : v.going.file.kept.number ≡ f.number
   pub map : v.going.file.kept.map ≡ f.map
+  pub size : NoCommit a → v.going.file.kept.size ≡ f.size
   pub grants : (c : ℕ) (g : Grant) → grant_of v.going.file.kept.grants c ≡ Some g
       → (grant_of f.grants c ≡ Some g) ⊎ ((c ≡ client) × (v.told.grant ≡ Some g))
 
-gives_none : (f : Kept) (client : ℕ) (v : Served) → Fewer f v.going.file.kept → MayGive f client v
-gives_none f client v x = record { number = x.number; map = x.map; grants = λ c g e. inl (x.grants c g e) }
+gives_none : (f : Kept) (client : ℕ) (a : RequestArgs) (v : Served) → Fewer f v.going.file.kept → MayGive f client a v
+gives_none f client a v x = record {
+  number = x.number;
+  map = x.map;
+  size = λ none. x.size;
+  grants = λ c g e. inl (x.grants c g e);
+}
 
 -- where a fence came first
-fewer_first : (f k : Kept) (client : ℕ) (v : Served) → Fewer f k → MayGive k client v → MayGive f client v
-fewer_first f k client v x m = record {
+fewer_first : (f k : Kept) (client : ℕ) (a : RequestArgs) (v : Served) → Fewer f k → MayGive k client a v
+    → MayGive f client a v
+fewer_first f k client a v x m = record {
   number = m.number ∙ x.number;
   map = m.map ∙ x.map;
+  size = λ none. m.size none ∙ x.size;
   grants = λ c g e. before c g (m.grants c g e);
 }
   where
@@ -53,19 +66,20 @@ found_more (x ∷ xs) n g c e = elim (cases_eq x.client c) [
   | inr other ↦ rw (ne_eqb x.client c other) (found_more xs n g c (rw (ne_eqb x.client c other) at e))
 ]
 
-either_may : (f : Kept) (client : ℕ) (b : Bool) (x y : Served) → MayGive f client x → MayGive f client y
-    → MayGive f client (if b then x else y)
-either_may f client true x y p q = p
-either_may f client false x y p q = q
+either_may : (f : Kept) (client : ℕ) (a : RequestArgs) (b : Bool) (x y : Served) → MayGive f client a x
+    → MayGive f client a y → MayGive f client a (if b then x else y)
+either_may f client a true x y p q = p
+either_may f client a false x y p q = q
 
-module _ (client next : ℕ) (g : Grant) (its : g.client ≡ client) where
-  late_may : (go : Going) (l : Late) → MayGive go.file.kept client (by_late go g l)
-  late_may go NoNumber = gives_none go.file.kept client _ (fewer_itself go.file.kept)
-  late_may go (Lacks k) = gives_none go.file.kept client _ (fewer_itself go.file.kept)
-  late_may go (Conflict holder) = gives_none go.file.kept client _ (fewer_itself go.file.kept)
+module _ (client next : ℕ) (a : RequestArgs) (g : Grant) (its : g.client ≡ client) where
+  late_may : (go : Going) (l : Late) → MayGive go.file.kept client a (by_late go g l)
+  late_may go NoNumber = gives_none go.file.kept client a _ (fewer_itself go.file.kept)
+  late_may go (Lacks k) = gives_none go.file.kept client a _ (fewer_itself go.file.kept)
+  late_may go (Conflict holder) = gives_none go.file.kept client a _ (fewer_itself go.file.kept)
   late_may go Gives = record {
     number = refl;
     map = refl;
+    size = λ none. refl;
     grants = λ c x e. told c x (found_more go.file.kept.grants g x c e);
   }
     where
@@ -74,46 +88,59 @@ module _ (client next : ℕ) (g : Grant) (its : g.client ≡ client) where
       told c x (inl old) = inl old
       told c x (inr new) = inr (sym new.0 ∙ its, ap (λ (y : Grant). Some y) new.1)
 
-  give_may : (go : Going) → MayGive go.file.kept client (give_or_refuse go next g)
+  give_may : (go : Going) → MayGive go.file.kept client a (give_or_refuse go next g)
   unfolding give_or_refuse
   give_may go = late_may go (late go.file.kept next g)
 
-  after_may : (go : Going) (j : Option Job) → MayGive go.file.kept client (after_fence go next g j)
+  after_may : (go : Going) (j : Option Job) → MayGive go.file.kept client a (after_fence go next g j)
   after_may go None = give_may go
-  after_may go (Some j) = gives_none go.file.kept client _ (fewer_itself go.file.kept)
+  after_may go (Some j) = gives_none go.file.kept client a _ (fewer_itself go.file.kept)
 
-  first_may : (go : Going) (format : ℕ) → MayGive go.file.kept client (fence_first go next format g)
+  first_may : (go : Going) (format : ℕ) → MayGive go.file.kept client a (fence_first go next format g)
   unfolding fence_first
   first_may go format =
       let fenced : Going = fence_begins Revoking format go in
-      either_may go.file.kept client (go.file.kept.tag == GREATEST_TAG) _ _
-      (gives_none go.file.kept client _ (fewer_itself go.file.kept))
-      (fewer_first go.file.kept fenced.file.kept client _ (fence_fewer Revoking format go)
+      either_may go.file.kept client a (go.file.kept.tag == GREATEST_TAG) _ _
+      (gives_none go.file.kept client a _ (fewer_itself go.file.kept))
+      (fewer_first go.file.kept fenced.file.kept client a _ (fence_fewer Revoking format go)
       (after_may fenced fenced.file.job))
 
-  grants_may : (go : Going) (format now : ℕ) → MayGive go.file.kept client (on_grants go next format now g)
+  grants_may : (go : Going) (format now : ℕ) → MayGive go.file.kept client a (on_grants go next format now g)
   unfolding on_grants
   grants_may go format now =
-      either_may go.file.kept client (must_fence now go.file.kept.grants g) _ _ (first_may go format) (give_may go)
+      either_may go.file.kept client a (must_fence now go.file.kept.grants g) _ _ (first_may go format) (give_may go)
 
-  early_may : (go : Going) (format now : ℕ) (e : Early) → MayGive go.file.kept client (by_early go next format now g e)
-  early_may go format now BadMode = gives_none go.file.kept client _ (fewer_itself go.file.kept)
-  early_may go format now Invalid = gives_none go.file.kept client _ (fewer_itself go.file.kept)
-  early_may go format now Unable = gives_none go.file.kept client _ (fewer_itself go.file.kept)
-  early_may go format now (Waits k) = gives_none go.file.kept client _ (fewer_itself go.file.kept)
+  early_may : (go : Going) (format now : ℕ) (e : Early) → MayGive go.file.kept client a (by_early go next format now g e)
+  early_may go format now BadMode = gives_none go.file.kept client a _ (fewer_itself go.file.kept)
+  early_may go format now Invalid = gives_none go.file.kept client a _ (fewer_itself go.file.kept)
+  early_may go format now Unable = gives_none go.file.kept client a _ (fewer_itself go.file.kept)
+  early_may go format now (Waits k) = gives_none go.file.kept client a _ (fewer_itself go.file.kept)
   early_may go format now On = grants_may go format now
 
+commit_may : (go : Going) (client : ℕ) (last : Option ℕ) (c : Committed)
+    → MayGive go.file.kept client (Commit last) (by_commit go c)
+commit_may go client last NoGrant = gives_none go.file.kept client (Commit last) _ (fewer_itself go.file.kept)
+commit_may go client last Wrong = gives_none go.file.kept client (Commit last) _ (fewer_itself go.file.kept)
+commit_may go client last (Sizes size) = record {
+  number = refl;
+  map = refl;
+  size = λ none. absurd none;
+  grants = λ c g e. inl e;
+}
+
 pub serves_may : (go : Going) (next format now client : ℕ) (a : RequestArgs)
-    → MayGive go.file.kept client (serves go next format now client a)
+    → MayGive go.file.kept client a (serves go next format now client a)
 unfolding gets commits returns_on
 serves_may go next format now client (Get iomode offset count) =
-    early_may client next (asked go.file.kept next client now offset count (iomode == LAYOUTIOMODE4_RW))
+    early_may client next (Get iomode offset count)
+    (asked go.file.kept next client now offset count (iomode == LAYOUTIOMODE4_RW))
     (asked_client go.file.kept next client now offset count (iomode == LAYOUTIOMODE4_RW)) go format now
     (early go.file iomode offset count)
 serves_may go next format now client (Commit last) =
-    gives_none go.file.kept client _ (commit_fewer go (commit_row go.file.kept client last))
+    commit_may go client last (commit_row go.file.kept client last)
 serves_may go next format now client (Return report) =
-    gives_none go.file.kept client _ (return_fewer go format client (return_row go.file.kept client report))
+    gives_none go.file.kept client (Return report) _
+    (return_fewer go format client (return_row go.file.kept client report))
 
 -- ---- how a LAYOUTGET is refused
 

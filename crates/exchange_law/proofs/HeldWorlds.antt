@@ -16,7 +16,6 @@ use Rattle.world_history.specs.declared.messages.Body.{Body}
 use Rattle.world_history.specs.declared.messages.Body.TheVariants.{Envelope as OfEnvelope}
 use Rattle.world_history.specs.Spelled.{spelled}
 use Rattle.world_history.specs.State.{World, ClientAt, at_number, empty_world}
-use Rattle.world_history.specs.Moves.{Act, Action, acts}
 use Rattle.world_history.specs.Plans.{due, plan_of}
 use Rattle.world_history.specs.Runs.{world_after, plan_after}
 use Rattle.world_history.specs.Sending.{Move, move}
@@ -26,7 +25,7 @@ use Rattle.client_rules.specs.History.{Input, Hears, Calls, TimesOut, Leaves, Re
 use Rattle.client_rules.specs.Messages.{TakesAnswer, takes}
 use Rattle.server_rules.specs.Envelopes.{asked_in, request_with, by_envelope, message_in}
 use Rattle.server_rules.specs.Files.{file_at}
-use Rattle.server_rules.specs.History.{Input as ServerInput, Hears as ServerHears, step}
+use Rattle.server_rules.specs.History.{Input as ServerInput, Hears as ServerHears}
 use Rattle.server_rules.specs.Laws.{SlotsAreKept, AreSafe, last_of}
 use Rattle.server_rules.specs.Messages.{Asks}
 use Rattle.server_rules.specs.Slots.{slot_of}
@@ -35,16 +34,15 @@ use Rattle.history_law.specs.HistoryMoments.{IsReached}
 use Rattle.history_law.specs.BookMoments.{IsMoment, lines_so_far, lines_in, plan_at}
 use Rattle.world_history.proofs.Runs.{due_more, world_more}
 use Rattle.history_law.proofs.Moments.{so_far_more}
-use Rattle.exchange_law.specs.Doing.{said, IsHeardByServer, IsHeardByClient, OthersGo, ServerGoes, ClientGoes, ClientStops, ClientComes, Goes, Others, AServer, AClient, Stops, Comes}
+use Rattle.exchange_law.specs.Doing.{said, IsHeardByServer, IsHeardByClient}
 use Rattle.exchange_law.specs.Messages.{AsksOf, IsAsked, last_before}
-use Rattle.exchange_law.specs.InStep.{StandsAt, state_of}
+use Rattle.exchange_law.specs.InStep.{StandsAt, ClientsAreInStep, state_of, client_of}
 use Rattle.exchange_law.specs.Taking.{AnswersAreOwn}
 use Rattle.exchange_law.proofs.Admitting.{is_next}
 use Rattle.exchange_law.proofs.SlotAnswered.{read_of, is_outstanding}
-use Rattle.history_law.proofs.Goes.{moves_are_steps}
-use Rattle.exchange_law.proofs.Each.{put_same, put_other, stopped_same, come_same, in_step}
+use Rattle.exchange_law.proofs.ClientsWalk.{holds_always}
+use Rattle.exchange_law.proofs.Each.{in_step, clients_are_in_step}
 use Rattle.exchange_law.proofs.SlotLists.{each_at}
-use Rattle.exchange_law.proofs.SlotMoments.{comes_new, always}
 use Rattle.exchange_law.proofs.Standing.{Parts}
 use Rattle.exchange_law.specs.Calls.{Knows, GoodAnswer}
 use Rattle.exchange_law.specs.Shapes.{HasShape, FilesHaveShape}
@@ -109,10 +107,33 @@ reads_fit c r q fits e =
       args = it.1 ∙ ap (λ (x : ClientRequest). Some x.args) it.2;
     }
 
--- nothing is held at the begin
-none_held : (file : ℕ) (h : Held) → held_of [] file ≡ Some h → ⊥
+-- a new request that the server hears of a client is the one that the client waits to be answered
+pub own_request : ClientsAreInStep → (w : World) (h : List Line) (k : IsMoment w h) → IsReadable w → (c : ℕ) (i : ServerInput)
+    → IsHeardByServer w i → IsOwn w.server c (client_of w c) i
+own_request in_step w h k readable c i heard now q is mine named new =
+    let x : Client = client_of w c in
+    let at : IsHeardByServer w (ServerHears now (node.Client c) (Asks q)) = subst (IsHeardByServer w) is heard in
+    let d = at.0 in
+    let part = in_step w h k c in
+    let asked : IsAsked x d.posted.message.body =
+    each_at (AsksOf c x) w.network.messages d.number d.posted d.there part.asks (sym at.2) d.receiver in
+    let read : message_in (node.Client c) (spelled d.posted.message.body) ≡ Some (Asks q) =
+    ap (λ (n : Node). message_in n (spelled d.posted.message.body)) at.2 ∙ at.3 in
+    let r = read_of c x d.posted.message.body q part.number named part.next asked read in
+    let out : x.outstanding ≡ Some r.request =
+    is_outstanding h c x (slot_of w.server.slots c) r.request q.sequence x.outstanding refl part.stands r.asked r.sequence
+    (is_next (slot_of w.server.slots c) q.sequence new).next in
+    let here : message_in (node.Client c) (spelled (OfEnvelope (envelope.Request r.request))) ≡ Some (Asks q) =
+    ap (λ (b : Body). message_in (node.Client c) (spelled b)) (sym r.body) ∙ read in
+    (r.request, out, reads_fit c r.request q (readable.requests c r.request out) here)
+
+-- nothing is held at the begin, and no answer is kept
+pub none_held : (file : ℕ) (h : Held) → held_of [] file ≡ Some h → ⊥
 unfolding held_of
 none_held file h e = cc e
+
+pub none_kept : (c : ℕ) (t : Slot) → slot_of empty_world.server.slots c ≡ Some t → ⊥
+none_kept c t e = cc e
 
 -- ---- a move
 
@@ -156,11 +177,8 @@ module _ (kept : SlotsAreKept) (more : OneEventMore)
     (safe : (w : World) (h : List Line) → IsMoment w h → AreSafe w.server.files) (own : AnswersAreOwn)
     (shapes : (w : World) (h : List Line) → IsMoment w h → (n : ℕ) (f : File) → file_at w.server.files n ≡ Some f
     → HasShape f.kept) (T : List Line → Type 0) (front : HoldsOfFronts T) (readable : AreReadable T) where
-  abbrev state : World → ℕ → Client
-  state w c = state_of c (at_number w.clients c)
-
   abbrev pub AllMet : World → List Line → Type 0
-  AllMet w h = T h → (c : ℕ) → IsMet w.server c (state w c)
+  AllMet w h = T h → (c : ℕ) → IsMet w.server c (client_of w c)
 
   -- ---- a client's step
 
@@ -216,110 +234,20 @@ module _ (kept : SlotsAreKept) (more : OneEventMore)
         fits = x.fits;
       }
 
-  own_request : (w : World) (h : List Line) (k : IsMoment w h) → T h → (c : ℕ) (i : ServerInput) → IsHeardByServer w i
-      → IsOwn w.server c (state w c) i
-  own_request w h k t c i heard now q is mine named new =
-      let at : IsHeardByServer w (ServerHears now (node.Client c) (Asks q)) = subst (IsHeardByServer w) is heard in
-      let d = at.0 in
-      let part = in_step kept more w h k c in
-      let asked : IsAsked (state w c) d.posted.message.body =
-      each_at (AsksOf c (state w c)) w.network.messages d.number d.posted d.there part.asks (sym at.2) d.receiver in
-      let read : message_in (node.Client c) (spelled d.posted.message.body) ≡ Some (Asks q) =
-      ap (λ (n : Node). message_in n (spelled d.posted.message.body)) at.2 ∙ at.3 in
-      let r = read_of c (state w c) d.posted.message.body q part.number named part.next asked read in
-      let out : (state w c).outstanding ≡ Some r.request =
-      is_outstanding h c (state w c) (slot_of w.server.slots c) r.request q.sequence (state w c).outstanding refl
-      part.stands r.asked r.sequence (is_next (slot_of w.server.slots c) q.sequence new).next in
-      let here : message_in (node.Client c) (spelled (OfEnvelope (envelope.Request r.request))) ≡ Some (Asks q) =
-      ap (λ (b : Body). message_in (node.Client c) (spelled b)) (sym r.body) ∙ read in
-      (r.request, out, reads_fit c r.request q ((readable w h k t).requests c r.request out) here)
-
-  -- ---- any move
-
-  module _ (w : World) (h : List Line) (k : IsMoment w h) (m : Move) (d : due (plan_at k) w ≡ Some m.action)
-      (met : AllMet w h) (t : T (h ++ lines_in w m)) where
-    abbrev a : Act
-    a = acts w m.chosen m.action
-
-    abbrev v : World
-    v = (move w m).world
-
-    before : T h
-    before = front h (lines_in w m) t
-
-    abbrev Goal : ℕ → Type 0
-    Goal c = IsMet v.server c (state v c)
-
-    idle : (c : ℕ) → v.server ≡ w.server → state v c ≡ state w c → Goal c
-    idle c server same =
-        subst (λ (s : Server). IsMet s c (state v c)) (sym server)
-        (subst (IsMet w.server c) (sym same) (met before c))
-
-    others : OthersGo w a → (c : ℕ) → Goal c
-    others g c = idle c g.server (ap (λ (xs : _). state_of c (at_number xs c)) g.clients)
-
-    stops : ClientStops w a → (c : ℕ) → Goal c
-    stops g c =
-        idle c g.server
-        (ap (λ (xs : _). state_of c (at_number xs c)) g.clients
-        ∙ stopped_same w.clients g.client c g.before g.after g.found g.state)
-
-    comes : ClientComes w m.action a → (c : ℕ) → Goal c
-    comes g c =
-        let none = comes_new w h k g.client (d ∙ ap (λ (x : Action). Some x) g.action_is) in
-        idle c g.server
-        (ap (λ (xs : _). state_of c (at_number xs c)) g.clients
-        ∙ come_same w.clients g.client c g.after none g.state)
-
-    client_steps : ClientGoes w a → (c : ℕ) → Goal c
-    client_steps g c = elim (cases_eq c g.client) [
-      | inl it ↦ subst Goal (sym it) its_own
-      | inr other ↦
-          idle c g.server
-          (ap (λ (xs : _). state_of c (at_number xs c)) g.clients
-          ∙ ap (state_of c) (put_other w.clients g.client c g.after other))
-    ]
-      where
-        fine : IsMet w.server g.client g.before.state
-        fine = subst (IsMet w.server g.client) (ap (state_of g.client) g.found) (met before g.client)
-
-        its_own : Goal g.client
-        its_own =
-            let step_of = client_fine w h k before g.client g.before g.found fine g.input g.heard in
-            let after : state v g.client ≡ (client_step g.before.state g.input).client =
-            ap (λ (xs : _). state_of g.client (at_number xs g.client)) g.clients
-            ∙ ap (state_of g.client) (put_same w.clients g.client g.before g.after g.found) ∙ g.state in
-            subst (λ (s : Server). IsMet s g.client (state v g.client)) (sym g.server)
-            (subst (IsMet w.server g.client) (sym after) step_of.client)
-
-    server_steps : ServerGoes w m.chosen a → (c : ℕ) → Goal c
-    server_steps g c =
-        let sound : FilesSound (step w.server m.chosen g.input).state =
-        subst FilesSound g.server (sound_at v (h ++ lines_in w m) (next_moment w h k m d) t) in
-        let same : state v c ≡ state w c = ap (λ (xs : _). state_of c (at_number xs c)) g.clients in
-        subst (λ (s : Server). IsMet s c (state v c)) (sym g.server)
-        (subst (IsMet (step w.server m.chosen g.input).state c) (sym same)
-        (step_met w.server m.chosen g.input c (state w c) (safe w h k) sound
-        (own_request w h k before c g.input g.heard) (met before c)))
-
-    by_goes : Goes w m.chosen m.action a → (c : ℕ) → Goal c
-    by_goes (Others g) c = others g c
-    by_goes (AServer g) c = server_steps g c
-    by_goes (AClient g) c = client_steps g c
-    by_goes (Stops g) c = stops g c
-    by_goes (Comes g) c = comes g c
-
-    pub move_meets : (c : ℕ) → Goal c
-    move_meets c = by_goes (moves_are_steps w m.chosen m.action).goes c
-
   -- ---- at each moment
 
-  first_met : AllMet empty_world []
-  first_met t c = record { helds = λ file h e. absurd (none_held file h e); call = tt }
-
   pub clients_agree : (w : World) (h : List Line) → IsMoment w h → AllMet w h
-  clients_agree w h k =
-      always AllMet (record { starts = first_met; moves = λ u g j m d p t. move_meets u g j m d p t }) more w h k
+  clients_agree =
+      holds_always IsMet T (record {
+        front = front;
+        starts = λ c. record { helds = λ file h e. absurd (none_held file h e); call = tt };
+        client = λ w h k t met c a found i heard.
+            (client_fine w h k t c a found (subst (IsMet w.server c) (ap (state_of c) found) (met c)) i heard).client;
+        server = λ w h k m d t u met g c.
+            step_met w.server m.chosen g.input c (client_of w c) (safe w h k)
+            (subst FilesSound g.server (sound_at (move w m).world (h ++ lines_in w m) (next_moment w h k m d) u))
+            (own_request (clients_are_in_step kept more) w h k (readable w h k t) c g.input g.heard) (met c);
+      }) more
 
 -- a moment is reached
 pub reached : (w : World) (h : List Line) → IsMoment w h → IsReached w

@@ -80,13 +80,15 @@ pub mod HeldTaken
 pub mod HeldMoving
 pub mod HeldGoing
 pub mod HeldStepping
-mod Grants
+pub mod Grants
 pub mod HeldServing
 pub mod HeldSteps
 pub mod HeldAnswered
 pub mod Meeting
 pub mod HeldAsking
+pub mod ClientsWalk
 pub mod HeldWorlds
+pub mod HeldHearing
 mod HeldLines
 mod Ending
 mod Lengths

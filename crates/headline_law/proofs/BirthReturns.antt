@@ -34,7 +34,8 @@ use Rattle.exchange_law.proofs.SlotMoments.{always}
 use Rattle.exchange_law.specs.Calls.{CallFine, IsAsking}
 use Rattle.exchange_law.specs.Meeting.{ClientsAgree, KeptGood, IsMet, IsReadable, IsReadableThrough}
 use Rattle.exchange_law.specs.Taking.{AnswersAreOwn, TakesOwn}
-use Rattle.cause_law.proofs.Moments.{made_file, stands, taken_held, Stands}
+use Rattle.exchange_law.proofs.HeldHearing.{made_file}
+use Rattle.cause_law.proofs.Moments.{stands, taken_held, Stands}
 use Rattle.file_simulation.specs.ClientEvents.{Going, going_in}
 use Rattle.file_simulation.specs.Relation.{client_of}
 use Rattle.relation_law.specs.Frames.{ByClient}

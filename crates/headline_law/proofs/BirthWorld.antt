@@ -37,7 +37,7 @@ use Rattle.exchange_law.specs.Sent.{HasSent}
 use Rattle.exchange_law.proofs.CountMoments.{reached}
 use Rattle.exchange_law.proofs.HeldWorlds.{readable_there}
 use Rattle.exchange_law.proofs.Knowing.{lawful_at}
-use Rattle.cause_law.proofs.Moments.{made_file}
+use Rattle.exchange_law.proofs.HeldHearing.{made_file}
 use Rattle.fence_law.specs.Log.{IsLog}
 use Rattle.fence_law.specs.State.{State}
 use Rattle.fence_law.specs.State as machine

@@ -36,13 +36,14 @@ use Rattle.history_law.specs.Said.{IsHeardByClient}
 use Rattle.history_law.specs.Turns.{IsAnswered}
 use Rattle.history_law.proofs.DriveLines.{sent_read}
 use Rattle.exchange_law.specs.Calls.{CallFine, ClientFine}
-use Rattle.exchange_law.specs.InStep.{state_of}
+use Rattle.exchange_law.specs.InStep.{client_of}
 use Rattle.exchange_law.specs.PlaceAnswers.{AnswersFit}
 use Rattle.exchange_law.specs.Text.{AreFew}
 use Rattle.exchange_law.proofs.ClientMoves.{clients_always}
 use Rattle.exchange_law.proofs.Commands.{MaySend}
 use Rattle.exchange_law.proofs.CountGrowing.{fewer}
 use Rattle.exchange_law.proofs.CountMoments.{at_moment, reached}
+use Rattle.exchange_law.proofs.HeldHearing.{AnyKnown}
 use Rattle.exchange_law.proofs.Knowing.{lawful_at}
 use Rattle.exchange_law.proofs.Parts.{each_in}
 use Rattle.exchange_law.proofs.PlaceGoing.{CallFits, ClientFits}
@@ -75,7 +76,7 @@ use Rattle.headline_law.proofs.EntriesFacts.{CommandsAreHeld, FactLaws, TurnLaws
 use Rattle.headline_law.proofs.EntriesHeld.{HeldFacts, HoldsNumber, turn_holds}
 use Rattle.headline_law.proofs.EntriesSends.{CommandIs}
 use Rattle.headline_law.proofs.SentAwaited.{sends_awaited}
-use Rattle.headline_law.proofs.SentNames.{AllName, AnyKnown, NamesIt, capabilities_name_grants, step_is_fine}
+use Rattle.headline_law.proofs.SentNames.{AllName, NamesIt, capabilities_name_grants, step_names}
 
 -- what is known of commands
 pub record CommandLaws : Type 0 where
@@ -165,14 +166,13 @@ module _ (laws : CommandLaws) (w : World) (h : List Line) (m : Move) (count : �
   next_fine : ClientFine NamesIt AnyKnown next
   next_fine =
       subst (λ (y : Client). ClientFine NamesIt AnyKnown (step y j.input).client) (sym mine.state_is)
-      (step_is_fine laws.turns.client.reading.more laws.turns.held.own laws.turns.held.right.world.agree w h moment
+      (step_names laws.turns.client.reading.more laws.turns.held.own laws.turns.held.right.world.agree w h moment
       (through laws.turns w h m count f g s pairs k tied j goes) c mine.before mine.found names j.input heard)
     where
-      names : AllName mine.before.state.held
+      names : AllName (client_of w c).held
       names file_ y e n backed =
           capabilities_name_grants laws.turns.client.reading.more laws.turns.held.own laws.turns.held.right.world.agree w h moment
-          (through laws.turns w h m count f g s pairs k tied j goes) c file_ y
-          (ap (λ (z : Client). held_of z.held file_) (ap (state_of c) mine.found) ∙ e) n backed
+          (through laws.turns w h m count f g s pairs k tied j goes) c file_ y e n backed
 
   next_works : ClientWorks next
   next_works =

@@ -19,10 +19,10 @@ use Rattle.exchange_law.specs.Calls.{CallFine, NoGet}
 use Rattle.exchange_law.specs.InStep.{state_of}
 use Rattle.exchange_law.specs.Meeting.{AgreesAt, FilesSound, IsMet, KeptGood, IsReadableThrough}
 use Rattle.exchange_law.proofs.HeldAsking.{step_met}
-use Rattle.exchange_law.proofs.HeldWorlds.{readable_there, reached, next_moment}
+use Rattle.exchange_law.proofs.ClientsWalk.{StepsKeep, holds_always}
+use Rattle.exchange_law.proofs.HeldWorlds.{own_request, next_moment, readable_fronts, readable_there, reached}
 use Rattle.file_simulation.specs.Relation.{client_of}
 use Rattle.relation_law.specs.Requests.{IsReturning}
-use Rattle.relation_law.proofs.ClientsWalk.{StepsKeep, holds_always, own_request}
 use Rattle.relation_law.proofs.ReturnsStands.{ReturnsLaws, shaped}
 use Rattle.headline_law.proofs.ServerReports.{Asked, Before, Now, NoReturn, reports_asked}
 
@@ -104,10 +104,11 @@ module _ (laws : ReturnsLaws) where
         fits = x.fits;
       }
 
-  steps_keep : StepsKeep Names
+  steps_keep : StepsKeep Names IsReadableThrough
   steps_keep = record {
+    front = readable_fronts;
     starts = λ n op timed r call. absurd (cc call);
-    client = λ w h k t s c a found i. client_names w h k t s c a found i;
+    client = λ w h k t s c a found i heard. client_names w h k t s c a found i;
     server = λ w h k m d t later s g c op timed r call out back.
         let x : Client = client_of w c in
         let behind : Server = (step w.server m.chosen g.input).state in
@@ -125,7 +126,7 @@ module _ (laws : ReturnsLaws) where
         } in
         let after : IsMet behind c y =
         step_met w.server m.chosen g.input c y (laws.safe w (reached w h k)) sound
-        (own_request laws.in_step w h k t c g.input g.heard) met in
+        (own_request laws.in_step w h k (readable_there w h k t) c g.input g.heard) met in
         record {
           held = n.held;
           file_is = n.file_is;
@@ -138,4 +139,4 @@ module _ (laws : ReturnsLaws) where
   -- so it is at each moment
   pub names_stand : (w : World) (h : List Line) → IsMoment w h → IsReadableThrough h → (c : ℕ) →
       Names w.server c (client_of w c)
-  names_stand = holds_always Names steps_keep laws.more
+  names_stand = holds_always Names IsReadableThrough steps_keep laws.more

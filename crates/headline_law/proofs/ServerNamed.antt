@@ -27,11 +27,11 @@ use Rattle.exchange_law.specs.Calls.{CallFine}
 use Rattle.exchange_law.specs.InStep.{state_of}
 use Rattle.exchange_law.specs.Meeting.{KeptGood, IsReadableThrough}
 use Rattle.exchange_law.proofs.ClientMoves.{clients_always}
-use Rattle.exchange_law.proofs.HeldWorlds.{readable_there, reached}
+use Rattle.exchange_law.proofs.ClientsWalk.{StepsKeep, holds_always}
+use Rattle.exchange_law.proofs.HeldWorlds.{own_request, readable_fronts, readable_there, reached}
 use Rattle.exchange_law.proofs.Knowing.{lawful_at}
 use Rattle.file_simulation.specs.Relation.{client_of}
 use Rattle.relation_law.proofs.KeptServer.{at_place}
-use Rattle.relation_law.proofs.ClientsWalk.{StepsKeep, holds_always, own_request}
 use Rattle.relation_law.proofs.FramesFiles.{files_distinct}
 use Rattle.relation_law.proofs.ReturnsNamed.{same_names, each_named}
 use Rattle.relation_law.proofs.ReturnsRead.{read_report}
@@ -123,22 +123,23 @@ module _ (laws : ReturnsLaws) where
         by (Now hh from args) = named_by_held op timed r report hh from args told few
         by (NoReturn args) = absurd (cc (sym (ap asked_in args) ∙ told))
 
-  steps_keep : StepsKeep Names
+  steps_keep : StepsKeep Names IsReadableThrough
   steps_keep = record {
+    front = readable_fronts;
     starts = λ n op timed r call. absurd (cc call);
-    client = λ w h k t s c a found i. client_names w h k t s c a found i;
+    client = λ w h k t s c a found i heard. client_names w h k t s c a found i;
     server = λ w h k m d t later s g c op timed r call out report told.
         let x : Client = client_of w c in
         let fine_ : CallFine (KeptGood w.server c) x.held x.outstanding x.call = (laws.agree w h k t c).call in
         stays_behind w.server m.chosen c x
         (subst (CallFine (KeptGood w.server c) x.held x.outstanding) call fine_).1
         (file_of op) (NamesAll timed report) (stays timed report) (s c op timed r call out report told) g.input
-        (laws.safe w (reached w h k)) (own_request laws.in_step w h k t c g.input g.heard);
+        (laws.safe w (reached w h k)) (own_request laws.in_step w h k (readable_there w h k t) c g.input g.heard);
   }
 
   -- so it is at each moment
   names_stand : (w : World) (h : List Line) → IsMoment w h → IsReadableThrough h → (c : ℕ) → Names w.server c (client_of w c)
-  names_stand = holds_always Names steps_keep laws.more
+  names_stand = holds_always Names IsReadableThrough steps_keep laws.more
 
 -- Each report names all that timed out, while the server has the grant.
 pub each_report_names_all : ReturnsLaws → FilesAndAnswersAreReadable → EachReportNamesAll

@@ -19,7 +19,8 @@ use Rattle.server_rules.specs.Standing.{lose_from, lose_on, any_on}
 use Rattle.world_history.specs.ServerNames.{Component, Awaited, Heard, Piece, Tally, Target, Job, JobKind, Making, Revoking, Rebuilding, Auditing, Work, Creates, Fences, Fetches, Stores, Targets, Gathers, Fills, Lengths, Checks, NoDrive, NoSpace, Lost, Reply}
 use Rattle.component_law.specs.Objects.{target_in, target_of}
 use Rattle.component_law.proofs.Holders.{length_lost, length_on, length_set}
-use Rattle.relation_law.proofs.Walk.{raised, standing, target_is}
+use Rattle.component_law.proofs.Walking.{target_is}
+use Rattle.relation_law.proofs.Walk.{raised, standing}
 
 -- the component's number is below c
 abbrev pub IsBelow : (c : ℕ) → Option Target → Type 0

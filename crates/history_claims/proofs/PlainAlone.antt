@@ -1,7 +1,6 @@
 -- The lines of the event of a ready call are of its client alone.
-use Rattle.std.proofs.Common.{◌≡◌, ◌&&◌, ℕ, Bool, true, false, List, [], ◌∷◌, ◌++◌, Option, Some, None, is_some, if◌then◌else◌, refl, sym, ap, subst, ◌∙◌, append_assoc, inl, arith}
+use Rattle.std.proofs.Common.{◌≡◌, ℕ, Bool, true, false, List, [], ◌∷◌, ◌++◌, Option, Some, None, is_some, if◌then◌else◌, refl, sym, ap, subst, ◌∙◌, append_assoc, inl, arith}
 use Rattle.std.proofs.lemmas.List.{append-nil}
-use Rattle.std.proofs.lemmas.List.Sums.{fold-append}
 use Rattle.scenario_text.specs.declared.event.Event.{Event}
 use Rattle.scenario_text.specs.declared.event.Event.TheVariants as event
 use Rattle.scenario_text.specs.declared.line.Line.{Line}
@@ -9,13 +8,12 @@ use Rattle.scenario_text.specs.declared.line.Line.TheVariants as line
 use Rattle.server_rules.specs.Laws.{In}
 use Rattle.client_rules.specs.Steps.{awaits}
 use Rattle.world_history.specs.ClientNames as client_rules
-use Rattle.world_history.specs.declared.messages.Message.{Message}
 use Rattle.world_history.specs.State.{World, ClientAt, at_number}
-use Rattle.world_history.specs.Moves.{Action, Opens, Delivers, TimesOut, Pends, op_of, acts}
-use Rattle.world_history.specs.Sending.{Move, move, sends_all}
+use Rattle.world_history.specs.Moves.{Action, Opens, Delivers, TimesOut, Pends, op_of}
+use Rattle.world_history.specs.Sending.{Move, move}
 use Rattle.world_history.specs.Plans.{Plan, Rule, Alone, Prompt, next_pending, due_pending, due_by, due, when_quiet, quiet_at, went_on, plan_of, rule_of, is_refused}
 use Rattle.world_history.specs.Runs.{lines_of, AreDue, plan_after, Carries}
-use Rattle.world_history.specs.Guesses.{Guarded, guards, unguessed}
+use Rattle.world_history.specs.Guesses.{unguessed}
 use Rattle.world_history.proofs.ReadMessages.{never_opens}
 use Rattle.history_law.specs.Read.{AreWritten}
 use Rattle.history_law.specs.Moments.{IsMoment, with_event, lines_in}
@@ -24,17 +22,17 @@ use Rattle.exchange_law.specs.Doing.{posted}
 use Rattle.exchange_law.proofs.HeldWorlds.{next_moment}
 use Rattle.cause_law.specs.Queue.{IsHead}
 use Rattle.cause_law.specs.Readable.{FilesAndAnswersAreReadable}
-use Rattle.cause_law.proofs.Eventless.{NoEvent, opens_plain}
 use Rattle.cause_law.proofs.PendingMoves.{taken_rule}
 use Rattle.cause_law.proofs.Queue.{queue_is_due}
 use Rattle.ready_law.specs.Answered.{scene_in}
 use Rattle.ready_law.specs.Events.{StandsApart, EventsStandApart}
 use Rattle.ready_law.specs.Ready.{Scene, scene_of, IsReady}
 use Rattle.ready_law.specs.Worlds.{ScenesAreRead}
-use Rattle.ready_law.proofs.Calls.{ReadyCall, op_at, first_at, queue_at, IsIn}
-use Rattle.ready_law.proofs.Going.{StagesGoOn, OpensCall}
+use Rattle.ready_law.proofs.Calls.{ReadyCall, op_at, first_at, IsIn}
+use Rattle.ready_law.proofs.Going.{StagesGoOn}
+use Rattle.ready_law.proofs.Opening.{body_of_moves, opened_clean, opens_call}
 use Rattle.ready_law.proofs.Stages.{Stage, GoesOn, Further, Over}
-use Rattle.ready_law.proofs.Walking.{Whole, IsFrontOf, fair_at, clean_behind, prompt_plan, counted, IsAt, goes_on, next_at, nothing_due}
+use Rattle.ready_law.proofs.Walking.{Whole, IsFrontOf, fair_at, prompt_plan, counted, IsAt, goes_on, next_at, nothing_due}
 use Rattle.history_claims.specs.Plain.{AreOnlyOf, ReadyCallsAreAlone}
 use Rattle.history_claims.proofs.PlainMoves.{GoesOnlyTo, delivered_to, timed_to, pends_to, opens_to, both_only, move_only}
 use Rattle.history_claims.proofs.PlainStages.{queue_received}
@@ -166,10 +164,7 @@ module _ (readable : FilesAndAnswersAreReadable) (stages : StagesGoOn) (t : Whol
       own_lines = ap (λ (a : Action). with_event a (move v m).lines) opens
 
       body_is : body ≡ (move v m).lines ++ lines_of (move v m).world ns
-      body_is =
-          let all : line.Event own ∷ body ≡ line.Event own ∷ lines_of v (m ∷ ns) =
-          carries.lines_are ∙ ap (λ (ms : List Move). line.Event own ∷ lines_of v ms) moves_are in
-          cc all
+      body_is = body_of_moves v after own body carries m ns moves_are
 
       opened_front : IsFrontOf ((s.history ++ lines_in v m) ++ lines_of (move v m).world ns) t
       opened_front = (
@@ -180,36 +175,16 @@ module _ (readable : FilesAndAnswersAreReadable) (stages : StagesGoOn) (t : Whol
             ∙ sym (append_assoc s.history (lines_in v m) (lines_of (move v m).world ns))),
       )
 
-      clean : unguessed (s.history ++ lines_in v m) ≡ true
-      clean =
-          ap (λ (l : List Line). unguessed (s.history ++ l)) own_lines
-          ∙ ap unguessed (sym (append_assoc s.history (line.Event own ∷ []) (move v m).lines))
-          ∙ clean_behind (s.history ++ line.Event own ∷ []) (move v m).lines
-          (subst (λ (a : Action). NoEvent (sends_all (acts v m.chosen a)).lines) (sym opens) (opens_plain v m.chosen own))
-          (ap (λ (g : Guarded). g.unguessed) (fold-append guards _ s.history (line.Event own ∷ []))
-          ∙ ap (λ (b : Bool). b && true) s.ready.unguessed)
-
       next_in : IsIn s (move v m).world (s.history ++ lines_in v m)
       unfolding next_moment
       next_in = record {
         fair = fair_at readable t (move v m).world (s.history ++ lines_in v m) (next_moment v s.history start m are_due.0) (
           lines_of (move v m).world ns ++ opened_front.0,
           opened_front.1 ∙ append_assoc (s.history ++ lines_in v m) (lines_of (move v m).world ns) opened_front.0,
-        ) clean;
+        ) (opened_clean s m opens);
         begins = refl;
         behind = refl;
         event_is = refl;
-      }
-
-      opening : OpensCall s m
-      opening = record {
-        action_is = opens;
-        queue_is =
-            subst (λ (a : Action). queue_at s (move v (record { action = a; chosen = m.chosen })).world
-            ≡ posted (acts v m.chosen a).posts) (sym opens)
-            (queue_is_due.stays v (first_at s) (record { action = Opens own; chosen = m.chosen }) tt (omega arith)
-            ∙ ap (λ (ms : List Message). ms ++ posted (acts v m.chosen (Opens own)).posts) (queue_is_due.first v));
-        count_is = counted v m;
       }
 
       first_only : AreOnlyOf s.client (move v m).lines
@@ -237,7 +212,7 @@ module _ (readable : FilesAndAnswersAreReadable) (stages : StagesGoOn) (t : Whol
           ∙ ap (λ (r : Rule). record { opening = None; rule = r }) prompt in
           let due_then : AreDue (prompt_plan s) (move v m).world ns =
           subst (λ (p : Plan). AreDue p (move v m).world ns) plan_then are_due.1 in
-          by plan_then due_then (stages.opens s m opening start_in next_in)
+          by plan_then due_then (stages.opens s m (opens_call s m opens) start_in next_in)
         where
           by : (went_on (plan_of v own) m.action ≡ prompt_plan s) → AreDue (prompt_plan s) (move v m).world ns →
               GoesOn s (move v m).world (lines_in v m) → AreOnlyOf s.client (lines_of (move v m).world ns)

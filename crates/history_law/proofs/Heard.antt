@@ -101,7 +101,7 @@ world_command w h r n d bytes s =
 
 -- ---- the awaited command
 
-low_nonce : (w : World) → counters_have_room w.server ≡ true → w.server.next_nonce < 2 ^ 63
+pub low_nonce : (w : World) → counters_have_room w.server ≡ true → w.server.next_nonce < 2 ^ 63
 unfolding counters_have_room
 low_nonce w e = less w.server.next_nonce (2 ^ 63) (and_parts _ _ e).0
   where

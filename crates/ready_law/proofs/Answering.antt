@@ -1,5 +1,5 @@
 -- Each ready call whose event is over ended in ok, within its bound of messages.
-use Rattle.std.proofs.Common.{◌≡◌, ◌≤◌, ◌+◌, ◌*◌, ◌&&◌, max, ℕ, Bool, true, false, List, [], ◌∷◌, ◌++◌, length, map, fold, slice_get, Option, Some, None, is_err, refl, sym, ap, subst, ◌∙◌, append_assoc, arith}
+use Rattle.std.proofs.Common.{◌≡◌, ◌≤◌, ◌+◌, ◌*◌, max, ℕ, false, List, [], ◌∷◌, ◌++◌, length, map, fold, slice_get, Option, Some, None, is_err, refl, sym, ap, subst, ◌∙◌, append_assoc, arith}
 use Rattle.std.specs.List.{list_any, sum_by}
 use Rattle.std.proofs.Math.Nat.{mul-le-mul_left}
 use Rattle.std.proofs.lemmas.Bool.{or_parts}
@@ -20,13 +20,13 @@ use Rattle.world_history.specs.declared.limits.TheConstants.{MAX_KEPT}
 use Rattle.world_history.specs.declared.messages.Sent.{Sent}
 use Rattle.world_history.specs.declared.messages.Message.{Message}
 use Rattle.world_history.specs.State.{World, ClientAt, at_number}
-use Rattle.world_history.specs.Moves.{Action, Opens, op_of, acts}
-use Rattle.world_history.specs.Sending.{Move, move, sends_all}
+use Rattle.world_history.specs.Moves.{Action, Opens, op_of}
+use Rattle.world_history.specs.Sending.{Move, move}
 use Rattle.world_history.specs.Reading.{arrived, left_out, changed_by, changed_at, sent_after_event, sent_after, sent_in}
 use Rattle.world_history.specs.Plans.{Plan, Rule, went_on, plan_of, is_refused}
 use Rattle.world_history.specs.Runs.{world_after, lines_of, AreDue, plan_after, IsOver, Carries}
 use Rattle.world_history.specs.History.{Lawful, StandsFor, OneEventMore}
-use Rattle.world_history.specs.Guesses.{Guarded, guards, unguessed}
+use Rattle.world_history.specs.Guesses.{unguessed}
 use Rattle.world_history.specs.Laws.{shown, MessagesAreRead}
 use Rattle.history_law.specs.Read.{AreWritten}
 use Rattle.history_law.proofs.Staying.{written_front}
@@ -34,20 +34,18 @@ use Rattle.history_law.specs.Moments.{IsReached, IsMoment, with_event, lines_in}
 use Rattle.exchange_law.specs.Counters.{ClientsAreCounted, ClientCounts}
 use Rattle.exchange_law.specs.Text.{AreOfText, AreFew}
 use Rattle.exchange_law.proofs.HeldWorlds.{next_moment}
-use Rattle.exchange_law.specs.Doing.{posted}
 use Rattle.cause_law.specs.Readable.{FilesAndAnswersAreReadable}
 use Rattle.cause_law.proofs.Files.{few_there}
 use Rattle.cause_law.proofs.PendingMoves.{taken_rule}
-use Rattle.cause_law.proofs.Eventless.{NoEvent, opens_plain}
-use Rattle.cause_law.proofs.Queue.{queue_is_due}
 use Rattle.ready_law.specs.Answered.{scene_in, EndsOk, ends_call, messages_at, message_bound, ReadyIsAnswered}
 use Rattle.ready_law.specs.Events.{IsOver as IsOverIn, StandsApart, EventsStandApart}
 use Rattle.ready_law.specs.Ready.{Scene, scene_of, IsReady, touched}
 use Rattle.ready_law.specs.Worlds.{ScenesAreRead}
-use Rattle.ready_law.proofs.Calls.{ReadyCall, op_at, kept_at, opposed_at, first_at, queue_at, IsIn}
+use Rattle.ready_law.proofs.Calls.{ReadyCall, op_at, kept_at, opposed_at, IsIn}
 use Rattle.ready_law.proofs.Stages.{GoesOn, Further, Over, asking_at, work_at}
-use Rattle.ready_law.proofs.Going.{StagesGoOn, OpensCall}
-use Rattle.ready_law.proofs.Walking.{Whole, IsFrontOf, fair_at, clean_behind, prompt_plan, counted, IsSilent, ends_behind, IsAt, EndsWithin, goes, nothing_due}
+use Rattle.ready_law.proofs.Going.{StagesGoOn}
+use Rattle.ready_law.proofs.Opening.{body_of_moves, opened_clean, opens_call}
+use Rattle.ready_law.proofs.Walking.{Whole, IsFrontOf, fair_at, prompt_plan, counted, IsSilent, ends_behind, IsAt, EndsWithin, goes, nothing_due}
 
 -- ---- how many messages lines tell of
 
@@ -89,13 +87,6 @@ unfolding calls
 taken a op free range spent = rw free (rw range (rw spent refl))
 
 -- ---- the line of the event
-
--- nothing is guessed in a `do`
-clean_call : (h : List Line) (c : ℕ) (x : EventCall) → unguessed h ≡ true
-    → unguessed (h ++ line.Event (event.Do c x) ∷ []) ≡ true
-clean_call h c x e =
-    ap (λ (g : Guarded). g.unguessed) (fold-append guards _ h (line.Event (event.Do c x) ∷ []))
-    ∙ ap (λ (b : Bool). b && true) e
 
 -- it tells no end of a call
 ends_alone : {c : ℕ} → {op : CallOp} → (e : Event) (ls : List Line) → EndsOk c op (line.Event e ∷ ls) → EndsOk c op ls
@@ -209,10 +200,7 @@ module _ (more : OneEventMore) (apart : EventsStandApart) (scenes : ScenesAreRea
       own_lines = ap (λ (a : Action). with_event a (move v m).lines) opens
 
       body_is : body ≡ (move v m).lines ++ lines_of (move v m).world ns
-      body_is =
-          let all : line.Event own ∷ body ≡ line.Event own ∷ lines_of v (m ∷ ns) =
-          carries.lines_are ∙ ap (λ (ms : List Move). line.Event own ∷ lines_of v ms) moves_are in
-          cc all
+      body_is = body_of_moves v after own body carries m ns moves_are
 
       after_is : after ≡ world_after (move v m).world ns
       after_is = carries.world_is ∙ ap (λ (ms : List Move). world_after v ms) moves_are
@@ -232,34 +220,15 @@ module _ (more : OneEventMore) (apart : EventsStandApart) (scenes : ScenesAreRea
           (ap (λ (l : List Line). line.Event own ∷ l) body_is
           ∙ ap (λ (l : List Line). l ++ lines_of (move v m).world ns) (sym own_lines))
 
-      clean : unguessed (s.history ++ lines_in v m) ≡ true
-      clean =
-          ap (λ (l : List Line). unguessed (s.history ++ l)) own_lines
-          ∙ ap unguessed (sym (append_assoc s.history (line.Event own ∷ []) (move v m).lines))
-          ∙ clean_behind (s.history ++ line.Event own ∷ []) (move v m).lines
-          (subst (λ (a : Action). NoEvent (sends_all (acts v m.chosen a)).lines) (sym opens) (opens_plain v m.chosen own))
-          (clean_call s.history s.client s.its s.ready.unguessed)
-
       next_in : IsIn s (move v m).world (s.history ++ lines_in v m)
       unfolding next_moment
       next_in = record {
         fair =
             fair_at readable t (move v m).world (s.history ++ lines_in v m) (next_moment v s.history start_moment m are_due.0)
-            one_front clean;
+            one_front (opened_clean s m opens);
         begins = refl;
         behind = refl;
         event_is = refl;
-      }
-
-      opening : OpensCall s m
-      opening = record {
-        action_is = opens;
-        queue_is =
-            subst (λ (a : Action). queue_at s (move v (record { action = a; chosen = m.chosen })).world
-            ≡ posted (acts v m.chosen a).posts) (sym opens)
-            (queue_is_due.stays v (first_at s) (record { action = Opens own; chosen = m.chosen }) tt (omega arith)
-            ∙ ap (λ (ms : List Message). ms ++ posted (acts v m.chosen (Opens own)).posts) (queue_is_due.first v));
-        count_is = counted v m;
       }
 
       -- ---- and those behind it
@@ -313,7 +282,7 @@ module _ (more : OneEventMore) (apart : EventsStandApart) (scenes : ScenesAreRea
       ends_within =
           subst (λ (w : World). EndsWithin s w body) (sym after_is)
           (subst (EndsWithin s (world_after (move v m).world ns)) (sym body_is)
-          (all_within (stages.opens s m opening begins_in next_in)))
+          (all_within (stages.opens s m (opens_call s m opens) begins_in next_in)))
 
     all_moves : (ms : List Move) → carries.moves ≡ ms → EndsWithin s after body
     all_moves [] none =

@@ -14,6 +14,7 @@ pub mod WorkingMessages
 pub mod WorkingListed
 pub mod Going
 pub mod Walking
+pub mod Opening
 pub mod Answering
 pub mod ReactingAsks
 pub mod ReactingTimed

@@ -160,7 +160,6 @@ pub mod ReturnsNamed
 pub mod ReturnsMoves
 pub mod ReturnsRun
 pub mod ReturnsServer
-pub mod ClientsWalk
 pub mod ReturnsStands
 pub mod ReturnsRead
 pub mod ReturnsRight

@@ -26,12 +26,12 @@ use Rattle.exchange_law.specs.InStep.{ClientsAreInStep, state_of}
 use Rattle.exchange_law.specs.Meeting.{KeptGood, IsReadableThrough, ClientsAgree}
 use Rattle.exchange_law.specs.Shapes.{FilesHaveShape}
 use Rattle.exchange_law.proofs.ClientMoves.{IsKeptByClients, clients_always}
-use Rattle.exchange_law.proofs.HeldWorlds.{readable_there, reached}
+use Rattle.exchange_law.proofs.ClientsWalk.{StepsKeep, holds_always}
+use Rattle.exchange_law.proofs.HeldWorlds.{own_request, readable_fronts, readable_there, reached}
 use Rattle.exchange_law.proofs.Shapes.{files_have_shape}
 use Rattle.component_law.specs.Listed.{ComponentsAgree}
 use Rattle.file_simulation.specs.Relation.{client_of}
 use Rattle.relation_law.specs.Returns.{report_read, BreaksOff, CantBeBorne, CallReports}
-use Rattle.relation_law.proofs.ClientsWalk.{StepsKeep, holds_always, own_request}
 use Rattle.relation_law.proofs.MessagesRun.{IsFine}
 use Rattle.relation_law.proofs.MessagesAlways.{turn_is_fine, new_fine}
 use Rattle.relation_law.proofs.ReturnsNamed.{short_beyond, refusal_beyond}
@@ -106,10 +106,11 @@ module _ (laws : ReturnsLaws) where
         (clients_always (λ n x. IsFine x) always_fine w (reached w h k) c a found)
         (subst (Reports w.server c) same (s c)) broken i
 
-  steps_keep : StepsKeep Reports
+  steps_keep : StepsKeep Reports IsReadableThrough
   steps_keep = record {
+    front = readable_fronts;
     starts = λ n. tt;
-    client = λ w h k t s c a found i. client_reports w h k t s c a found i;
+    client = λ w h k t s c a found i heard. client_reports w h k t s c a found i;
     server = λ w h k m d t later s g c.
         let x : Client = client_of w c in
         let fine : CallFine (KeptGood w.server c) x.held x.outstanding x.call = (laws.agree w h k t c).call in
@@ -118,10 +119,11 @@ module _ (laws : ReturnsLaws) where
         (λ (op : CallOp) (report : List IoErr).
         CantBeBorne (step w.server m.chosen g.input).state c (file_of op) (report_read report))
         (λ none op report b. borne_behind w.server m.chosen c x none (file_of op) (report_read report) b g.input
-        (laws.safe w (reached w h k)) (own_request laws.in_step w h k t c g.input g.heard)) x.held x.call fine (s c);
+        (laws.safe w (reached w h k)) (own_request laws.in_step w h k (readable_there w h k t) c g.input g.heard)) x.held x.call
+        fine (s c);
   }
 
   -- so it is at each moment
   pub reports_stand : (w : World) (h : List Line) → IsMoment w h → IsReadableThrough h → (c : ℕ)
       → Reports w.server c (client_of w c)
-  reports_stand = holds_always Reports steps_keep laws.more
+  reports_stand = holds_always Reports IsReadableThrough steps_keep laws.more

@@ -9,10 +9,10 @@ use Rattle.server_rules.specs.Grants.{merged}
 use Rattle.server_rules.specs.Jobs.{making, is_made, ending, fenced, fence_begins, goes_on, waits_or_on, loses}
 use Rattle.server_rules.specs.Maps.{pieces, pieces_along, pieces_in}
 use Rattle.server_rules.specs.Pieces.{reads, stores, short_with}
-use Rattle.server_rules.specs.Rebuild.{picked, target_on, target_for, makes_or, rebuilds, goes_past, group_for, stands_at, sources, fills, made, to_fill, filling, target_gone, target_full}
+use Rattle.server_rules.specs.Rebuild.{target_for, makes_or, rebuilds, goes_past, group_for, stands_at, sources, fills, made, to_fill, filling, target_gone, target_full}
 use Rattle.server_rules.specs.Repair.{after_repair, mended, repair_reads, repairs, storing, repair_begins}
-use Rattle.server_rules.specs.Zoning.{takers}
 use Rattle.history_law.specs.Names.{Kept, Repairing, Component, Awaited, Heard, Piece, Target, Job, JobKind, Making, Revoking, Rebuilding, Auditing, Work, Creates, Fences, Fetches, Stores, Targets, Gathers, Fills, Lengths, Checks, Tally, Fenced, Rebuilt, NoDrive, NoSpace, Lost}
+use Rattle.component_law.proofs.Walking.{target_is}
 
 -- ---- where a job goes on
 
@@ -123,22 +123,6 @@ place_behind f (Fills t (p ∷ ps)) heard = AtFill t ps
 place_behind f Lengths heard = AtAudit (pieces_along f.map.unit 0 f.high)
 place_behind f (Checks [] tally) heard = AtAudit []
 place_behind f (Checks (p ∷ ps) tally) heard = AtAudit ps
-
-target_by : (g : Going) (n : ℕ) (t : Target) (o : Option ℕ) → target_on g n o ≡ Some t →
-    (t.component ≡ n) × (t.object ≡ g.effects.object)
-target_by g n t None e = absurd (cc e)
-target_by g n t (Some d) e =
-    let same : record { component = n; drive = d; object = g.effects.object } ≡ t = cc e in
-    (ap (λ (x : Target). x.component) (sym same), ap (λ (x : Target). x.object) (sym same))
-
--- where a component is made anew, and with which number
-pub target_is : (g : Going) (at : Component) (n : ℕ) (t : Target) → target_for g at n ≡ Some t →
-    (t.component ≡ n) × (t.object ≡ g.effects.object)
-unfolding target_for
-target_is g at n t e = elim (cases_Bool at.missing) [
-  | inl m ↦ target_by g n t (picked g.chosen (takers g.drives g.file.kept n)) (rw m at e)
-  | inr p ↦ absurd (cc (rw p at e))
-]
 
 -- where it goes on when a component is lost
 abbrev pub lost_place : Kept → Work → Place
