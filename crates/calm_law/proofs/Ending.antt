@@ -61,14 +61,6 @@ left_unmarked kept stopped (m ∷ ms) w h = elim (cases_Bool (m.write == w)) [
 leaves_none : (c : CalmState) → Leaves c c
 leaves_none c = record { calm = refl; stopped = refl; quiet = λ fs q. q; left = λ kept h. h }
 
-leaves_then : (c d e : CalmState) → Leaves c d → Leaves d e → Leaves c e
-leaves_then c d e a b = record {
-  calm = b.calm ∙ a.calm;
-  stopped = b.stopped ∙ a.stopped;
-  quiet = λ fs q. b.quiet fs (a.quiet fs q);
-  left = λ kept h. b.left kept (a.left kept h);
-}
-
 event_leaves : (c : CalmState) (e : Event) → Leaves c (logs_event c e)
 event_leaves c (event.Do k x) = record { calm = refl; stopped = refl; quiet = λ fs q. q; left = λ kept h. h }
 event_leaves c (event.Call k x) = record { calm = refl; stopped = refl; quiet = λ fs q. q; left = λ kept h. h }

@@ -381,10 +381,6 @@ begins_writes : (l : Log) (c g f : ℕ) (p : Pending) (e : Entry) (n : Option �
 begins_writes l c g f p e None = refl
 begins_writes l c g f p e (Some n) = refl
 
-begun_sent : (s : LogState) (c g : ℕ) (w : Bool) (n : Option ℕ) → (begun_by s c g w n).sent_for ≡ s.sent_for
-begun_sent s c g w None = refl
-begun_sent s c g w (Some n) = refl
-
 -- a WRITE's entry is listed
 sent_keeps : (l : Log) (s : LogState) (ws : List (ℕ × ℕ)) (message m n : ℕ) → KeepsLog l s → l.writes ≡ ws → m ≡ n
     → n < length l.entries

@@ -1,5 +1,5 @@
 -- No line that a move tells or sends begins an event.
-use Rattle.std.proofs.Common.{◌≡◌, ℕ, List, [], ◌∷◌, ◌++◌, Bool, true, false, true≢false, None, refl, sym, subst, ◌∙◌, inl, inr, Option, Some, is_some, if◌then◌else◌}
+use Rattle.std.proofs.Common.{◌≡◌, ℕ, List, [], ◌∷◌, ◌++◌, true, false, true≢false, None, refl, sym, subst, ◌∙◌, inl, inr, Option, Some}
 use Rattle.std.specs.List.{list_any}
 use Rattle.std.proofs.lemmas.Bool.{cases_Bool, or_parts, or_from}
 use Rattle.std.proofs.lemmas.List.Folds.{list_any-append}
@@ -7,12 +7,11 @@ use Rattle.scenario_text.specs.declared.event.Event.{Event}
 use Rattle.scenario_text.specs.declared.event.Event.TheVariants as event
 use Rattle.scenario_text.specs.declared.line.Line.{Line}
 use Rattle.scenario_text.specs.declared.line.Line.TheVariants as line
-use Rattle.client_rules.specs.Steps.{awaits}
 use Rattle.world_history.specs.ClientNames as client_rules
-use Rattle.world_history.specs.State.{World, ClientAt, DriveAt, at_number}
+use Rattle.world_history.specs.State.{World, DriveAt, at_number}
 use Rattle.world_history.specs.Moves.{Action, Opens, Delivers, TimesOut, Pends, injects_at, injects, delivers, times_out, pends, begins, acts}
 use Rattle.world_history.specs.Sending.{Move, move, sends_all, sent_lines}
-use Rattle.world_history.specs.Plans.{Rule, due_by, due_pending, quiet_of, quiet_at, when_quiet, went_on, plan_of}
+use Rattle.world_history.specs.Plans.{Rule, due_by, went_on, plan_of}
 use Rattle.world_history.specs.Runs.{lines_of, AreDue}
 use Rattle.world_history.specs.Reading.{is_head}
 use Rattle.world_history.proofs.ReadMessages.{never_opens}
@@ -58,29 +57,6 @@ shape_plain : (ls : List Line) → Shape ls → NoEvent ls
 shape_plain ls (NoLine e) = subst NoEvent (sym e) refl
 shape_plain ls (Left c k e) = subst NoEvent (sym e) refl
 shape_plain ls (Heads x) = headed_plain ls x
-
--- behind its first move no event opens
-left_opens : (k : ℕ) (b : Bool) (e : Event) → (if b then Some (Pends k) else None) ≡ Some (Opens e) → ⊥
-left_opens k true e q = cc q
-left_opens k false e q = cc q
-
-quiet_opens : (k : ℕ) (a : client_rules.Client) (x : client_rules.Awaits) (e : Event)
-    → when_quiet k a x ≡ Some (Opens e) → ⊥
-quiet_opens k a (client_rules.ADrive p) e q = cc q
-quiet_opens k a client_rules.TheServer e q = left_opens k (is_some a.call) e q
-quiet_opens k a client_rules.Nothing e q = left_opens k (is_some a.call) e q
-
-at_opens : (k : ℕ) (a : Option ClientAt) (e : Event) → quiet_at k a ≡ Some (Opens e) → ⊥
-at_opens k None e q = cc q
-at_opens k (Some a) e q = quiet_opens k a.state (awaits a.state) e q
-
-of_opens : (w : World) (c : Option ℕ) (e : Event) → quiet_of w c ≡ Some (Opens e) → ⊥
-of_opens w None e q = cc q
-of_opens w (Some k) e q = at_opens k (at_number w.clients k) e q
-
-pending_opens : (w : World) (c n : Option ℕ) (e : Event) → due_pending w c n ≡ Some (Opens e) → ⊥
-pending_opens w c (Some n) e q = cc q
-pending_opens w c None e q = of_opens w c e q
 
 pub later_plain : (w : World) (r : Rule) (chosen : List ℕ) (a : Action) → due_by w r ≡ Some a
     → NoEvent (sends_all (acts w chosen a)).lines

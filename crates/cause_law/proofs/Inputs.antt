@@ -15,7 +15,7 @@ use Rattle.client_rules.specs.Turns.{turned, needing}
 use Rattle.client_rules.specs.Answers.{busy, refused_with, not_granted, committed, not_committed, on_commit, is_loss_taken, on_report}
 use Rattle.client_rules.specs.Going.{phased, over, by_turn}
 use Rattle.client_rules.specs.Messages.{answered_get, on_get, commit_under, on_need}
-use Rattle.client_rules.proofs.ReadSteps.{put_at}
+use Rattle.client_rules.proofs.HeldGrants.{put_at}
 use Rattle.cause_law.specs.Met.{Met, Answered, busy_status, busy_args, given_args, grant_under, failure_args, failure_at, lost_under, first_refusal, first_beyond}
 use Rattle.cause_law.specs.Caused.{failure_of}
 use Rattle.cause_law.proofs.Fetching.{failed_answers}

@@ -16,7 +16,7 @@ use Rattle.client_rules.specs.Messages.{answered_get, commit_under, on_need, on_
 use Rattle.client_rules.specs.Replies.{replied, timed_out}
 use Rattle.client_rules.specs.Requests.{object_of, args_of, get_args}
 use Rattle.client_rules.specs.Results.{status_of}
-use Rattle.client_rules.proofs.ReadSteps.{held_file, put_at}
+use Rattle.client_rules.proofs.HeldGrants.{held_file, put_at}
 use Rattle.client_rules.proofs.TakenMaps.{taken_checked}
 use Rattle.world_history.specs.ClientNames.{Client, Call, CallOp, Held, Listed, Due, Need, First, Get, Commit, Report, Close, Phase, Starts, Needs, Waits, Reads, Probes, Gathers, Scatters, Outcome, NoFile, HeldBy, Fencing, Why, Turn, Goes, Ends, Forgets, Moved, Done, Answer, Store}
 use Rattle.world_history.specs.State.{World, ClientAt}

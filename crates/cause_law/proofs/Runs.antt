@@ -122,9 +122,6 @@ since_traced hs out (Some call) ms x = x
 -- ---- one input
 
 module _ (c : Client) (ms : List Met) (x : IsTraced c ms) where
-  abbrev Good : Done → Type 0
-  Good d = GoodDone c.held (pending c.call) ms d
-
   abbrev GoodOn : List Met → Step → Type 0
   GoodOn now s = GoodStep c.held (pending c.call) now s
 

@@ -8,7 +8,7 @@ use Rattle.client_rules.specs.Grants.{covers, held_of, put_held}
 use Rattle.client_rules.specs.Requests.{args_of}
 use Rattle.client_rules.specs.Going.{over, with_held, by_turn, moved, begins, starts_with, starts_under, starts_at, starts_call, begun, held_after, requests, asks_under, returns, progressed}
 use Rattle.client_rules.specs.Messages.{Step, finished}
-use Rattle.client_rules.proofs.ReadSteps.{held_file, put_at}
+use Rattle.client_rules.proofs.HeldGrants.{held_file, put_at}
 use Rattle.history_law.proofs.Turns.{each_progress}
 use Rattle.cause_law.specs.Met.{Met, busy_in, grant_under, failure_at}
 use Rattle.cause_law.proofs.Fetching.{NoReplies}

@@ -1,5 +1,5 @@
 -- What a step at one file leaves: the tags at which numbers were given, and what was sent.
-use Rattle.std.proofs.Common.{◌≡◌, ℕ, ◌≤◌, Bool, true, false, List, [], refl, sym, subst, arith, inl, inr, if◌then◌else◌}
+use Rattle.std.proofs.Common.{◌≡◌, ℕ, ◌≤◌, List, [], refl, sym, subst, arith, inl, inr}
 use Rattle.server_rules.specs.Laws.{In}
 use Rattle.server_rules.specs.Going.{Going}
 use Rattle.server_rules.specs.Files.{Step, still, at_file, put_file, to_drives}
@@ -47,11 +47,6 @@ module _ (birth : ℕ → ℕ) (s : Server) (own : AreFine birth s) where
 
   pub stays : Keeps birth s.next_object (still s)
   stays = idle (still s) refl refl (λ drive c i. absurd i)
-
-  pub either_step : (b : Bool) (x y : Step) → Keeps birth s.next_object x → Keeps birth s.next_object y
-      → Keeps birth s.next_object (if b then x else y)
-  either_step true x y p q = p
-  either_step false x y p q = q
 
   -- one file goes on
   pub goes_at : (number : ℕ) (h : Going) (t : Step) → t.state.files ≡ put_file s.files number h.file

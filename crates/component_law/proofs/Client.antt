@@ -1,12 +1,11 @@
 -- What a client's step does to the sizes that it knows, and to its LAYOUTCOMMIT.
 use Rattle.std.proofs.Common.{◌≡◌, ◌≢◌, ℕ, Bool, List, ◌∷◌, Option, Some, None, find, inl, inr, refl, sym, ap, subst, ◌∙◌}
-use Rattle.layout_ops.specs.declared.args.Args.{Args}
 use Rattle.layout_ops.specs.declared.args.Args.TheVariants as args
 use Rattle.layout_ops.specs.declared.messages.Answer.{Answer}
 use Rattle.world_history.specs.ClientNames.{Client, Call, CallOp, Held, Due, Awaited, TimedOut, Request, Need, First, Get, Commit, Report, Close, Phase, Starts, Needs, Waits, Reads, Probes, Gathers, Scatters, Turn, Goes, Ends, Forgets, Moved, Done}
 use Rattle.client_rules.specs.Calls.{file_of}
 use Rattle.client_rules.specs.Commands.{of_component}
-use Rattle.client_rules.specs.Going.{quiet, by_turn, moved, begins, held_after, requests, asks_under, returns, with_held}
+use Rattle.client_rules.specs.Going.{quiet, by_turn, moved, begins, requests, asks_under, returns, with_held}
 use Rattle.client_rules.specs.Grants.{held_of, put_held, without_held}
 use Rattle.client_rules.specs.History.{Input, Hears, step}
 use Rattle.client_rules.specs.Io.{awaited_in}
@@ -14,7 +13,7 @@ use Rattle.client_rules.specs.Messages.{Step, TakesAnswer, finished, on_call, ta
 use Rattle.client_rules.specs.Replies.{answers, replied, timed_out}
 use Rattle.client_rules.specs.Requests.{args_of}
 use Rattle.exchange_law.proofs.ClientKeeping.{put_read, without_read}
-use Rattle.client_rules.proofs.ReadSteps.{held_file}
+use Rattle.client_rules.proofs.HeldGrants.{held_file}
 use Rattle.history_law.specs.Turns.{IsBeginning, TurnCases, FinishCases}
 use Rattle.history_law.proofs.Turns.{each_turn, each_finish}
 use Rattle.component_law.specs.Sizes.{IsCommit}
@@ -84,11 +83,6 @@ module _ (P : (file size : ℕ) → Type 0) (o : Option Request) where
 
   without_sized : (hs : List Held) (file : ℕ) → AreSized hs → AreSized (without_held hs file)
   without_sized hs file k f h e = k f h (without_read hs file f h e)
-
-  after_sized : (hs : List Held) (file : ℕ) (a : Args) → AreSized hs → AreSized (held_after hs file a)
-  after_sized hs file (args.LayoutGet a) k = k
-  after_sized hs file (args.LayoutCommit a) k = k
-  after_sized hs file (args.LayoutReturn a) k = without_sized hs file k
 
   pub turn_sized : (d : Done) (op : CallOp) (t : Turn) → AreSized d.client.held → NoCommit d.client.outstanding
       → Stays d.client.outstanding → IsSized (by_turn d op t).client
@@ -228,9 +222,6 @@ module _ (P : (file size : ℕ) → Type 0) (o : Option Request) where
 -- R holds of the client behind a step in which it takes an answer, and of each with the sizes of P
 module _ (P : (file size : ℕ) → Type 0) (R : Client → Type 0) (c : Client) (k : IsSized P c.outstanding c)
     (plain : (x : Client) → IsSized P c.outstanding x → R x) where
-  abbrev Q : Client → Type 0
-  Q x = IsSized P c.outstanding x
-
   -- the client behind an answer
   abbrev pub behind : Answer → Client
   behind a = (finished (on_call (quiet (record c { outstanding = None })) c.call a)).client

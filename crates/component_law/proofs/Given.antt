@@ -78,10 +78,6 @@ module _ (ds : List Drive) (f : Kept) (g : Grant) where
 
 -- ---- what is taken
 
-pub results_granted : (x y : LayoutGetOk) → results.LayoutGet (get.Granted x) ≡ results.LayoutGet (get.Granted y)
-    → x ≡ y
-results_granted x y e = cc e
-
 pub given_is : (r : Results) (given ok : LayoutGetOk) → layouts_in r ≡ Some given → r ≡ results.LayoutGet (get.Granted ok)
     → given ≡ ok
 given_is r given ok e is =

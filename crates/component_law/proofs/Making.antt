@@ -1,7 +1,6 @@
 -- A file is made; and what each step leaves.
-use Rattle.std.proofs.Common.{◌≡◌, ℕ, ◌≤◌, ◌<◌, ◌==◌, ◌∷◌, [], List, Bool, true, false, Option, Some, None, nat_lt, length, take, refl, sym, ap, subst, ◌∙◌, arith, inl, inr, eq-eqb, ne_eqb}
+use Rattle.std.proofs.Common.{◌≡◌, ℕ, ◌≤◌, ◌<◌, ◌==◌, ◌∷◌, [], List, Bool, true, false, Option, Some, None, nat_lt, length, refl, sym, ap, subst, ◌∙◌, arith, inl, inr, eq-eqb, ne_eqb}
 use Rattle.std.proofs.lemmas.Bool.{cases_Bool, cases_eq}
-use Rattle.std.proofs.lemmas.List.{length-take}
 use Rattle.scenario_text.specs.declared.names.TheConstants.{FILES}
 use Rattle.scenario_text.specs.declared.line.Line.{Line}
 use Rattle.server_rules.specs.Files.{Step, file_at, add_file, at_file}
@@ -66,11 +65,6 @@ beside (g ∷ fs) f n e = elim (cases_Bool (nat_lt g.kept.number f.kept.number))
   | inl t ↦ rw t (elim (cases_Bool (g.kept.number == n)) [ inl x ↦ rw x refl | inr z ↦ rw z (beside fs f n e) ])
   | inr z ↦ rw z (rw e refl)
 ]
-
--- ---- how many components it has
-
-length_taken : (n : ℕ) (xs : List ℕ) → length (take n xs) ≤ n
-length_taken n xs = rw (length-take n xs) (omega arith)
 
 -- ---- it is made
 

@@ -18,7 +18,7 @@ use Rattle.client_rules.specs.Layouts.{first_why, fresh, with_listed, unless_why
 use Rattle.client_rules.specs.Messages.{answered_get, commit_under, on_need, on_phase, on_call}
 use Rattle.client_rules.specs.Requests.{grant_in}
 use Rattle.client_rules.specs.Results.{layouts_in, status_of}
-use Rattle.client_rules.proofs.ReadSteps.{held_file}
+use Rattle.client_rules.proofs.HeldGrants.{held_file}
 use Rattle.history_law.proofs.Taking.{enough_same}
 use Rattle.component_law.proofs.Client.{IsSized, AreSized, put_over, turn_sized, same_call}
 

@@ -135,15 +135,6 @@ module _ (Off : ℕ → Type 0) where
   pub fewer_itself : (f : Kept) → Fewer f f
   fewer_itself f = record { number = refl; grants = λ client g e. (e, alike_itself f) }
 
-  pub fewer_then : (f k l : Kept) → Fewer f k → Fewer k l → Fewer f l
-  fewer_then f k l a b = record {
-    number = b.number ∙ a.number;
-    grants = λ client g e.
-        let y = b.grants client g e in
-        let x = a.grants client g y.0 in
-        (x.0, alike_then f k l x.1 y.1);
-  }
-
   same_grants : (f k : Kept) → k.number ≡ f.number → k.grants ≡ f.grants → IsAlike f k → Fewer f k
   same_grants f k number same alike = record {
     number = number;

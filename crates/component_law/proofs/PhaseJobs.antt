@@ -37,9 +37,6 @@ module _ (P : ℕ → Type 0) (number n : ℕ) (fresh : (o : ℕ) → n ≤ o �
   abbrev Mine : Going → List Awaited → Type 0
   Mine g ws = AllMine P g.effects.object g.file.kept ws
 
-  not_mine : (g : Going) → Mine g []
-  not_mine g a i = absurd i
-
   -- no job runs any more
   ended : (g : Going) → Own g → End (over g)
   ended g h = (h, tt, λ a i. absurd i, tt)

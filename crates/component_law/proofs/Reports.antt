@@ -12,7 +12,7 @@ use Rattle.component_law.specs.Sound.{IsAimed}
 use Rattle.component_law.specs.Apart.{AreApart}
 use Rattle.component_law.proofs.Drives.{apart_lost}
 use Rattle.component_law.proofs.Components.{lost, alike_same}
-use Rattle.component_law.proofs.FileNotes.{Ends, AreTellable, tag_behind, AreNext, Tagged, noted_with, behind, any_rebuilt}
+use Rattle.component_law.proofs.FileNotes.{Ends, AreTellable, tag_behind, AreNext, Tagged, noted_with, behind}
 use Rattle.component_law.proofs.Targets.{aim_lost}
 use Rattle.component_law.specs.Objects.{target_of}
 
@@ -95,10 +95,6 @@ behind_reports cs (n ∷ ns) =
 all_told : (ns : List ℕ) → AreTellable (kinds_of ns)
 all_told [] = tt
 all_told (n ∷ ns) = (refl, all_told ns)
-
-none_rebuilt : (ns : List ℕ) → any_rebuilt (kinds_of ns) ≡ false
-none_rebuilt [] = refl
-none_rebuilt (n ∷ ns) = none_rebuilt ns
 
 -- they leave the tag
 tag_stays : (tag : ℕ) (ns : List ℕ) → tag ≡ tag_behind tag (kinds_of ns)

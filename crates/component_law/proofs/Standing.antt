@@ -20,9 +20,6 @@ pub record Stands (ps : List Posted) (k : ℕ) (p : Posted) : Type 0 where
 abbrev pub Stay : (ps qs : List Posted) → Type 0
 Stay ps qs = (k : ℕ) (p : Posted) → slice_get ps k ≡ Some p → Stands qs k p
 
-pub stay_all : (ps : List Posted) → Stay ps ps
-stay_all ps k p e = record { now = p; found = e; same = refl }
-
 pub stay_same : (ps qs : List Posted) → qs ≡ ps → Stay ps qs
 stay_same ps qs e k p found = record {
   now = p;

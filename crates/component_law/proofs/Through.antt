@@ -66,25 +66,13 @@ through_failed rs w (l ∷ ls) = through_failed rs (watches rs w l) ls ∙ line_
 
 -- ---- where the step begins
 
-components_number : (f : File) (o : Option File) → (with_components f o).kept.number ≡ f.kept.number
-components_number f None = refl
-components_number f (Some old) = refl
-
 components_map : (f : File) (o : Option File) → (with_components f o).kept.map ≡ f.kept.map
 components_map f None = refl
 components_map f (Some old) = refl
 
-grants_number : (f : File) (o : Option File) → (with_grants f o).kept.number ≡ f.kept.number
-grants_number f None = refl
-grants_number f (Some old) = refl
-
 grants_map : (f : File) (o : Option File) → (with_grants f o).kept.map ≡ f.kept.map
 grants_map f None = refl
 grants_map f (Some old) = refl
-
-untold_number : (untold : Bool) (before : List File) (f : File) → (untold_file untold before f).kept.number ≡ f.kept.number
-untold_number true before f = grants_number f (file_at before f.kept.number)
-untold_number false before f = refl
 
 untold_map : (untold : Bool) (before : List File) (f : File) → (untold_file untold before f).kept.map ≡ f.kept.map
 untold_map true before f = grants_map f (file_at before f.kept.number)

@@ -75,10 +75,6 @@ module _ (ask : ZoneAsk) (ds : List InZone) (j z : ℕ) (some : 0 < ask.size) wh
   slice_of : (k : ℕ) → List ℕ → List ℕ
   slice_of k ns = drop (first - k) (take (end - k) ns)
 
-  count_not : (n k : ℕ) (hs : List Holder) → (k / ask.size == j) ≡ false
-      → length (filter (counts ask ds j z) (record { component = k; drive = n } ∷ hs)) ≡ length (filter (counts ask ds j z) hs)
-  count_not n k hs e = rw e refl
-
   count_slice : (ns : List ℕ) (object k : ℕ)
       → length (filter (counts ask ds j z) (holders_from (components_on ns object) k)) ≡ length (filter stands (slice_of k ns))
   unfolding components_on holders_from slice_of

@@ -13,7 +13,7 @@ use Rattle.exchange_law.specs.ClientState.{Held}
 use Rattle.client_rules.specs.Grants.{held_of, put_held, without_held}
 use Rattle.client_rules.specs.Commands.{nonce_at}
 use Rattle.client_rules.specs.Going.{held_after}
-use Rattle.client_rules.proofs.ReadSteps.{put_found}
+use Rattle.client_rules.proofs.HeldGrants.{put_found}
 use Rattle.exchange_law.specs.ClientNonces.{grant_of, RiseInGrants}
 use Rattle.exchange_law.proofs.Rising.{Each, each_more, each_map, each_range, IsAmong, among_more, among_last, rises_more}
 use Rattle.exchange_law.proofs.ClientGiven.{IsFresh}

@@ -166,10 +166,6 @@ pub record StepFits (s : Server) (t : Step) : Type 0 where
   pub recalls : t.state.next_recall ≤ s.next_recall + length t.sends
   pub grows : s.next_object ≤ t.state.next_object
 
-pub either_step : (s : Server) (b : Bool) (x y : Step) → StepFits s x → StepFits s y → StepFits s (if b then x else y)
-either_step s true x y p q = p
-either_step s false x y p q = q
-
 -- nothing is sent, and no number rises
 pub quiet_fits : (s t : Server) → ServerFits t → t.next_nonce ≡ s.next_nonce → t.next_object ≡ s.next_object
     → t.next_recall ≡ s.next_recall → StepFits s (still t)

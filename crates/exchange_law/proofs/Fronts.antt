@@ -1,6 +1,6 @@
 -- The numbers at the front of a request, as the server reads them, fit their places.
 use Rattle.std.proofs.Common.{◌≡◌, ℕ, zero, suc, ◌^◌, ◌<◌, ◌++◌, Bool, true, false, List, [], ◌∷◌, Result, Ok, Err, length, nat_lt, nat_eq, ap, subst, ◌∙◌, arith, if◌then◌else◌}
-use Rattle.std.specs.Int.{w16, w32, w64, to_be_bytes}
+use Rattle.std.specs.Int.{w32, to_be_bytes}
 use Rattle.osd_lists.proofs.Options.{guard_ok}
 use Rattle.xdr_codec.specs.Items.{u32_item}
 use Rattle.xdr_codec.specs.Reading.{Rest, ◌>>=◌, u32_in, end_of}
@@ -121,20 +121,9 @@ request_read bytes r e b =
 
 -- ---- what is spelled begins with bytes
 
-begins_16 : (m n : ℕ) (rest : List ℕ) → BeginsWithBytes m rest
-    → BeginsWithBytes (suc (suc m)) (to_be_bytes w16 n ++ rest)
-begins_16 m n rest b = (omega arith, (omega arith, b))
-
 begins_32 : (m n : ℕ) (rest : List ℕ) → BeginsWithBytes m rest
     → BeginsWithBytes (suc (suc (suc (suc m)))) (to_be_bytes w32 n ++ rest)
 begins_32 m n rest b = (omega arith, (omega arith, (omega arith, (omega arith, b))))
-
-begins_64 : (m n : ℕ) (rest : List ℕ) → BeginsWithBytes m rest
-    → BeginsWithBytes (suc (suc (suc (suc (suc (suc (suc (suc m)))))))) (to_be_bytes w64 n ++ rest)
-begins_64 m n rest b = (
-  omega arith,
-  (omega arith, (omega arith, (omega arith, (omega arith, (omega arith, (omega arith, (omega arith, b))))))),
-)
 
 item_32 : (m n : ℕ) (rest : List ℕ) → BeginsWithBytes m rest
     → BeginsWithBytes (suc (suc (suc (suc m)))) (u32_item n ++ rest)

@@ -7,7 +7,7 @@ use Rattle.client_rules.specs.Going.{phased, with_held, by_turn, moved, begins, 
 use Rattle.client_rules.specs.Grants.{held_of, put_held, without_held, is_for, covers}
 use Rattle.client_rules.specs.Messages.{Step, finished}
 use Rattle.client_rules.specs.Requests.{args_of}
-use Rattle.client_rules.proofs.ReadSteps.{held_file, put_found}
+use Rattle.client_rules.proofs.HeldGrants.{held_file, put_found}
 use Rattle.exchange_law.proofs.ClientKeeping.{put_read, without_read}
 use Rattle.exchange_law.specs.Calls.{EndsFair, NoGet, Has, NeedFine, Knows, Writes, Passes, PhaseFine, IsCall, CallFine, ClientFine}
 use Rattle.exchange_law.proofs.HeldMoving.{IsSame, TurnFine, MoveFine, begins_fine}

@@ -11,7 +11,7 @@ use Rattle.client_rules.specs.Going.{quiet, with_held, by_turn, moved, begins, s
 use Rattle.client_rules.specs.Messages.{Step, still, to_drive, sends_of, closed, finished}
 use Rattle.client_rules.specs.Laws.{IsNumbered}
 use Rattle.client_rules.proofs.Numbering.{nonces_rise}
-use Rattle.client_rules.proofs.ReadSteps.{held_file, put_found}
+use Rattle.client_rules.proofs.HeldGrants.{held_file, put_found}
 use Rattle.exchange_law.proofs.Kept.{FairPhase, FairTurn, IsKept, begins_kept}
 use Rattle.exchange_law.proofs.LaneMoves.{IsOf, AreOf, PhaseFine, PhaseWell, TurnWell, MovedWell, phase_well, begins_well}
 use Rattle.exchange_law.proofs.LaneGrowing.{With, AreLatest, of_same, all_of, moved_latest}

@@ -1,11 +1,11 @@
 -- The layout of a grant fits its place in an answer.
 use Rattle.std.specs.List.{AllByRecursion}
-use Rattle.std.proofs.Common.{◌≡◌, ℕ, zero, suc, ◌+◌, ◌-◌, ◌*◌, ◌^◌, ◌≤◌, ◌<◌, ◌++◌, Bool, true, false, List, [], ◌∷◌, Some, length, nat_eq, slice_get, flat_map, replicate, refl, ap, subst, ◌∙◌, arith, if◌then◌else◌}
-use Rattle.std.proofs.lemmas.List.{length-append, length-replicate}
+use Rattle.std.proofs.Common.{◌≡◌, ℕ, zero, suc, ◌+◌, ◌-◌, ◌*◌, ◌^◌, ◌≤◌, ◌<◌, ◌++◌, Bool, true, false, List, [], ◌∷◌, Some, length, nat_eq, slice_get, flat_map, refl, ap, subst, ◌∙◌, arith, if◌then◌else◌}
+use Rattle.std.proofs.lemmas.List.{length-append}
 use Rattle.std.proofs.lemmas.List.Concat.{flat_map-cons}
 use Rattle.hmac_tags.specs.Mac.{hmac_sha1, hmac_sha256}
 use Rattle.hmac_tags.proofs.Lengths.{long_sha1, long_sha256}
-use Rattle.xdr_codec.specs.Items.{padded, u32_item, u64_item, fixed_item, opaque_item}
+use Rattle.xdr_codec.specs.Items.{u32_item, u64_item, opaque_item}
 use Rattle.xdr_codec.proofs.ItemLaws.{length-u32}
 use Rattle.data_map.specs.declared.check.RawMap.{RawMap}
 use Rattle.layout_types.specs.declared.cred.ObjectCred.{ObjectCred}
@@ -114,12 +114,6 @@ numbers_fit ds n f g l kept grant = record {
 }
 
 -- ---- its bytes
-
-length_fixed : (b : List ℕ) → length (fixed_item b) ≡ padded (length b)
-unfolding fixed_item
-length_fixed b =
-    let fill = length-replicate {A = ℕ} (padded (length b) - length b) 0 in
-    omega (arith, length-append b (replicate (padded (length b) - length b) 0), fill)
 
 length_cred : (v : ObjectCred) → IsSmall v → length (cred_item v) ≤ 176
 length_cred v s =

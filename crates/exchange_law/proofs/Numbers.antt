@@ -20,7 +20,7 @@ use Rattle.client_rules.specs.Steps.{timeout_under, timeout_call, times_out, is_
 use Rattle.client_rules.specs.History.{Input, Calls, Hears, TimesOut, Leaves, Resends, unless_refused, step}
 use Rattle.client_rules.specs.Laws.{nonce_of, IsNumbered}
 use Rattle.client_rules.proofs.Numbering.{nonces_rise}
-use Rattle.client_rules.proofs.ReadSteps.{held_file}
+use Rattle.client_rules.proofs.HeldGrants.{held_file}
 use Rattle.exchange_law.specs.ClientNonces.{nonces_in, nonces_at, nonces_by, given, granted, grants_at, grants_by, AllDiffer, RiseInGrants, IsBounded, NoncesDiffer}
 use Rattle.exchange_law.proofs.Rising.{last_is_new, differ_before, rising_differ}
 use Rattle.exchange_law.proofs.Kept.{FairPhase, FairTurn, IsKept, replied_kept, timed_out_kept, begins_kept, on_commit_kept}

@@ -12,7 +12,7 @@ use Rattle.client_rules.specs.Requests.{get_args, args_of, return_args}
 use Rattle.client_rules.specs.Io.{awaited_in}
 use Rattle.client_rules.specs.Going.{quiet, with_held, by_turn, moved, begins, starts_with, starts_under, starts_at, starts_call, begun, held_after, requests, asks_under, returns, returns_due, progress_phase, progress_call, progress_free, progressed}
 use Rattle.client_rules.specs.Messages.{Step, still, to_drive, closed, finished}
-use Rattle.client_rules.proofs.ReadSteps.{put_found}
+use Rattle.client_rules.proofs.HeldGrants.{put_found}
 use Rattle.exchange_law.specs.Kept.{IsOwnGrant}
 use Rattle.exchange_law.proofs.Commands.{MaySend}
 use Rattle.exchange_law.proofs.PlaceSending.{ArePlaced, PhaseFits, TurnFits, MovedFits}

@@ -17,11 +17,6 @@ pub either_all : {A : Type 0} (P : A → Type 0) (b : Bool) (xs ys : List A) →
 either_all P true xs ys k l = k
 either_all P false xs ys k l = l
 
-one_all : {A : Type 0} (P : A → Type 0) (b : Bool) (x : A) (xs : List A) → P x → AllByRecursion P xs
-    → AllByRecursion P (if b then x ∷ xs else xs)
-one_all P true x xs k l = (k, l)
-one_all P false x xs k l = l
-
 -- numbers one after another
 pub all_between : (a n : ℕ) → AllByRecursion (λ (s : ℕ). (a ≤ s) × (s < a + n)) (range_with_len a n)
 all_between a zero = tt

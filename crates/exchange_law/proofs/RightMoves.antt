@@ -45,10 +45,6 @@ all_reads : (xs ys : List Awaited) → AreReads xs → AreReads ys → AreReads 
 all_reads [] ys x y = y
 all_reads (a ∷ xs) ys x y = (x.0, all_reads xs ys x.1 y)
 
-one_kept : (b : Bool) (a : Awaited) (xs : List Awaited) → a.write ≡ false → AreReads xs → AreReads (if b then a ∷ xs else xs)
-one_kept true a xs w x = (w, x)
-one_kept false a xs w x = x
-
 some_reads : (p : Awaited → Bool) (xs : List Awaited) → AreReads xs → AreReads (filter p xs)
 some_reads p [] x = tt
 some_reads p (a ∷ xs) x = elim (cases_Bool (p a)) [ inl t ↦ rw t (x.0, some_reads p xs x.1) | inr f ↦ rw f (some_reads p xs x.1) ]

@@ -22,7 +22,8 @@ use Rattle.exchange_law.specs.ClientAnswers.{IsRight, ReadsAreRight}
 use Rattle.client_rules.proofs.TakenMaps.{taken_checked}
 use Rattle.client_rules.proofs.Apart.{IsIn}
 use Rattle.client_rules.proofs.ReadMoves.{FitsOutcome, weaker, GoodNeed}
-use Rattle.client_rules.proofs.ReadSteps.{AreChecked, put_checked, without_checked, after_checked, held_checked, held_file, put_at, Fits, Refuses, refused_with_refuses, report_fits, any_fits, Fair, takes_fair, none_pending, fits_answer}
+use Rattle.client_rules.proofs.HeldGrants.{AreChecked, put_checked, without_checked, after_checked, held_checked, held_file, put_at}
+use Rattle.client_rules.proofs.ReadSteps.{Fits, Refuses, refused_with_refuses, report_fits, any_fits, Fair, takes_fair, none_pending, fits_answer}
 use Rattle.exchange_law.proofs.RightMoves.{GoodPhase, Follows, GoodTurn, GoodMoved, replied_good, timed_good, begins_good, on_commit_good}
 
 -- ---- held grants

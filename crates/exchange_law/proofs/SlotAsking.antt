@@ -102,14 +102,6 @@ module _ (own first : ℕ) (o : Option Request) where
   abbrev A : Done → Type 0
   A d = Asked own first o d
 
-  either_done : (b : Bool) (d e : Done) → C d → C e → C (if b then d else e)
-  either_done true d e x y = x
-  either_done false d e x y = y
-
-  either_asked : (b : Bool) (d e : Done) → A d → A e → A (if b then d else e)
-  either_asked true d e x y = x
-  either_asked false d e x y = y
-
   -- ---- what becomes of a call
 
   -- the turn leaves room

@@ -22,7 +22,7 @@ use Rattle.client_rules.specs.Messages.{Message, Replies, Answers, Recalls, Take
 use Rattle.client_rules.specs.Steps.{is_bad_range, is_spent, writes_nothing, starts, calls, timeout_under, timeout_call, times_out, all_due, leaves, outstanding_sends, resent}
 use Rattle.client_rules.specs.History.{Input, Calls, Hears, TimesOut, Leaves, Resends, unless_refused, step}
 use Rattle.client_rules.specs.Commands.{in_order}
-use Rattle.client_rules.proofs.ReadSteps.{put_at}
+use Rattle.client_rules.proofs.HeldGrants.{put_at}
 use Rattle.exchange_law.proofs.Few.{rank_behind, IsDriving, replied_few, timed_out_few}
 use Rattle.exchange_law.proofs.Granted.{taken_covers}
 use Rattle.exchange_law.proofs.SlotAsking.{HasRoom, room_less, rank_at, RoomPhase, RoomCall, Unasked, Calm, AsksNone, AsksOne, AreOutstanding, RoomTurn, by_turn_calm, moved_calm, progressed_asked}

@@ -1,10 +1,9 @@
 -- The machine of a file at a cut between two lines of a move, and the pairs of entries behind a line.
-use Rattle.std.specs.Prelude.{ℕ, ◌-◌, ◌==◌, nat_lt, List, [], ◌∷◌, ◌++◌, length, take, drop, slice_get, Option, Some, None, if◌then◌else◌}
+use Rattle.std.specs.Prelude.{ℕ, ◌-◌, ◌==◌, nat_lt, List, [], ◌∷◌, take, drop, Option, Some, None, if◌then◌else◌}
 use Rattle.world_history.specs.ServerNames as server_rules
 use Rattle.world_history.specs.ServerNames.{File, Note, NoteKind}
 use Rattle.world_history.specs.State.{World}
 use Rattle.world_history.specs.Sending.{Move}
-use Rattle.world_history.specs.ReadLog.{Logged}
 use Rattle.world_history.specs.Moves as moves
 use Rattle.server_rules.specs.Files.{Step as ServerStep}
 use Rattle.history_law.specs.Read.{leads}
@@ -13,7 +12,6 @@ use Rattle.fence_law.specs.State as machine
 use Rattle.fence_law.specs.Machine.{after_all}
 use Rattle.file_simulation.specs.ServerEvents.{rebuilt}
 use Rattle.file_simulation.specs.Events.{joined, events_of}
-use Rattle.file_simulation.specs.Showing.{Pairs}
 
 -- ---- a rebuild that is told later
 
@@ -50,15 +48,3 @@ abbrev pub at_cut : machine.State → World → (e : ℕ → ℕ) → File → M
 at_cut s w e f m count =
     after_all (behind_lines s w e f m count)
     (rebuilt_ahead (behind_lines s w e f m count) w f (notes_behind count m.action (did_in w m)))
-
--- ---- entries
-
--- a further entry of the log, if there is one and it is of the file, is the machine's last
-abbrev pub paired_with : Pairs → (file number last : ℕ) → Option Logged → Pairs
-paired_with pairs file i j None = pairs
-paired_with pairs file i j (Some e) = if e.file == file then pairs ++ (i, j) ∷ [] else pairs
-
--- the pairs behind a line, by the entries of the log before and behind it, and the machine behind it
-abbrev pub pairs_behind : Pairs → (file : ℕ) → (before after : List Logged) → machine.State → Pairs
-pairs_behind pairs file before after s =
-    paired_with pairs file (length before) (s.count - 1) (slice_get after (length before))

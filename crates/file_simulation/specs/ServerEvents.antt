@@ -51,11 +51,6 @@ abbrev pub is_ok : Option Answer → Bool
 is_ok None = false
 is_ok (Some a) = status_of a.results == NFS4_OK
 
--- it takes a report as a loss
-abbrev pub takes_loss : Option Answer → Bool
-takes_loss None = false
-takes_loss (Some a) = is_loss_taken a
-
 -- a return that the machine knows as its own is clean, or is one of a write that broke off
 abbrev pub return_served : machine.State → (c : ℕ) → machine.RequestKind → (before after : File) → List machine.Event
 return_served s c (Return true) f g = event.Frees c ∷ []

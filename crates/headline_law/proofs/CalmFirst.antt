@@ -35,10 +35,6 @@ granted_first : (P : Event → Type 0) (o : Option machine.Grant) (does : machin
 granted_first P None does a = tt
 granted_first P (Some g) does a = a g
 
--- events that may stand there anyhow
-abbrev Plain : Event → Type 0
-Plain e = (b : Bool) → IsFirst b e
-
 pub first_events : (s : State) (server : Server) (did : Step) (f g : File) (i : Input) (b : Bool) →
     table.begins_fence f g ≡ b → AreAll (IsFirst b) (table.at_first s server did f g i)
 unfolding table.declared_from

@@ -51,9 +51,6 @@ module _ (file : ℕ) (m : RawMap) (s : State) (c : ℕ) (x : Client) (i : Input
   -- ---- an answer
 
   module _ (a : Answer) (n : IsAnswered x i a) where
-    abbrev freed : Done
-    freed = quiet (record x { outstanding = None })
-
     abbrev t : State
     t = after_all s (table.answered s file c x a x.outstanding)
 

@@ -13,7 +13,7 @@ use Rattle.client_rules.specs.Replies.{refused, replied, timed_out}
 use Rattle.client_rules.specs.Steps.{all_due}
 use Rattle.client_rules.specs.Turns.{turned}
 use Rattle.client_rules.proofs.Numbering.{nonces_rise}
-use Rattle.client_rules.proofs.ReadSteps.{held_file}
+use Rattle.client_rules.proofs.HeldGrants.{held_file}
 use Rattle.world_history.specs.ClientNames.{Client, Call, CallOp, Held, Awaited, Reply, Phase, Starts, Needs, Waits, Reads, Probes, Gathers, Scatters, Turn, Goes, Ends, Forgets, Close, Silent, Lost, Moved, Done}
 use Rattle.history_law.specs.Turns.{with_start, IsReplied, IsAnswered}
 use Rattle.history_law.proofs.Turns.{each_begin}

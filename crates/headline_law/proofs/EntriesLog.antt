@@ -23,10 +23,6 @@ said_here file e es is = rw (eq-eqb e.file file is) refl
 said_beside : (file : ℕ) (e : Logged) (es : List Logged) → (e.file ≡ file → ⊥) → said_of file (e ∷ es) ≡ said_of file es
 said_beside file e es ne = rw (ne_eqb e.file file ne) refl
 
-none_said : (file i : ℕ) → said_of file (take i []) ≡ []
-none_said file zero = refl
-none_said file (suc i) = refl
-
 -- none of the first entries is the file's
 said_none : (file i : ℕ) (es : List Logged) →
     ((g : ℕ) (e : Logged) → slice_get es g ≡ Some e → e.file ≡ file → g < i → ⊥) → said_of file (take i es) ≡ []

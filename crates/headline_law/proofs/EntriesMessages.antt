@@ -40,7 +40,7 @@ use Rattle.relation_law.proofs.FramesClient.{either_all, grant_all}
 use Rattle.relation_law.proofs.KeptNotes.{after_both}
 use Rattle.headline_law.proofs.EntriesPairs.{IsSilent, same_entries}
 use Rattle.headline_law.proofs.EntriesCalls.{Stands, CallAs, IsOfCall, begun_entry, starts_named}
-use Rattle.headline_law.proofs.EntriesSends.{stands_on, other_writes, CommandIs, CommandGoes, command_goes, under_grant}
+use Rattle.headline_law.proofs.EntriesSends.{other_writes, CommandIs, CommandGoes, command_goes, under_grant}
 
 -- ---- to the server
 
@@ -110,29 +110,6 @@ pub none_log : (l : Log) (c : ℕ) (wrote : Bool) (logged number n : ℕ) → lo
 unfolding sent_lines
 none_log l c wrote logged number zero = refl
 none_log l c wrote logged number (suc n) = refl
-
--- ---- messages to the server
-
--- Such messages leave the log, and each entry of the machine.
-pub all_to_server : (file c : ℕ) (x : Client) (os : List Outgoing) → AllToServer os → (t : State) (l : Log) (pairs : Pairs) →
-    Stands file t l pairs → (wrote : Bool) (logged number n : ℕ) →
-    (log_to l c wrote logged number os n ≡ l) × Stands file (machine_to t file c x os n) l pairs
-all_to_server file c x [] all t l pairs k wrote logged number n = (
-  none_log l c wrote logged number n,
-  subst (λ (u : State). Stands file u l pairs) (sym (none_machine t file c x n)) k,
-)
-all_to_server file c x (o ∷ os) all t l pairs k wrote logged number zero = (refl, k)
-all_to_server file c x (o ∷ os) all t l pairs k wrote logged number (suc n) =
-    let u : State = after_all t (table.sends t file c x o) in
-    let r = all_to_server file c x os all.1 u l pairs
-    (stands_on file t l pairs (table.sends t file c x o) (server_silent t file c x o all.0) k)
-    (wrote || is_write_out o) logged (number + 1) n in (
-      log_next l c wrote logged number o os n
-          ∙ ap (λ (m : Log). log_to m c (wrote || is_write_out o) logged (number + 1) os n)
-          (server_logs l number c (if is_write_out o && not wrote then logged else 0) o all.0)
-          ∙ r.0,
-      subst (λ (v : State). Stands file v l pairs) (sym (machine_next t file c x o os n)) r.1,
-    )
 
 -- ---- commands of a call on the file
 
@@ -235,10 +212,6 @@ module _ (file c : ℕ) (t : State) where
   record KeepsAll (l m : Log) (pairs : Pairs) : Type 0 where
     stands : Stands file t m pairs
     off : NotHere file c m
-
-  same_all : (l : Log) (pairs : Pairs) (ws : List (ℕ × ℕ)) → Stands file t l pairs → NotHere file c l →
-      KeepsAll l (record l { writes = ws }) pairs
-  same_all l pairs ws k off = record { stands = other_writes file t l pairs ws k; off = off }
 
   begins_off : (l : Log) (pairs : Pairs) → Stands file t l pairs → NotHere file c l → (p : Pending) →
       at_number l.pending c ≡ Some p → (f g : ℕ) (e : Entry) → f ≡ file_of (op_of p.call) → IsOfCall e p.call →

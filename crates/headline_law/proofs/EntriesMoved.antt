@@ -85,10 +85,6 @@ module _ (t : State) (c : ℕ) (h : Held) (op : CallOp) (pairs : Pairs) (o : Opt
   abbrev To : Moved → Type 0
   To m = MovedTo t c op pairs o m
 
-  either_to : (b : Bool) (m n : Moved) → To m → To n → To (if b then m else n)
-  either_to true m n p q = p
-  either_to false m n p q = q
-
   -- ---- reads
 
   module _ (run : RunsRead t c h op pairs o) where

@@ -1,6 +1,6 @@
 -- The lines of a move of a drive, or of nobody, leave the entries of the log, unless a client sends its messages again.
 -- Towards `CutsShowEntries` (`specs/Parts.antt`).
-use Rattle.std.proofs.Common.{◌≡◌, ◌==◌, ◌++◌, ◌⊎◌, inl, inr, ℕ, zero, suc, Bool, true, false, List, [], ◌∷◌, length, take, is_some, slice_get, Option, Some, None, refl, sym, ap, subst, ◌∙◌, if◌then◌else◌}
+use Rattle.std.proofs.Common.{◌≡◌, ◌++◌, ◌⊎◌, inl, inr, ℕ, zero, suc, Bool, true, false, List, [], ◌∷◌, length, take, is_some, slice_get, Option, Some, None, refl, sym, ap, subst, ◌∙◌, if◌then◌else◌}
 use Rattle.std.specs.List.{fold}
 use Rattle.std.proofs.lemmas.Bool.{cases_eq}
 use Rattle.osd_objects.proofs.Entries.{lookup_inserted, lookup_beside}
@@ -22,14 +22,13 @@ use Rattle.scenario_text.specs.declared.line.Refusal.TheVariants as refusal
 use Rattle.osd_lists.specs.declared.node.Node.{Node}
 use Rattle.osd_lists.specs.declared.node.Node.TheVariants as node
 use Rattle.client_rules.specs.History.{Calls, TimesOut, Leaves as Leaves_}
-use Rattle.client_rules.specs.Calls.{file_of}
 use Rattle.client_rules.specs.Steps.{calls}
 use Rattle.data_map.specs.declared.check.RawMap.{RawMap}
 use Rattle.server_rules.specs.History.{Makes, Adds}
 use Rattle.server_rules.specs.Making.{create_file}
 use Rattle.client_rules.specs.Messages.{Message as ClientMessage}
 use Rattle.server_rules.specs.Messages.{Message as ServerMessage}
-use Rattle.world_history.specs.ClientNames.{Call as ClientCall, CallOp}
+use Rattle.world_history.specs.ClientNames.{CallOp}
 use Rattle.world_history.specs.Calm.{moment_of, sent_taken}
 use Rattle.world_history.specs.Drives.{Judged, command_in, judges, is_deaf, made_drive}
 use Rattle.world_history.specs.Told.{kind_of}
@@ -37,7 +36,7 @@ use Rattle.world_history.specs.Book.{made_of}
 use Rattle.world_history.specs.Handed.{plain, quiet, for_server, for_client, pending_op, server_takes, drive_replies, drive_hears, client_takes, client_hears, client_goes, handed_to}
 use Rattle.world_history.specs.Moves as world
 use Rattle.world_history.specs.Moves.{Act, Action, Opens, Delivers, Pends, acts, op_of, raw_of, knows_drive}
-use Rattle.world_history.specs.ReadLog.{Log, Logged, Pending, log_after, called_beside, entry_in, log_in}
+use Rattle.world_history.specs.ReadLog.{Log, Logged, Pending, log_after, called_beside, entry_in}
 use Rattle.world_history.specs.Sending.{Move, move, sent_line, sent_lines}
 use Rattle.world_history.specs.ServerNames.{File}
 use Rattle.world_history.specs.State.{World, ClientAt, DriveAt, at_number, and_number, and_drive}
@@ -48,7 +47,6 @@ use Rattle.history_law.specs.Doing.{input_in, heard_of, brought, brought_to}
 use Rattle.fence_law.specs.State.{State}
 use Rattle.file_simulation.proofs.Fronts.{move_begun}
 use Rattle.file_simulation.specs.ClientEvents.{Going, going_in, delivered, hearing, hearing_at, going, leaving}
-use Rattle.file_simulation.specs.Relation.{client_of}
 use Rattle.file_simulation.specs.Showing.{Pairs, ArePaired}
 use Rattle.file_simulation.specs.Tied.{AreTied}
 use Rattle.headline_law.specs.Parts.{CutShown, lines_to}
@@ -328,15 +326,6 @@ ResendsLeaveEntries =
     (w : World) (h : List Line) (m : Move) (count : ℕ) (f g : File) (s : State) (pairs : Pairs) →
     CutShown w h m count f g s pairs → AreTied w h s f.kept.number pairs → (from : Sender) →
     m.action ≡ Opens (scenario.Resend from) → ArePaired s f.kept.number (moment_of (lines_to w h m count)).log.entries pairs
-
--- And behind the whole move the pending calls on the file have the entries that they had.
-abbrev pub ResendsLeaveCalls : Type 0
-ResendsLeaveCalls =
-    (w : World) (h : List Line) (m : Move) (count : ℕ) (f g : File) (s : State) (pairs : Pairs) →
-    CutShown w h m count f g s pairs → AreTied w h s f.kept.number pairs → (from : Sender) →
-    m.action ≡ Opens (scenario.Resend from) → (c : ℕ) (call : ClientCall) → (client_of w c).call ≡ Some call →
-    (file_of call.op == f.kept.number) ≡ true →
-    entry_in (at_number (fold log_after (log_in h) (lines_in w m)).pending c) ≡ entry_in (at_number (log_in h).pending c)
 
 pub with_leaves : (a : Action) (ys : List Line) → AllLeave ys → AllLeave (with_event a ys)
 with_leaves (Opens e) ys all = (event_leaves e, all)

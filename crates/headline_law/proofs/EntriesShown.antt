@@ -108,10 +108,6 @@ module _ (laws : ReadingLaws) (w : World) (h : List Line) (m : Move) (count : �
       (z : EntriesShown (lines_to w h m count) (cut_at k.shown.follows) f.kept.number pairs) × (z.pairs ≡ more)
   shown_of more has z = shown_by more has z.paired z.single
 
-  -- the log at the moment before the move
-  abbrev pub log_there : Log
-  log_there = (moment_of h).log
-
   pub pending_there : (moment_of h).log.pending ≡ (log_in h).pending
   pending_there =
       ap (λ (l : Log). l.pending)

@@ -88,11 +88,6 @@ EndTied file c u m pairs x =
     PhaseTied u c pairs (entry_in (at_number m.pending c)) call.phase
     ⊎ (IsWorking call.phase × CallAs pairs (is_write call.op) (entry_in (at_number m.pending c)) (u.call c))
 
--- behind all of them
-pub record ReachesEnd (file c : ℕ) (u : State) (m : Log) (old : Pairs) (x : Client) (all : Type 0) : Type 0 where
-  pub reached : Reaches file u m old
-  pub ends : all → EndTied file c u m reached.pairs x
-
 -- ---- requests
 
 -- a request leaves all entries, and the machine's client where it is, or at nothing

@@ -85,7 +85,7 @@ module _ (laws : MovedLaws) (goes : BecameGoes) where
         client = λ w h k t s c a found i heard. (
           (s c).0,
           (step_is_fine laws.held.own laws.held.right.world.agree (BecameAt w c) (same_became w c) w h k
-          (readable_then laws.held laws.fresh w h k t.0) c a found (s c).1 (s c).0 i heard).helds,
+              (readable_then laws.held laws.fresh w h k t.0) c a found (s c).1 (s c).0 i heard).helds,
         );
         server = λ w h k m d before t s g c.
             let same : client_of (move w m).world c ≡ client_of w c = ap (λ (xs : _). state_of c (at_number xs c)) g.clients in

@@ -323,7 +323,6 @@ pub mod FoundSettled
 pub mod FoundJoined
 pub mod EntriesResendsMove
 pub mod EntriesCommands
-pub mod TargetKeptWhole
 pub mod LossAsked
 pub mod LossOverMachine
 pub mod LossOver

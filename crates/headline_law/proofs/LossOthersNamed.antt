@@ -8,7 +8,7 @@ use Rattle.client_rules.specs.Calls.{file_of}
 use Rattle.client_rules.specs.Grants.{held_of}
 use Rattle.client_rules.specs.History.{Input, step as client_step}
 use Rattle.client_rules.specs.Requests.{return_args, report_of}
-use Rattle.client_rules.proofs.ReadSteps.{held_file}
+use Rattle.client_rules.proofs.HeldGrants.{held_file}
 use Rattle.server_rules.specs.History.{step}
 use Rattle.world_history.specs.ClientNames.{Client, CallOp, Held, Request, TimedOut, Report, Waits}
 use Rattle.world_history.specs.ServerNames.{Server}

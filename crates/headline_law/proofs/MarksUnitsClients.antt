@@ -15,7 +15,8 @@ use Rattle.client_rules.specs.Replies.{replied, timed_out}
 use Rattle.client_rules.specs.Results.{status_of}
 use Rattle.client_rules.specs.Turns.{turned}
 use Rattle.client_rules.specs.Writes.{accounted}
-use Rattle.client_rules.proofs.ReadSteps.{held_file, put_at, Refuses, refused_with_refuses}
+use Rattle.client_rules.proofs.HeldGrants.{held_file, put_at}
+use Rattle.client_rules.proofs.ReadSteps.{Refuses, refused_with_refuses}
 use Rattle.world_history.specs.ClientNames.{Client, Call, CallOp, Held, Due, TimedOut, Need, First, Get, Commit, Report, Close, Phase, Starts, Needs, Waits, Reads, Probes, Gathers, Scatters, Turn, Goes, Ends, Forgets, Moved, Done, Why, Status}
 use Rattle.history_law.specs.Turns.{TurnCases, FinishCases}
 use Rattle.history_law.proofs.Turns.{each_turn, each_finish}

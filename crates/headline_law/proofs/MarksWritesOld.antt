@@ -237,13 +237,3 @@ cuts_grow runs book w h m f g s pairs k =
           (runs w h m (length (lines_in w m)) f g s pairs k);
       low = λ y sent. ((safe_of s follows.run code).known y sent).entry;
     }
-
--- ---- a file to whose objects nothing was sent
-
-pub tied_unsent : PostedAreSent → (w : World) (h : List Line) → IsMoment w h → IsOfScenario h → (s : State) (f : File)
-    (pairs : Pairs) →
-    ((c d i : ℕ) (x : Command) (at : Component) → HasSent w c d x → slice_get f.kept.components i ≡ Some at →
-    x.object ≡ at.object → ⊥) → WritesAreTied w h s f pairs
-tied_unsent sent w h moment scenario s f pairs none n c d i x at posted write found object lost y there holder nonce on =
-    let its = sent w h moment scenario n c d x posted in
-    absurd (none c d i its.command at its.sent found (its.object ∙ object))

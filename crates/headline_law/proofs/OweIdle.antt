@@ -39,9 +39,6 @@ module _ (cs : List Component) where
   abbrev E : Going → Type 0
   E g = IsIdle g.file.kept.phase g.file.job → KeepPlaces cs g.file.kept.components
 
-  still_end : (g : Going) → g.file.kept.phase ≡ Still → E g
-  still_end g still idle = absurd (not_still g.file.kept.phase g.file.job still idle)
-
   at_place : (place : Place) (g : Going) (o : Option Job) → Q place g → IsIdle g.file.kept.phase o →
       KeepPlaces cs g.file.kept.components
   at_place AtStart g o q idle = q

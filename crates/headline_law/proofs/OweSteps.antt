@@ -54,9 +54,6 @@ module _ (laws : OwnedLaws) (w : World) (h : List Line) (moment : IsMoment w h) 
     (objects : (at : Component) → object_of v at ≡ object_of w at)
     (passed : (at : Component) (n : ℕ) → HasPassed (lane_or_none (object_of v at) SERVER_HOLDER) n → n < w.server.next_nonce)
   where
-    abbrev e : ℕ → ℕ
-    e = related.jobs.owe.bytes
-
     -- what is asked beside
     abbrev W : Type 0
     W = WrittenOf s related.jobs.owe.bytes f.job

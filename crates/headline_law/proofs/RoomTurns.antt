@@ -20,7 +20,8 @@ use Rattle.client_rules.specs.Replies.{answers, replied, timed_out}
 use Rattle.client_rules.specs.Results.{status_of}
 use Rattle.client_rules.specs.Steps.{calls, is_bad_range, is_spent, writes_nothing, all_due}
 use Rattle.client_rules.proofs.Numbering.{nonces_rise}
-use Rattle.client_rules.proofs.ReadSteps.{held_file, put_at, Refuses, refused_with_refuses}
+use Rattle.client_rules.proofs.HeldGrants.{held_file, put_at}
+use Rattle.client_rules.proofs.ReadSteps.{Refuses, refused_with_refuses}
 use Rattle.server_rules.specs.Laws.{In}
 use Rattle.server_rules.proofs.Members.{in_filtered}
 use Rattle.world_history.specs.ClientNames.{Awaited, Busy, BadRange, SlotSpent, Call, CallOp, Client, Done, Due, Held, Moved, Need, First, Get, Commit, Report, Close, Outcome, Phase, Starts, Needs, Waits, Reads, Probes, Gathers, Scatters, Status, TimedOut, Turn, Goes, Ends, Forgets, Why, WriteOk}

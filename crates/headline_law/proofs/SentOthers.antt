@@ -38,9 +38,6 @@ use Rattle.headline_law.proofs.SentUntouched.{are_unaimed, is_backed}
 
 module _ (laws : MovedLaws) (w : World) (h : List Line) (m : Move) (f g : File) (s : State) (k : FollowsWhole w h m f g s)
     (none : going_in w m.action ≡ None) where
-  abbrev v : World
-  v = (move w m).world
-
   abbrev es : List Event
   es = joined (events_of s w (owed k.follows.related) f m)
 

@@ -71,9 +71,6 @@ module _ (laws : MovedLaws) where
 
   module _ (w : World) (h : List Line) (k : IsMoment w h) (m : Move) (is_due : due (plan_at k) w ≡ Some m.action)
       (t : IsOfScenario (h ++ lines_in w m)) (before : AreUnaimed w) where
-    abbrev v : World
-    v = (move w m).world
-
     next : IsMoment (move w m).world (h ++ lines_in w m)
     next = next_moment w h k m is_due
 

@@ -43,7 +43,7 @@ use Rattle.file_simulation.specs.Showing.{Pairs, ShowsComponent}
 use Rattle.relation_law.specs.ComponentsBehind.{WasRebuilt}
 use Rattle.relation_law.specs.ComponentsWalk.{noted_after}
 use Rattle.relation_law.specs.Growing.{DrivesGrow}
-use Rattle.relation_law.specs.Steps.{Follows, behind, owed}
+use Rattle.relation_law.specs.Steps.{behind, owed}
 use Rattle.relation_law.proofs.ComponentsFair.{is_fair}
 use Rattle.relation_law.proofs.ComponentsFiles.{aimed}
 use Rattle.relation_law.proofs.ComponentsGoOn.{alike}
@@ -118,9 +118,6 @@ taken_so before count q one ls whole at (inr p) =
 module _ (laws : ServerCutLaws) (w : World) (h : List Line) (m : Move) (count : ℕ) (f g : File) (s : State) (pairs : Pairs)
     (k : CutShown w h m count f g s pairs) (i : Input) (is : input_in w m.action ≡ Some i) (q : ℕ)
     (at_cut : count ≡ lines_before m.action + q) where
-  abbrev fo : Follows w h m count f g s
-  fo = k.shown.follows
-
   abbrev did : Step
   did = step w.server m.chosen i
 

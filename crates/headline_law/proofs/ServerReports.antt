@@ -19,8 +19,9 @@ use Rattle.client_rules.specs.Requests.{get_args, return_args, report_of, args_o
 use Rattle.client_rules.specs.Results.{status_of}
 use Rattle.client_rules.specs.Steps.{all_due}
 use Rattle.client_rules.specs.Turns.{turned}
-use Rattle.client_rules.proofs.ReadSteps.{held_file, put_at, Refuses, refused_with_refuses}
-use Rattle.world_history.specs.ClientNames.{Client, Call, CallOp, Held, Due, Awaited, TimedOut, Request, Reply, Need, First, Get, Commit, Report, Close, Phase, Starts, Needs, Waits, Reads, Probes, Gathers, Scatters, Turn, Goes, Ends, Forgets, Moved, Done, Why, Status}
+use Rattle.client_rules.proofs.HeldGrants.{held_file, put_at}
+use Rattle.client_rules.proofs.ReadSteps.{Refuses, refused_with_refuses}
+use Rattle.world_history.specs.ClientNames.{Client, Call, CallOp, Held, Due, Awaited, TimedOut, Request, Need, First, Get, Commit, Report, Close, Phase, Starts, Needs, Waits, Reads, Probes, Gathers, Scatters, Turn, Goes, Ends, Forgets, Moved, Done, Why, Status}
 use Rattle.history_law.specs.Turns.{with_start, TurnCases}
 use Rattle.history_law.proofs.Turns.{each_turn, each_progress}
 use Rattle.cause_law.specs.Met.{last_busy, first_refusal, first_beyond, timed_in}
@@ -339,9 +340,6 @@ module _ (x : Client) where
     phase_fine call h is held =
         subst (λ (o : Option Held). PhaseFine K o x.outstanding call.op call.phase) held
         (subst (CallFine K x.held x.outstanding) is fine).1
-
-    abbrev heard : (call : Call) (h : Held) (a : Awaited) → Reply → Moved
-    heard call h a q = replied h call.op call.phase a q
 
     cases : (i : Input) → TurnCases x i (λ t. Reporting t.client)
     cases i = record {

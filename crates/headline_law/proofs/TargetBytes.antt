@@ -61,9 +61,6 @@ pub record EndsIdle (b t : State) : Type 0 where
   pub fencing : t.fencing ≡ false
   pub unused : t.granted_since ≡ false
 
-abbrev IsOn : State → Type 0
-IsOn b = Safe b × Late_ack b × IsIdle b
-
 same_here : (b : State) → IsSameMachine b b
 same_here b = record { bytes = λ q. refl; layout = refl; gone = λ k x. x }
 

@@ -34,11 +34,6 @@ none_more ns m kind other none x k d i e = elim (in_either x ns (record { file =
   | inr (inr z) ↦ z
 ]
 
-none_if : (b : Bool) (g : Going) (kind : NoteKind) → IsOther kind → NoneMade g.effects.notes →
-    NoneMade (noting_if b g kind).effects.notes
-none_if true g kind other none = none_more g.effects.notes g.file.kept.number kind other none
-none_if false g kind other none = none
-
 -- what was set is there
 set_got : (cs : List Component) (n : ℕ) (y at : Component) → slice_get (slice_set cs n y) n ≡ Some at → at ≡ y
 set_got [] n y at e = absurd (cc e)

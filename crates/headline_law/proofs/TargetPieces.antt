@@ -118,19 +118,6 @@ cell_in m p k z c low has =
           ∙ ap (λ (s : ℕ). offset_of m s (z % m.unit)) stripe ∙ ap (offset_of m p.stripe) same,
     )
 
--- and one that lies there has such a column
-pub cell_has : (m : RawMap) (p : Piece) (k j : ℕ) → IsChecked m → group_with m k ≡ group_of m p.stripe →
-    IsWithin m.unit p → j < p.count → HasColumn m p (column_of_cell m k (offset_of m p.stripe (p.column + j)))
-cell_has m p k j c group within low =
-    let z : ℕ = offset_of m p.stripe (p.column + j) in
-    let r = place m p.stripe (p.column + j) (k / replicas m) c (omega (arith, within, low)) group in
-    let at : offset_of_column m (column_of_cell m k z) ≡ p.column + j = cell_offset m k z c ∙ r.2 in
-    record {
-      stripe = cell_stripe m k z c ∙ r.0;
-      first = omega (arith, at);
-      past = omega (arith, at, low);
-    }
-
 -- the stripe of such a cell
 pub cell_there : (m : RawMap) (p : Piece) (k j : ℕ) → IsChecked m → group_with m k ≡ group_of m p.stripe →
     IsWithin m.unit p → j < p.count → stripe_at m (position_in m k) (offset_of m p.stripe (p.column + j)) ≡ p.stripe

@@ -16,12 +16,10 @@ use Rattle.world_history.specs.Handed.{Post}
 use Rattle.world_history.specs.Moves.{Act, acts}
 use Rattle.world_history.specs.Sending.{Move, move, sent_line, sent_lines, sends_all}
 use Rattle.world_history.specs.Reading.{sent_in}
-use Rattle.world_history.specs.History.{Lawful}
 use Rattle.world_history.proofs.Always.{opening, IsKept}
 use Rattle.history_law.proofs.DriveEvents.{IsRead, kept}
 use Rattle.history_law.proofs.DriveLines.{sent_read}
-use Rattle.history_law.proofs.Each.{EachBehind, each_more, each_front}
-use Rattle.history_law.proofs.Histories.{lawful}
+use Rattle.history_law.proofs.Each.{EachBehind, each_more}
 use Rattle.history_law.specs.Granted.{SpellsOwn}
 use Rattle.history_law.proofs.KnownGoing.{ClientKnown}
 use Rattle.history_law.proofs.KnownSteps.{wider_client}
@@ -160,6 +158,3 @@ all_known = record {
             (act_says (sent_in h) h (acts w m.chosen m.action) (grows_not (sent_in h)) a);
       };
 }
-
-pub lines_carry : (h : List Line) → Lawful h → EachBehind CarriesAt [] h
-lines_carry h l = let more = lawful IsKnown all_known h l in each_front CarriesAt [] h more.1 more.2.lines

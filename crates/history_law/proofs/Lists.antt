@@ -1,23 +1,8 @@
--- Members of lists, and commands that are numbered.
-use Rattle.std.proofs.Common.{◌≡◌, ◌⊎◌, ℕ, ◌+◌, ◌≤◌, ◌<◌, Bool, true, false, List, [], ◌∷◌, ◌++◌, length, refl, sym, subst, ◌∙◌, arith, inl, inr, if◌then◌else◌}
+-- Commands that are numbered.
+use Rattle.std.proofs.Common.{◌≡◌, ℕ, ◌+◌, ◌≤◌, ◌<◌, List, [], ◌∷◌, ◌++◌, length, sym, subst, ◌∙◌, arith, inl, inr}
 use Rattle.history_law.specs.Names.{Awaited}
 use Rattle.server_rules.specs.Laws.{In}
 use Rattle.history_law.specs.Numbered.{Numbered}
-
--- ---- members
-
-in_kept : {A : Type 0} (b : Bool) (x y : A) (ys : List A) → In x (if b then y ∷ ys else ys) → ((x ≡ y)
-    × (b ≡ true)) ⊎ In x ys
-in_kept true x y ys (inl e) = inl (e, refl)
-in_kept true x y ys (inr i) = inr i
-in_kept false x y ys i = inr i
-
-kept_in : {A : Type 0} (b : Bool) (x y : A) (ys : List A) → (x ≡ y) × (b ≡ true) ⊎ In x ys
-    → In x (if b then y ∷ ys else ys)
-kept_in true x y ys (inl e) = inl e.0
-kept_in true x y ys (inr i) = inr i
-kept_in false x y ys (inl e) = absurd (cc e.1)
-kept_in false x y ys (inr i) = i
 
 -- ---- commands that are numbered
 

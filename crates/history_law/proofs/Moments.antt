@@ -5,17 +5,15 @@ use Rattle.scenario_text.specs.declared.event.Event.{Event}
 use Rattle.scenario_text.specs.declared.line.Line.{Line}
 use Rattle.scenario_text.specs.declared.line.Line.TheVariants as line
 use Rattle.world_history.specs.State.{World, empty_world}
-use Rattle.world_history.specs.Moves.{Act, Action, Opens, Delivers, TimesOut, Pends}
-use Rattle.world_history.specs.Sending.{Move, move, sends_all}
+use Rattle.world_history.specs.Moves.{Action, Opens, Delivers, TimesOut, Pends}
+use Rattle.world_history.specs.Sending.{Move, move}
 use Rattle.world_history.specs.Plans.{Plan, Rule, due, due_by, went_on, rule_after, rule_of, plan_of}
 use Rattle.world_history.specs.Runs.{world_after, lines_of, AreDue, plan_after, IsOver, Carries}
 use Rattle.world_history.specs.History.{Step, AreCarried, end_of, lines_of_steps, StandsFor, OneEventMore}
 use Rattle.world_history.specs.Refusals.{refusal}
 use Rattle.world_history.proofs.Runs.{due_more, plan_more, world_more, lines_more}
 use Rattle.world_history.proofs.ReadMessages.{never_opens}
-use Rattle.history_law.specs.Moves.{MoveCases}
 use Rattle.history_law.specs.Moments.{IsMoment, with_event, lines_so_far, lines_in, plan_at}
-use Rattle.history_law.proofs.Moves.{each_act}
 
 -- ---- behind the first action of an event begins no other
 
@@ -133,20 +131,3 @@ module _ (P : World → List Line → Type 0) (kept : IsKept P) (more : OneEvent
       (subst (P (world_after k.before k.moves)) (sym k.lines_are)
       (kept_event k.before k.history k.stands k.event k.allowed k.moves k.are_due
       (stands_kept k.before k.history k.stands)))
-
--- a law gives this, and walks nothing
-pub record IsKeptInCases (P : World → List Line → Type 0) : Type 0 where
-  pub starts : P empty_world []
-  pub cases : (w : World) (h : List Line) (k : IsMoment w h) (m : Move) → due (plan_at k) w ≡ Some m.action → P w h
-      → MoveCases w m.chosen m.action
-      (λ (a : Act). P (sends_all a).world (h ++ with_event m.action (sends_all a).lines))
-
-pub always_by : (P : World → List Line → Type 0) → IsKeptInCases P → OneEventMore → (w : World) (h : List Line)
-    → IsMoment w h → P w h
-always_by P k more w h at =
-    always P (record {
-      starts = k.starts;
-      moves = λ v g j m d x.
-          each_act v m.chosen (λ (a : Act). P (sends_all a).world (g ++ with_event m.action (sends_all a).lines))
-          m.action (k.cases v g j m d x);
-    }) more w h at

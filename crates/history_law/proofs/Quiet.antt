@@ -175,10 +175,6 @@ pub quiet_audited : (K : Kept → Type 0) (g : Going) (ps : List Piece) (t : Tal
 quiet_audited K g [] t heard k = quiet_audits K g [] t k
 quiet_audited K g (p ∷ ps) t heard k = quiet_audits K g ps _ k
 
-pub quiet_checks : (K : Kept → Type 0) (g : Going) (ps : List Piece) (t : Tally) → K g.file.kept
-    → From K g (audits g ps t)
-quiet_checks K g ps t k = quiet_audits K g ps t k
-
 -- ---- rebuild
 
 quiet_makes_or : (K : Kept → Type 0) (g : Going) (t : Option Target) (later : Going) → K g.file.kept → From K g later

@@ -38,10 +38,6 @@ probe format object tag = record {
   check = [];
 }
 
-either_true : (a b : Bool) → (a || b) ≡ true → ((a ≡ true → ⊥) → b ≡ true)
-either_true true b e never = absurd (never refl)
-either_true false b e never = e
-
 -- each command of an earlier tag is spent where the tag was reached
 spent_by : (o : Option StoredObject) (c : Command) (tag : ℕ) → has_tag tag o ≡ true → c.capability.tag < tag
     → IsSpentOn o c

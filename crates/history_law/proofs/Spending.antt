@@ -304,10 +304,6 @@ not_spent a c hears f (inr (inr spent)) =
 
 -- ---- what was performed
 
-there_by : (o : Option StoredObject) → is_none (option_map state_of o) ≡ false → (x : StoredObject) × (o ≡ Some x)
-there_by None e = absurd (cc e)
-there_by (Some x) e = (x, refl)
-
 changed_spent : (s : StoreState) (c : Command) (f : StoredObject → StoredObject) (o : Option StoredObject)
     → object_at s c.object ≡ o → is_none (option_map state_of o) ≡ false
     → ((x : StoredObject) → IsSpentOn (Some (f x)) c) → IsSpentOn (object_at (changed_if_there s c.object f o) c.object) c

@@ -110,9 +110,6 @@ ends_rests_or : (cs : List Awaited) (g : Going) (kind : JobKind) (work : Work) (
 ends_rests_or [] g kind work later h for a l = l
 ends_rests_or (c ∷ cs) g kind work later h for a l = (owns_sending g (c ∷ cs) for h, (for, a))
 
-ends_over : (g : Going) → Owns g → Ends (record g { file = record g.file { job = None } })
-ends_over g h = (h, (none_for, tt))
-
 -- ---- audit
 
 ends_audits : (g : Going) (ps : List Piece) (t : Tally) → Owns g → Ends (audits g ps t)

@@ -121,10 +121,6 @@ IsStep t = IsNamedServer t.state × SendsToNamed t
 quietly : (s : Server) → IsNamedServer s → IsStep (still s)
 quietly s h = (h, record { receivers = none_to; notes = λ n i. absurd i })
 
-sends_round : (s : Server) (m : Effects) → AreEffects m
-    → ToNamed (to_drives s.drives m.sent) × ((n : Note) → In n m.notes → known_note_line n ≡ Some (note_line n))
-sends_round s m e = (drives_to s.drives m.sent e.0, told m.notes e.1)
-
 put_named : (fs : List File) (n : ℕ) (g : File) → ((f : File) → In f fs → IsNamedFile f) → IsNamedFile g
     → (f : File) → In f (put_file fs n g) → IsNamedFile f
 put_named fs n g all own f i = elim (in_put fs n g f i) [

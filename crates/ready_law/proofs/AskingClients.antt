@@ -26,7 +26,7 @@ use Rattle.client_rules.specs.Going.{quiet, after_number, is_held, due_behind, b
 use Rattle.client_rules.specs.Grants.{held_of, without_held}
 use Rattle.client_rules.specs.History.{Hears, step}
 use Rattle.client_rules.specs.Messages.{Message as ClientMessage, Replies, Answers, Recalls, Step as ClientStep, TakesAnswer, answer_taken, by_taken, closed, is_awaited, recall_answer, due_with, finished, takes, hears}
-use Rattle.client_rules.proofs.ReadSteps.{held_file}
+use Rattle.client_rules.proofs.HeldGrants.{held_file}
 use Rattle.client_rules.specs.Requests.{grant_in, return_args}
 use Rattle.world_history.specs.ClientNames.{Client, Call, Held, Due, Request, Answer, Recall, AnswersRecall, Asks}
 use Rattle.world_history.specs.ServerNames.{Grant, Slot}

@@ -83,9 +83,6 @@ module _ (laws : AskingLaws) (s : ReadyCall) where
       (laws.order s.world reached_there s.ready.file
       (file_in s.world.server.files (file_at_call s) s.ready.file s.ready.found)).rise
 
-  pub apart_there : Apart (kept_at s).grants
-  apart_there = safe_there.apart
-
   -- those that conflict are of different clients
   pub own_opposed : HaveOwnClients (opposed_at s)
   own_opposed = either (is_covered (own_at s) (op_at s))

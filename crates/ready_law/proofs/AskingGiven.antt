@@ -15,7 +15,7 @@ use Rattle.client_rules.specs.Grants.{covers}
 use Rattle.client_rules.specs.History.{Hears, step}
 use Rattle.client_rules.specs.Layouts.{taken}
 use Rattle.client_rules.specs.Messages.{Message as ClientMessage, Answers, Step as ClientStep}
-use Rattle.client_rules.proofs.ReadSteps.{put_at}
+use Rattle.client_rules.proofs.HeldGrants.{put_at}
 use Rattle.world_history.specs.ClientNames.{Client, Call, CallOp, Held, Request, Answer, Get}
 use Rattle.world_history.specs.ServerNames.{Server, File, Grant, Component}
 use Rattle.world_history.specs.declared.messages.Message.{Message}

@@ -15,7 +15,7 @@ use Rattle.client_rules.specs.History.{Calls, unless_refused, step}
 use Rattle.client_rules.specs.Messages.{Step as ClientStep}
 use Rattle.client_rules.specs.Requests.{get_args, return_args}
 use Rattle.client_rules.specs.Steps.{is_bad_range, is_spent, writes_nothing, starts, calls}
-use Rattle.client_rules.proofs.ReadSteps.{held_file}
+use Rattle.client_rules.proofs.HeldGrants.{held_file}
 use Rattle.world_history.specs.declared.limits.TheConstants.{MAX_KEPT}
 use Rattle.world_history.specs.ClientNames.{Client, CallOp, CallErr, Write, Read, Held, Listed, First, Get, WriteOk}
 use Rattle.world_history.specs.ServerNames.{Server, Grant}

@@ -1,30 +1,24 @@
 -- When a call under a grant can leave out what is lost, by the server's file; and that it can so while it sends more.
 use Rattle.std.proofs.Common.{◌≡◌, ◌≤◌, ◌<◌, ℕ, zero, suc, ◌+◌, Bool, true, false, List, [], ◌∷◌, Some, length, is_some, slice_get, refl, sym, ap, subst, ◌∙◌, inl, inr, arith, if◌then◌else◌}
 use Rattle.std.proofs.lemmas.Bool.{cases_Bool}
-use Rattle.std.specs.List.{AllByRecursion}
 use Rattle.data_map.specs.declared.check.RawMap.{RawMap}
 use Rattle.data_map.specs.Check.{IsChecked}
 use Rattle.data_map.specs.Striping.{parities, group_of}
 use Rattle.server_rules.specs.Laws.{In}
 use Rattle.server_rules.specs.Maps.{group_with}
-use Rattle.server_rules.proofs.Members.{in_behind, in_map}
 use Rattle.stripe_plan.specs.declared.plan.Aim.TheVariants as aim
 use Rattle.stripe_plan.specs.Asks.{asks}
 use Rattle.stripe_plan.specs.Lost.{positions_out}
 use Rattle.stripe_plan.specs.Touched.{stripes}
 use Rattle.client_rules.specs.Calls.{span_of, is_write}
-use Rattle.client_rules.specs.Commands.{credential_in, counted, nonce_at}
+use Rattle.client_rules.specs.Commands.{credential_in, counted}
 use Rattle.client_rules.specs.Grants.{clipped, missing_of}
-use Rattle.client_rules.specs.Io.{awaited_in}
-use Rattle.client_rules.specs.Laws.{nonce_of}
 use Rattle.client_rules.specs.Reads.{first_present}
-use Rattle.world_history.specs.ClientNames.{CallOp, Held, Listed, Awaited, TimedOut, Phase}
+use Rattle.world_history.specs.ClientNames.{CallOp, Held, Listed, Awaited}
 use Rattle.world_history.specs.ServerNames.{Kept}
 use Rattle.ready_law.specs.Enough.{AreAmong, IsEnough}
 use Rattle.ready_law.specs.Ready.{greatest_end, touched, IsTouched, write_end}
-use Rattle.ready_law.specs.Reacting.{reached_under, touched_under, CanProbe, IsGood, IsReached, write_end_under, IsAwaitedWell, components_of, IsLostThere, AreTimedWell, timed_in, is_writing, WorksWell, GoesOn}
-use Rattle.ready_law.proofs.ReactingAsks.{all_there, one_of}
-use Rattle.ready_law.proofs.ReactingSends.{nonce_low}
+use Rattle.ready_law.specs.Reacting.{reached_under, touched_under, CanProbe, IsGood, IsReached, write_end_under}
 
 -- ---- a component to ask
 
@@ -136,30 +130,3 @@ good_still h op lost sent g = record {
   probed = λ reads none. let can = g.probed reads none in
       record { number = can.number; first = can.first; few = can.few };
 }
-
--- what is sent is awaited so
-pub sent_well : (h k : Held) (op : CallOp) (lost : List ℕ) (rest : List Awaited) (p : Phase) (sent : List Awaited)
-    → GoesOn h op lost rest k p sent → AllByRecursion (IsAwaitedWell k op (timed_in p) (is_writing p)) sent
-sent_well h k op lost rest p sent g =
-    all_there _ sent
-    (λ y i. one_of _ (awaited_in p) g.works.awaited y
-    (subst (λ (xs : List Awaited). In y xs) (sym g.awaited) (in_behind y rest sent i)))
-
--- ---- what is known of each
-
--- of each component that timed out
-pub timed_there : (h : Held) (op : CallOp) (lost : List ℕ) (timed : List TimedOut) → AreTimedWell h op lost timed
-    → (t : TimedOut) → In t timed → IsLostThere h op lost t.ask.component
-timed_there h op lost timed well t i =
-    one_of _ (components_of timed) well.each t.ask.component (in_map (λ (u : TimedOut). u.ask.component) t timed i)
-
--- of each command that is awaited: its nonce was given by the grant
-pub awaited_low : (h : Held) (op : CallOp) (lost : List ℕ) (p : Phase) → WorksWell h op lost p → (y : Awaited)
-    → In y (awaited_in p) → nonce_of y ≤ nonce_at h h.count
-awaited_low h op lost p w y i =
-    nonce_low h op (timed_in p) (is_writing p) y (one_of _ (awaited_in p) w.awaited y i)
-
--- and that of each that is sent wasn't yet
-pub sent_above : (h k : Held) (op : CallOp) (lost : List ℕ) (rest : List Awaited) (p : Phase) (sent : List Awaited)
-    → GoesOn h op lost rest k p sent → (y : Awaited) → In y sent → nonce_at h h.count < nonce_of y
-sent_above h k op lost rest p sent g y i = one_of _ sent g.above y i

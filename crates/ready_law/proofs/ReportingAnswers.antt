@@ -15,7 +15,7 @@ use Rattle.client_rules.specs.History.{Hears, step}
 use Rattle.client_rules.specs.Messages.{Step as ClientStep, Answers}
 use Rattle.client_rules.specs.Requests.{return_args, report_of, object_of, error_at}
 use Rattle.client_rules.specs.Results.{status_of}
-use Rattle.client_rules.proofs.ReadSteps.{held_file}
+use Rattle.client_rules.proofs.HeldGrants.{held_file}
 use Rattle.world_history.specs.ClientNames.{Client, Call, CallOp, Write, Read, Held, TimedOut, Need, Commit, Report, Waits, WriteOk, Request, Answer}
 use Rattle.world_history.specs.ServerNames.{Server, Drive}
 use Rattle.world_history.specs.declared.messages.Message.{Message}

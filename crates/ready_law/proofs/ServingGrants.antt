@@ -101,14 +101,3 @@ others_left gs g x xs apart rise are =
     against_without gs g x.client
     ∙ ap (λ (ys : List Grant). without ys x.client) are
     ∙ rw (eq-eqb x.client x.client refl) (without_none xs x.client other)
-
--- where all grants are a client's, there is one
-pub one_alone : (gs : List Grant) (c : ℕ) (g : Grant) → Apart gs → Rise gs → ((x : Grant) → In x gs → x.client ≡ c) → In g gs
-    → gs ≡ g ∷ []
-one_alone [] c g apart rise its i = absurd i
-one_alone (x ∷ []) c g apart rise its (inl e) = ap (λ (y : Grant). y ∷ []) (sym e)
-one_alone (x ∷ []) c g apart rise its (inr i) = absurd i
-one_alone (x ∷ y ∷ gs) c g apart rise its i =
-    let same : x ≡ y =
-    (apart x y (inl refl) (inr (inl refl))).1 (its x (inl refl) ∙ sym (its y (inr (inl refl)))) in
-    absurd (omega (arith, rise.0 y (inl refl), ap (λ (z : Grant). z.number) same))

@@ -1,12 +1,10 @@
 -- A request that is new to the server is carried out at its file, and answered.
-use Rattle.std.proofs.Common.{◌≡◌, ◌≢◌, ◌<◌, ◌≤◌, ◌==◌, ◌&&◌, ◌+◌, ◌-◌, ℕ, Bool, true, false, nat_le, nat_lt, List, [], ◌∷◌, ◌++◌, map, filter, Option, Some, None, refl, sym, ap, subst, inl, inr, ◌∙◌, eq-eqb, ne_eqb, arith, if◌then◌else◌}
-use Rattle.std.specs.List.{list_any, filter_map, sum_by}
-use Rattle.std.proofs.lemmas.Bool.{cases_Bool}
+use Rattle.std.proofs.Common.{◌≡◌, ◌≢◌, ◌<◌, ◌≤◌, ◌==◌, ◌&&◌, ◌+◌, ◌-◌, ℕ, Bool, true, false, nat_le, nat_lt, List, [], ◌∷◌, ◌++◌, map, filter, Option, Some, None, refl, sym, ap, subst, ◌∙◌, eq-eqb, ne_eqb, arith, if◌then◌else◌}
 use Rattle.std.proofs.lemmas.Bool.Decides.{nat_tests}
 use Rattle.osd_lists.specs.declared.node.Node.TheVariants as node
 use Rattle.layout_ops.specs.declared.envelope.Envelope.TheVariants as envelope
 use Rattle.layout_ops.proofs.Whole.{all_again}
-use Rattle.scenario_text.specs.declared.names.TheConstants.{CLIENTS, FILES}
+use Rattle.scenario_text.specs.declared.names.TheConstants.{CLIENTS}
 use Rattle.scenario_text.specs.declared.line.Delivery.TheVariants as delivery
 use Rattle.scenario_text.specs.declared.line.Line.{Line}
 use Rattle.server_rules.specs.declared.limits.TheConstants.{MAX_CLIENT, GREATEST_SEQUENCE}
@@ -20,23 +18,21 @@ use Rattle.server_rules.specs.Served.{Served}
 use Rattle.server_rules.specs.Slots.{New, slot_of, admit, admit_after}
 use Rattle.server_rules.proofs.FileLaws.{number_at, put_same, put_other, keep_same, keep_other}
 use Rattle.world_history.specs.ClientNames.{Client, Request}
-use Rattle.world_history.specs.ServerNames.{Slot, File, Note, Grant, Awaited, Answer, Answers, ClientRequest, RequestArgs}
+use Rattle.world_history.specs.ServerNames.{Slot, File, Grant, Awaited, Answer, Answers, ClientRequest, RequestArgs}
 use Rattle.world_history.specs.declared.messages.Message.{Message}
 use Rattle.world_history.specs.State.{World, at_number}
-use Rattle.world_history.specs.Names.{is_tellable_note, known_note_line}
 use Rattle.world_history.specs.Handed.{quiet, is_addressed, server_post, server_did, for_server, server_takes, handed_to}
-use Rattle.world_history.specs.Moves.{Act, Delivers, marked, told_delivered, acts}
+use Rattle.world_history.specs.Moves.{Delivers, marked, told_delivered, acts}
 use Rattle.history_law.specs.BookMoments.{IsMoment}
 use Rattle.history_law.specs.Said.{posted}
-use Rattle.exchange_law.specs.InStep.{IsAwaiting, StandsAt, IsInStep, state_of}
+use Rattle.exchange_law.specs.InStep.{IsAwaiting, IsInStep, state_of}
 use Rattle.exchange_law.specs.Messages.{last_before}
 use Rattle.exchange_law.proofs.HeldWorlds.{readable_there}
 use Rattle.cause_law.proofs.Frames.{delivered_act}
 use Rattle.cause_law.proofs.Taking.{awaiting}
-use Rattle.cause_law.proofs.Sends.{request_message, answer_message, outstanding_of}
-use Rattle.ready_law.specs.Answered.{ends_call, messages_at}
+use Rattle.cause_law.proofs.Sends.{request_message, answer_message}
 use Rattle.ready_law.specs.Fair.{IsFair}
-use Rattle.ready_law.proofs.ServingForms.{RequestLaws, Comes, Carried, recall_message, recall_messages, Serves}
+use Rattle.ready_law.proofs.ServingForms.{RequestLaws, Comes, recall_message, recall_messages, Serves}
 
 -- each of these is of a client that a line can name
 abbrev pub AreOfNamed : List Grant → Type 0
@@ -167,50 +163,9 @@ module _ (laws : RequestLaws) (w : World) (h : List Line) (fair : IsFair w h) (c
           down = refl;
         })
 
--- ---- what is told of it
-
--- notes tell of no call's end, and of no message
-note_lines : (ns : List Note)
-    → ((d : ℕ) → list_any (ends_call d) (filter_map known_note_line ns) ≡ false)
-    × (sum_by messages_at (filter_map known_note_line ns) ≡ 0)
-note_lines [] = (λ d. refl, refl)
-note_lines (n ∷ ns) =
-    let rest = note_lines ns in
-    elim (cases_Bool (nat_lt n.file FILES && is_tellable_note n.kind)) [
-      | inl t ↦ rw t (rest.0, omega (arith, rest.1))
-      | inr z ↦ rw z rest
-    ]
-
--- nor does what is told of a request
-pub told_little : (w : World) (c : ℕ) (q : Request) (number : ℕ) (x : Carried) (a : Act) → Serves w c q number x a
-    → ((d : ℕ) → list_any (ends_call d) a.told ≡ false) × (sum_by messages_at a.told ≡ 0)
-told_little w c q number x a s =
-    let rest = note_lines s.notes in
-    rw s.told (rest.0, omega (arith, rest.1))
-
 -- ---- the number of the next request
 
 module _ (laws : RequestLaws) (w : World) (h : List Line) (moment : IsMoment w h) (c : ℕ)
     (more : (state_of c (at_number w.clients c)).next ≢ 0) where
   abbrev its : Client
   its = state_of c (at_number w.clients c)
-
-  behind_last : last_before its.next + 1 ≡ its.next
-  behind_last = rw (ne_eqb its.next 0 more) (omega (arith, some))
-    where
-      some : 1 ≤ its.next
-      some = omega (arith, more)
-
-  -- where the client awaits no answer, the server has served all but its next request
-  pub next_if_idle : outstanding_of w c ≡ None → last_of (slot_of w.server.slots c) + 1 ≡ its.next
-  next_if_idle idle =
-      let stands : last_of (slot_of w.server.slots c) ≡ last_before its.next =
-      subst (StandsAt h c (slot_of w.server.slots c) (last_before its.next)) idle (laws.in_step w h moment c).stands in
-      ap (λ (n : ℕ). n + 1) stands ∙ behind_last
-
-  -- so it is where the request whose answer it awaits is served
-  pub next_if_served : (q : Request) → outstanding_of w c ≡ Some q → last_of (slot_of w.server.slots c) ≡ q.sequence
-      → last_of (slot_of w.server.slots c) + 1 ≡ its.next
-  next_if_served q out served =
-      let awaited = awaiting laws.safe laws.more w h c (laws.in_step w h moment c) q out in
-      ap (λ (n : ℕ). n + 1) (served ∙ awaited.sequence) ∙ behind_last

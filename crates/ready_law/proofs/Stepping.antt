@@ -4,11 +4,10 @@ use Rattle.std.proofs.lemmas.Bool.{cases_Bool, eq-eqb, ne_eqb}
 use Rattle.osd_lists.specs.declared.node.Node.TheVariants.{Server as FromServer, Drive as FromDrive}
 use Rattle.layout_ops.specs.declared.statuses.TheConstants.{NFS4_OK, NFS4ERR_LAYOUTTRYLATER}
 use Rattle.server_rules.specs.Laws.{In}
-use Rattle.server_rules.proofs.Members.{in_filter}
 use Rattle.client_rules.specs.declared.limits.TheConstants.{MAX_TRIES}
 use Rattle.client_rules.specs.Answers.{busy, refused_with, not_granted, committed, on_commit, is_loss_taken, on_report}
 use Rattle.client_rules.specs.Calls.{file_of, span_of}
-use Rattle.client_rules.specs.Commands.{is_of, of_component}
+use Rattle.client_rules.specs.Commands.{of_component}
 use Rattle.client_rules.specs.Going.{quiet, phased, over, with_held, moved, by_turn, begins, starts_with, starts_under, begun, requests, asks_under, is_held, returns, returns_due, progress_free, progressed}
 use Rattle.client_rules.specs.Grants.{covers, held_of}
 use Rattle.client_rules.specs.History.{Calls, Hears, TimesOut, unless_refused, step}
@@ -22,11 +21,11 @@ use Rattle.client_rules.specs.Results.{status_of}
 use Rattle.client_rules.specs.Steps.{is_bad_range, is_spent, writes_nothing, starts, calls, timeout_under, timeout_call, times_out}
 use Rattle.client_rules.specs.Turns.{turned, needing}
 use Rattle.client_rules.specs.Writes.{accounted}
-use Rattle.client_rules.proofs.ReadSteps.{held_file, put_at}
+use Rattle.client_rules.proofs.HeldGrants.{held_file, put_at}
 use Rattle.exchange_law.specs.ClientNonces.{NoneIs, AllDiffer}
 use Rattle.cause_law.proofs.Given.{taken_covers}
 use Rattle.world_history.specs.ClientNames.{Client, Call, CallOp, Busy, BadRange, SlotSpent, Held, Due, Awaited, TimedOut, Need, First, Get, Commit, Report, Phase, Starts, Needs, Waits, Reads, Probes, Gathers, Scatters, Outcome, WriteOk, HeldBy, Turn, Ends, Moved, Done, Request, Answer, Reply}
-use Rattle.ready_law.specs.Reacting.{IsGood, IsPhaseOf, GoesOn, TurnsWell, WorksOn as WorksOnSo, IsDone as IsDoneSo, Commits as CommitsSo, Reports as ReportsSo}
+use Rattle.ready_law.specs.Reacting.{IsGood, IsPhaseOf, TurnsWell, WorksOn as WorksOnSo, IsDone as IsDoneSo, Commits as CommitsSo, Reports as ReportsSo}
 use Rattle.ready_law.specs.Stepping.{holding, in_phase, unasked, asks_step, ends_step, StepsWell, WorksOn, IsDone, Commits, Reports, IsWorkingAt, RepliesStepWell, TimeoutsStepWell, TakesCall, CallsStep, IsAnsweredAt, AnswersStep}
 use Rattle.ready_law.proofs.Reacting.{begins_well, replied_well, timed_out_well}
 
@@ -129,14 +128,6 @@ turn_finished c h op lost rest p m at well =
     (sym (begun_already (quiet c) h op lost rest m well))
     (turn_well c c.call h op lost rest at.free at.none_due (held_file c.held (file_of op) h at.holds) m well)
 
--- behind it the call works on
-pub working_next : (c : Client) (h : Held) (op : CallOp) (lost : List ℕ) (rest : List Awaited) (p : Phase) (k : Held) (q : Phase)
-    (sent : List Awaited) → IsWorkingAt c h op p → GoesOn h op lost rest k q sent
-    → IsWorkingAt (in_phase (holding c k) op q) k op q
-working_next c h op lost rest p k q sent at goes =
-    let file : k.file ≡ file_of op = ap (λ (x : Held). x.file) goes.held ∙ held_file c.held (file_of op) h at.holds in
-    record { pending = refl; holds = put_at c.held k (file_of op) file; free = at.free; none_due = at.none_due }
-
 -- ---- a reply
 
 none_is : (n : ℕ) (xs : List Awaited) (a : Awaited) → NoneIs n (map nonce_of xs) → In a xs → n ≢ nonce_of a
@@ -168,18 +159,6 @@ replies_step c h op lost p good works at a there r done its =
     (turn_finished c h op lost _ p (replied h op p a r) at (replied_well h op lost p good works a there r done))
 
 -- ---- a timeout
-
-first_of : (xs : List Awaited) (a : Awaited) → In a xs → (b : Awaited) × (bs : List Awaited) × (xs ≡ b ∷ bs)
-first_of [] a i = absurd i
-first_of (x ∷ xs) a i = (x, xs, refl)
-
--- where something is awaited of the component
-pub some_awaited : (xs : List Awaited) (a : Awaited) → In a xs
-    → (b : Awaited) × (bs : List Awaited) × (of_component a.ask.component xs ≡ b ∷ bs)
-unfolding of_component
-some_awaited xs a i =
-    first_of (of_component a.ask.component xs) a
-    (in_filter (is_of a.ask.component) a xs i (eq-eqb a.ask.component a.ask.component refl))
 
 pub timeouts_step : TimeoutsStepWell
 unfolding times_out

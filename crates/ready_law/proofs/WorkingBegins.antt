@@ -14,7 +14,7 @@ use Rattle.client_rules.specs.Reads.{reads, probes}
 use Rattle.client_rules.specs.Requests.{commit_args}
 use Rattle.client_rules.specs.Turns.{needing}
 use Rattle.client_rules.specs.Writes.{is_past_size, written, accounted, firsts, laters, scatters_on, scatters, gathers_due, gathers_on, gathers}
-use Rattle.client_rules.proofs.ReadSteps.{put_at}
+use Rattle.client_rules.proofs.HeldGrants.{put_at}
 use Rattle.scenario_text.specs.declared.line.Line.{Line}
 use Rattle.world_history.specs.ClientNames.{CallOp, Held, Awaited, TimedOut, Commit, Report, Moved, Column, Store}
 use Rattle.world_history.specs.State.{World, DriveAt, at_number}

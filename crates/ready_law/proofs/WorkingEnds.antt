@@ -12,7 +12,7 @@ use Rattle.client_rules.specs.Grants.{held_of, put_held}
 use Rattle.client_rules.specs.Messages.{Step}
 use Rattle.client_rules.specs.Requests.{commit_args}
 use Rattle.client_rules.specs.Writes.{is_past_size}
-use Rattle.client_rules.proofs.ReadSteps.{put_at}
+use Rattle.client_rules.proofs.HeldGrants.{put_at}
 use Rattle.scenario_text.specs.declared.line.Line.{Line}
 use Rattle.scenario_text.specs.declared.line.Line.TheVariants as line
 use Rattle.scenario_text.specs.declared.line.Outcome.{Outcome as ToldOutcome}

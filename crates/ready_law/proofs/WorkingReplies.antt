@@ -11,7 +11,7 @@ use Rattle.client_rules.specs.Io.{awaited_in}
 use Rattle.client_rules.specs.Laws.{nonce_of}
 use Rattle.client_rules.specs.Messages.{Step, Replies}
 use Rattle.client_rules.specs.Replies.{replied, timed_out}
-use Rattle.client_rules.proofs.ReadSteps.{held_file}
+use Rattle.client_rules.proofs.HeldGrants.{held_file}
 use Rattle.scenario_text.specs.declared.line.Line.{Line}
 use Rattle.scenario_text.specs.declared.line.Line.TheVariants as line
 use Rattle.world_history.specs.ClientNames.{Call, CallOp, Held, Awaited, Phase, Goes, Moved, Reply}

@@ -11,7 +11,7 @@ use Rattle.client_rules.specs.Grants.{held_of}
 use Rattle.client_rules.specs.Laws.{nonce_of}
 use Rattle.client_rules.specs.Messages.{Step, to_drive}
 use Rattle.client_rules.specs.Io.{awaited_in}
-use Rattle.client_rules.proofs.ReadSteps.{put_at}
+use Rattle.client_rules.proofs.HeldGrants.{put_at}
 use Rattle.scenario_text.specs.declared.line.Line.{Line}
 use Rattle.scenario_text.specs.declared.names.TheConstants.{DRIVES}
 use Rattle.world_history.specs.ClientNames.{Client, CallOp, Held, Awaited, Phase, Starts, Needs, Waits, Reads, Probes, Gathers, Scatters, Outcome, Goes, Moved, Request}

@@ -9,11 +9,11 @@ use Rattle.world_history.specs.ClientNames.{CallOp, TimedOut}
 use Rattle.fence_law.specs.State.{State, Grant}
 use Rattle.fence_law.specs.State.Call.{Idle, Writes as AtWrite, Reads as AtRead}
 use Rattle.fence_law.specs.State.Commit.{NoCommit, CommitDone, CommitRefused}
-use Rattle.fence_law.specs.State.Event.{GivesBack, Reports, Forgets, Acknowledges, Breaks, EndsRead, Tells, Leaves, AsksCommit, TakesCommit, TakesRefusal}
+use Rattle.fence_law.specs.State.Event.{Forgets, Acknowledges, Breaks, EndsRead, Tells, Leaves, AsksCommit, TakesCommit, TakesRefusal}
 use Rattle.fence_law.specs.Machine.{Allowed}
 use Rattle.fence_law.proofs.Commands.{Calls}
 use Rattle.file_simulation.specs.EventLists.{entry_in, entry_of}
-use Rattle.file_simulation.specs.Calls.{IsWriting, AreOut, IsTimedOut, Fits, WaitsCommit, IsReporting, IsIdle, IsBroken, commit_at}
+use Rattle.file_simulation.specs.Calls.{IsWriting, AreOut, IsTimedOut, Fits, WaitsCommit, IsReporting, commit_at}
 
 -- ---- the entry that a call is at
 
@@ -116,14 +116,3 @@ leaves_allowed s c g has idle = record { has = has; idle = idle }
 -- the client is told of a write that is acknowledged
 pub tells_allowed : (s : State) (j : ℕ) → j < s.count → s.acknowledged j ≡ true → Allowed s (Tells j)
 tells_allowed s j low on = record { low = low; on = on }
-
--- ---- a grant goes back
-
--- clean from a client that is at nothing, and with a report from one whose write broke off
-pub gives_back_allowed : (s : State) (c : ℕ) (g : Grant) → s.waiting c ≡ false → s.away c ≡ false → s.held c ≡ Some g →
-    IsIdle s c → Allowed s (GivesBack c g)
-gives_back_allowed s c g free home has idle = record { free = free; home = home; has = has; idle = idle.at_ }
-
-pub reports_allowed : (s : State) (c : ℕ) (g : Grant) → s.waiting c ≡ false → s.away c ≡ false → s.held c ≡ Some g →
-    IsBroken s c → Allowed s (Reports c g)
-reports_allowed s c g free home has broken = record { free = free; home = home; has = has; broken = broken.at_ }

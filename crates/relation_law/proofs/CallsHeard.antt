@@ -17,7 +17,7 @@ use Rattle.layout_ops.specs.declared.statuses.TheConstants.{NFS4_OK}
 use Rattle.client_rules.specs.Io.{awaited_in}
 use Rattle.client_rules.specs.Messages.{answered_get, commit_under, on_get, on_need, on_phase, on_call}
 use Rattle.client_rules.specs.Replies.{performed, refusal, refused, replied, timed_out}
-use Rattle.client_rules.proofs.ReadSteps.{held_file}
+use Rattle.client_rules.proofs.HeldGrants.{held_file}
 use Rattle.exchange_law.proofs.Kept.{IsKept, replied_kept, timed_out_kept}
 use Rattle.world_history.specs.ServerNames.{Slot}
 use Rattle.world_history.specs.ClientNames.{Client, Call, CallOp, Held, Awaited, TimedOut, Why, Need, First, Get, Commit, Report, Phase, Starts, Needs, Waits, Reads, Probes, Gathers, Scatters, Outcome, Close, Silent, Lost, Turn, Goes, Ends, Forgets, Moved, Done}

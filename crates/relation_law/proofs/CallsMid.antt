@@ -8,7 +8,7 @@ use Rattle.client_rules.specs.declared.limits.TheConstants.{NONCES}
 use Rattle.client_rules.specs.Calls.{file_of, is_write}
 use Rattle.client_rules.specs.Going.{begins, begun, by_turn, forgotten, moved, over, phased, starts_at, starts_call, starts_under, starts_with, with_held}
 use Rattle.client_rules.specs.Grants.{covers, held_of, put_held, without_held}
-use Rattle.client_rules.proofs.ReadSteps.{held_file, put_at}
+use Rattle.client_rules.proofs.HeldGrants.{held_file, put_at}
 use Rattle.exchange_law.proofs.ClientKeeping.{put_other, none_left}
 use Rattle.exchange_law.proofs.Kept.{IsKept, begins_kept}
 use Rattle.world_history.specs.ClientNames.{Client, Call, CallOp, Held, Request, Need, First, Get, Commit, Report, Close, Phase, Starts, Needs, Waits, Reads, Probes, Gathers, Scatters, Outcome, Turn, Goes, Ends, Forgets, Moved, Done}

@@ -133,10 +133,6 @@ module _ (m : RawMap) (s : State) (c : ℕ) (op : CallOp) (o : Option Answer) (h
 
   -- ---- gathers
 
-  gather_ahead : (cs : List Awaited) → PendsGather m s c op cs → IsAhead
-  gather_ahead cs (inl k) = inl k
-  gather_ahead cs (inr k) = inr k.0
-
   pub gathers_on_is : (got : List Column) (timed : List TimedOut) (sent awaited : List Awaited) →
       IsAhead → (Awaiting awaited → PendsGather m s c op sent) → WritesSome h op timed →
       MovedIs m s c op o h (gathers_on h op got timed sent awaited)

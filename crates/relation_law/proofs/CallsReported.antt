@@ -13,7 +13,7 @@ use Rattle.client_rules.specs.Messages.{on_need}
 use Rattle.client_rules.specs.Results.{status_of}
 use Rattle.client_rules.specs.Turns.{turned}
 use Rattle.client_rules.specs.Writes.{accounted}
-use Rattle.client_rules.proofs.ReadSteps.{held_file}
+use Rattle.client_rules.proofs.HeldGrants.{held_file}
 use Rattle.exchange_law.proofs.ClientKeeping.{none_left}
 use Rattle.world_history.specs.ClientNames.{Client, CallOp, Held, TimedOut, Commit, Report, Waits, Outcome, Status, Forgets}
 use Rattle.fence_law.specs.State.{State}

@@ -14,7 +14,7 @@ use Rattle.client_rules.specs.Grants.{held_of, put_held}
 use Rattle.client_rules.specs.Layouts.{in_layouts, taken}
 use Rattle.client_rules.specs.Messages.{answered_get, on_get}
 use Rattle.client_rules.specs.Results.{layouts_in, status_of}
-use Rattle.client_rules.proofs.ReadSteps.{put_at}
+use Rattle.client_rules.proofs.HeldGrants.{put_at}
 use Rattle.component_law.proofs.PartyAnswering.{taken_size}
 use Rattle.world_history.specs.ClientNames.{Client, Call, CallOp, Held, Why, BadLayout, Need, First, Get, Commit, Report, Close, Phase, Starts, Needs, Waits, Reads, Probes, Gathers, Scatters, Outcome, Turn, Goes, Ends, Forgets}
 use Rattle.fence_law.specs.State.{State, Grant}

@@ -120,11 +120,6 @@ module _ (file : ℕ) (s : State) (c : ℕ) (x : Client) (i : Input) (P : List E
 
   -- ---- a timeout
 
-  -- events of a call on the file alone: else there is none
-  off : (b : Bool) → P [] (still x) → P (where_so b []) (still x)
-  off true p = p
-  off false p = p
-
   -- the grant of the call's file is the one that the table looks at
   timed_there : (b : Bool) (j : ℕ) → i ≡ TimesOut j → (call : Call) → x.call ≡ Some call → (file_of call.op == file) ≡ b
       → (h : Held) → held_of x.held (file_of call.op) ≡ Some h → (a : Awaited) (xs : List Awaited)

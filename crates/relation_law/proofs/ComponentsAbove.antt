@@ -104,9 +104,6 @@ module _ (laws : HeldLaws) (given : GrantsAreFresh) (answers : AnswersAreFit) (w
     (s : State) (k : FollowsWhole w h m f g s) (next : IsMoment (move w m).world (h ++ lines_in w m))
     (later : IsOfScenario (h ++ lines_in w m)) (few : AreFew h) (run : IsSentByRun w)
     (there : file_at w.server.files f.kept.number ≡ Some f) (j : Going) (goes : going_in w m.action ≡ Some j) where
-  abbrev v : World
-  v = (move w m).world
-
   abbrev c : ℕ
   c = j.client
 

@@ -23,7 +23,7 @@ use Rattle.client_rules.specs.Requests.{get_args, args_of, return_args}
 use Rattle.client_rules.specs.Results.{status_of}
 use Rattle.client_rules.specs.Steps.{all_due, resent}
 use Rattle.client_rules.proofs.Numbering.{nonces_rise}
-use Rattle.client_rules.proofs.ReadSteps.{held_file}
+use Rattle.client_rules.proofs.HeldGrants.{held_file}
 use Rattle.world_history.specs.ClientNames.{Client, Call, CallOp, Held, Due, Awaited, TimedOut, Need, First, Get, Commit, Report, Close, Phase, Starts, Needs, Waits, Reads, Probes, Gathers, Scatters, Turn, Goes, Ends, Forgets, Moved, Done, Why, AnswersRecall, Asks, ToDrive}
 use Rattle.history_law.specs.Turns.{with_start, IsAnswered, TurnCases, FinishCases}
 use Rattle.history_law.proofs.Turns.{each_turn, each_finish}

@@ -26,7 +26,7 @@ use Rattle.world_history.specs.ServerNames as server_rules
 use Rattle.world_history.specs.declared.messages.Posted.{Posted}
 use Rattle.world_history.specs.State.{World, DriveAt, ClientAt, at_number, with_down}
 use Rattle.world_history.specs.Drives.{judges, command_in, raised, at_time, fallen, crashed, reopened, is_deaf}
-use Rattle.world_history.specs.Handed.{Handed, is_addressed, client_posts, handed_to, server_takes, drive_hears, drive_replies, client_did, client_hears, client_takes, for_server, for_client, quiet, pending_op, op_in, wrote_in, data_in, client_goes}
+use Rattle.world_history.specs.Handed.{is_addressed, client_posts, handed_to, server_takes, drive_hears, drive_replies, client_did, client_hears, client_takes, for_server, for_client, quiet, pending_op, op_in, wrote_in, data_in, client_goes}
 use Rattle.world_history.specs.Moves as world
 use Rattle.world_history.specs.Moves.{Act, Action, Opens, Delivers, TimesOut, Pends, acts, marked, told_delivered, op_of}
 use Rattle.history_law.specs.Said.{said}
@@ -225,9 +225,6 @@ module _ (w : World) (chosen : List ℕ) (action : Action) where
 
     same_said : said v.network.messages ≡ said w.network.messages
     same_said = said_marked w.network.messages n p (record p { delivered = true }) there refl
-
-    rests : (d : Handed) → d.world.clients ≡ w.clients → ByNone w (told_delivered n d)
-    rests d same = none_same w _ same
 
     awake : (c : ℕ) (a : ClientAt) → at_number w.clients c ≡ Some a → p.message.to ≡ node.Client c
         → (m : ClientMessage) → for_client p.message ≡ Some m → (b : Bool) → a.stopped ≡ b → ByGoing w action

@@ -67,48 +67,6 @@ pub clients_by_server : (asker : Option ℕ) (s : State) (es : List Event) → A
     → ClientsStay s (after_all s es)
 clients_by_server asker = related_by_all (IsOfServer asker) ClientsStay clients_same clients_more (clients_by_step asker)
 
-pub clients_by_drive : (s : State) (e : Event) → IsOfDrive e → ClientsStay s (after s e)
-clients_by_drive s (Asks b rw) is = absurd is
-clients_by_drive s (Grants b number rw range extending) is = absurd is
-clients_by_drive s (Refuses b kind) is = absurd is
-clients_by_drive s (Takes b o size) is = absurd is
-clients_by_drive s (AsksOther b) is = absurd is
-clients_by_drive s (ServesOther b) is = absurd is
-clients_by_drive s (TakesOther b) is = absurd is
-clients_by_drive s (GivesBack b g) is = absurd is
-clients_by_drive s (Reports b g) is = absurd is
-clients_by_drive s (Forgets b) is = absurd is
-clients_by_drive s (Frees b) is = absurd is
-clients_by_drive s Fences is = absurd is
-clients_by_drive s Fenced is = absurd is
-clients_by_drive s Refenced is = absurd is
-clients_by_drive s (StartsWrite b g i bytes touch hit seen past part) is = absurd is
-clients_by_drive s (Sends b k g j i v) is = absurd is
-clients_by_drive s (Learns b k j v i) is = absurd is
-clients_by_drive s (Acknowledges b j) is = absurd is
-clients_by_drive s (Breaks b j) is = absurd is
-clients_by_drive s (StartsRead b g lo hi reach) is = absurd is
-clients_by_drive s (Answers b j bytes) is = absurd is
-clients_by_drive s (EndsRead b j) is = absurd is
-clients_by_drive s (Drops k) is = absurd is
-clients_by_drive s (Declares k) is = absurd is
-clients_by_drive s (Loses b k) is = absurd is
-clients_by_drive s (Leaves b g) is = absurd is
-clients_by_drive s (Tells j) is = absurd is
-clients_by_drive s (PerformsLost m) is = absurd is
-clients_by_drive s (AsksCommit b j) is = absurd is
-clients_by_drive s (Commits b j g) is = absurd is
-clients_by_drive s (RefusesCommit b j) is = absurd is
-clients_by_drive s (TakesCommit b j) is = absurd is
-clients_by_drive s (TakesRefusal b j) is = absurd is
-clients_by_drive s (Repaired done a_) is = absurd is
-clients_by_drive s (Rebuilds k cells) is = absurd is
-clients_by_drive s a_ is = clients_same s
-
--- So do those of drives.
-pub clients_by_drives : (s : State) (es : List Event) → AreAll IsOfDrive es → ClientsStay s (after_all s es)
-clients_by_drives = related_by_all IsOfDrive ClientsStay clients_same clients_more clients_by_drive
-
 -- ---- what the server keeps
 
 pub kept_same : (s : State) → KeptStays s s

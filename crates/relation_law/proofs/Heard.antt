@@ -1,13 +1,13 @@
 -- What a client takes of a drive as the reply to a command that it awaits is a reply that the drive sent, and all its bytes.
 -- Towards `CallsGoOn` (`relation_law/specs/Steps.antt`).
-use Rattle.std.proofs.Common.{◌≡◌, ◌<◌, ◌^◌, ◌%◌, ℕ, true, List, length, Option, Some, None, Result, Ok, Err, refl, sym, ap, subst, ◌∙◌, arith}
+use Rattle.std.proofs.Common.{◌≡◌, ◌<◌, ◌^◌, ◌%◌, ℕ, true, List, length, Some, Result, Ok, Err, refl, sym, ap, subst, ◌∙◌, arith}
 use Rattle.std.proofs.lemmas.Bool.{eq-eqb}
 use Rattle.osd_lists.specs.declared.node.Node.{Node}
 use Rattle.osd_lists.specs.declared.node.Node.TheVariants as node
 use Rattle.osd_commands.specs.declared.commands.Command.{Command}
 use Rattle.osd_commands.specs.declared.commands.CommandErr.{CommandErr}
 use Rattle.osd_commands.specs.declared.replies.Reply.{Reply}
-use Rattle.osd_commands.specs.Replies.{fields, spelling, reply_at, sized, unless_reserved, reading}
+use Rattle.osd_commands.specs.Replies.{fields, spelling, reply_at, reading}
 use Rattle.scenario_text.specs.declared.line.Line.{Line}
 use Rattle.server_rules.specs.Laws.{In}
 use Rattle.client_rules.specs.declared.limits.TheConstants.{PERFORMED}
@@ -41,10 +41,6 @@ use Rattle.relation_law.proofs.ReadsDrive.{reply_nonce}
 use Rattle.relation_law.proofs.Plans.{WasHeard}
 
 -- ---- what is read of a reply
-
-reserved_ok : (bytes : List ℕ) (o : Option ℕ) (r : Reply) → unless_reserved bytes o ≡ Ok r → sized bytes (reply_at bytes) ≡ Ok r
-reserved_ok bytes None r e = e
-reserved_ok bytes (Some at) r e = absurd (cc e)
 
 payload_there : (r : Reply) → (reply_at (spelling r)).payload ≡ r.payload
 unfolding reply_at spelling fields
@@ -83,9 +79,6 @@ message_is m f t b from to body =
 module _ (known : Known) (w : World) (h : List Line) (k : IsMoment w h) (few : AreFew h) (action : Action) (c : ℕ) (x : ClientAt)
     (drive : ℕ) (q : Reply) (is : IsForClient w action c x (Hears (node.Drive drive) (Replies q))) (a : Awaited)
     (answer : answers drive q a ≡ true) (done : q.verdict ≡ PERFORMED) where
-  abbrev p : Message
-  p = is.0.posted.message
-
   there : In is.0.posted.message (sent_by w)
   there = body_in w.network.messages is.0.number is.0.posted is.0.there
 

@@ -1,5 +1,5 @@
 -- What the server hears of a WRITE that it awaits is true.
-use Rattle.std.proofs.Common.{◌≡◌, ◌⊎◌, ◌==◌, ℕ, ◌<◌, ◌^◌, ◌++◌, ◌∷◌, [], List, Bool, true, false, nat_lt, nat_eq, eqb, not, length, Option, Some, None, Result, Ok, Err, slice_get, refl, sym, ap, subst, ◌∙◌, append_assoc, arith, inl, inr}
+use Rattle.std.proofs.Common.{◌≡◌, ◌⊎◌, ◌==◌, ℕ, ◌<◌, ◌^◌, ◌++◌, ◌∷◌, [], List, true, false, nat_lt, nat_eq, eqb, not, length, Option, Some, None, Result, Ok, Err, slice_get, refl, sym, ap, subst, ◌∙◌, append_assoc, arith, inl, inr}
 use Rattle.std.specs.Prelude.{slice_index}
 use Rattle.std.proofs.lemmas.Bool.Decides.{nat_tests}
 use Rattle.std.proofs.lemmas.Bool.{and_parts, cases_Bool, eqb-true}
@@ -184,10 +184,6 @@ module _ (a : DriveAt) (c : Command) (write : c.action ≡ Write) where
       by_lane None e = absurd (cc e)
       by_lane (Some l) e = grind (arith, e, nat_tests)
   written_passed v clear told = absurd (differ _ _ refl told)
-
-abbrev is_old : Verdict → Bool
-is_old verdict.OldFormat = true
-is_old v = false
 
 -- one that is refused for its format is of an older one than the drive's least
 older : (a : DriveAt) (c : Command) (v : Verdict) → first_fault a.state a.clock c ≡ v →

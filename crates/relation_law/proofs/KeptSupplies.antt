@@ -1,20 +1,15 @@
--- What the other parts give makes the events of a step's first line and of its notes lawful.
+-- The events of a fence that begins, and of a drive that is declared, can happen.
 -- Towards `KeptGoesOn` (`specs/Steps.antt`).
-use Rattle.std.proofs.Common.{◌≡◌, ◌==◌, ℕ, suc, ◌+◌, Bool, true, false, List, [], ◌∷◌, ◌++◌, slice_get, Some, refl, sym, ap, subst, ◌∙◌, arith, inl, inr, append_assoc}
+use Rattle.std.proofs.Common.{◌≡◌, ◌==◌, ℕ, suc, ◌+◌, Bool, true, false, List, [], ◌∷◌, ◌++◌, slice_get, Some, refl, sym, subst, arith, inl, inr}
 use Rattle.std.proofs.lemmas.Bool.{cases_Bool}
-use Rattle.server_rules.specs.History.{Input}
-use Rattle.world_history.specs.ServerNames.{File, Kept, Component, Note, NoteKind, Fenced, Repaired, NoSpace, Rebuilt, Reported}
-use Rattle.world_history.specs.State.{World}
+use Rattle.world_history.specs.ServerNames.{File, Component}
 use Rattle.fence_law.specs.State.{State}
 use Rattle.fence_law.specs.State.Event.{Fences, Declares}
 use Rattle.fence_law.specs.Machine.{Lawful, after}
 use Rattle.file_simulation.specs.EventLists.{where_so}
-use Rattle.file_simulation.specs.ServerEvents.{begins_fence, fences, declared_from, noted_here}
-use Rattle.relation_law.specs.KeptSupplies.{NoteNeeds, NotesNeed}
-use Rattle.relation_law.specs.KeptSteps.{behind_notes, IsSoFar, IsKeptAt}
-use Rattle.relation_law.proofs.KeptGuards.{fences_allowed, fenced_allowed, repaired_allowed}
-use Rattle.relation_law.proofs.KeptNotes.{NoteFits, AreSupplied}
-use Rattle.relation_law.proofs.KeptShort.{standing_not_short}
+use Rattle.file_simulation.specs.ServerEvents.{begins_fence, fences, declared_from}
+use Rattle.relation_law.specs.KeptSteps.{IsKeptAt}
+use Rattle.relation_law.proofs.KeptGuards.{fences_allowed}
 
 -- ---- the first line
 
@@ -53,29 +48,3 @@ declared_lawful s d (at ∷ cs) k lost = elim (cases_Bool (at.drive == d)) [
         → (x.drive == d) ≡ true → t.lost (k + 1 + n) ≡ true
     rest t all n x is on =
         subst (λ (j : ℕ). t.lost j ≡ true) (let z : k + suc n ≡ k + 1 + n = omega arith in z) (all (suc n) x is on)
-
--- ---- the notes
-
-module _ (next : ℕ) (busy : Bool) (t : State) (w : World) (f : File) (i : Input) where
-  here_lawful : (s : State) (k : Kept) (kind : NoteKind) → k.number ≡ f.kept.number → k.map ≡ f.kept.map → NoteFits k kind
-      → NoteNeeds next busy s w f i kind → IsSoFar next busy s k → Lawful s (noted_here s w f i kind)
-  here_lawful s k (Fenced tag) number map fits needs h = fenced_allowed next busy s k fits needs h
-  here_lawful s k (Repaired stripes short) number map fits needs h =
-      let n = needs k number map fits h in
-      let a = repaired_allowed standing_not_short next busy s k fits n.layout n.whole n.done h in
-      (rw map at a, tt)
-  here_lawful s k (NoSpace j) number map fits needs h = needs
-  here_lawful s k (Rebuilt j d) number map fits needs h = needs
-  here_lawful s k (Reported j) number map fits needs h = needs
-  here_lawful s k kind number map fits needs h = tt
-
-  pub supplied_by : AreSupplied next busy t w f i (NotesNeed next busy t w f i)
-  supplied_by = record {
-    front = λ ns n need before after kind is.
-        need before (after ++ (n ∷ [])) kind
-        (ap (λ (x : List Note). x ++ (n ∷ [])) is
-        ∙ append_assoc before (record { file = f.kept.number; kind = kind } ∷ after) (n ∷ []));
-    last = λ k ns kind number map fits need law h.
-        here_lawful (behind_notes t w f i ns) k kind number map fits
-        (need ns [] kind (ap (λ (m : ℕ). ns ++ (record { file = m; kind = kind } ∷ [])) number)) h;
-  }

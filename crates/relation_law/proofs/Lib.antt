@@ -154,7 +154,6 @@ pub mod MessagesSends
 pub mod MessagesSent
 pub mod MessagesKept
 pub mod MessagesScatter
-pub mod MessagesLines
 pub mod ReturnsShort
 pub mod ReturnsNamed
 pub mod ReturnsMoves

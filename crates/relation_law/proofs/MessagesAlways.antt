@@ -15,8 +15,8 @@ use Rattle.client_rules.specs.Going.{quiet, moved}
 use Rattle.client_rules.specs.Messages.{still, finished, on_need, on_phase, on_call, obeys, no_match}
 use Rattle.client_rules.specs.Steps.{new_client, writes_nothing, is_bad_range, is_spent, all_due, calls}
 use Rattle.client_rules.specs.History.{Input, Calls, unless_refused, step, state_after}
-use Rattle.client_rules.proofs.ReadSteps.{report_fits, any_fits, fits_answer}
-use Rattle.world_history.specs.ClientNames.{Client, Call, CallOp, Busy, BadRange, SlotSpent, Held, Write, Read, Awaited, Reply, Need, First, Get, Commit, Report, Close, Phase, Starts, Needs, Waits, Reads, Probes, Gathers, Scatters, WriteOk, ReadOk, Done}
+use Rattle.client_rules.proofs.ReadSteps.{report_fits, any_fits}
+use Rattle.world_history.specs.ClientNames.{Client, Call, CallOp, Busy, BadRange, SlotSpent, Held, Write, Read, Awaited, Reply, Need, First, Get, Commit, Report, Close, Phase, Starts, Needs, Waits, Reads, Probes, Gathers, Scatters, WriteOk, Done}
 use Rattle.history_law.specs.Turns.{TurnCases, IsReplied, IsTimed, with_start}
 use Rattle.history_law.proofs.Turns.{each_turn}
 use Rattle.relation_law.proofs.MessagesClients.{IsFit, ReadEnds}
@@ -145,26 +145,6 @@ module _ (c : Client) (i : Input) (f : IsFine c) where
   -- so is the client behind a turn
   pub turn_is_fine : IsFine (step c i).client
   turn_is_fine = (each_turn c i (λ s. s ≡ step c i → FineStep Any s) cases refl).client
-
-  -- a read that a reply ends is answered by what it had got and what the reply gives
-  pub replied_ends : (drive : ℕ) (q : Reply) (call : Call) (h : Held) (a : Awaited) → IsReplied c i drive q call h a →
-      (bytes : List ℕ) →
-      (finished (moved (quiet c) call.op (replied h call.op call.phase a q))).outcome ≡ Some (ReadOk bytes) →
-      ReadEnds h call.op (got_by call.phase ++ got_of a q ∷ []) bytes
-  replied_ends drive q call h a k bytes e =
-      fits_answer (ReadEnds h call.op (got_by call.phase ++ got_of a q ∷ [])) _ bytes e
-      (finished_fine (ReadEnds h call.op (got_by call.phase ++ got_of a q ∷ [])) _
-      (replied_done (ReadEnds h call.op (got_by call.phase ++ got_of a q ∷ [])) drive q call h a k (λ b x. x))).outcome
-
-  -- and one that a timeout ends by what it had got
-  pub timed_ends : (n : ℕ) (call : Call) (h : Held) (a : Awaited) (xs : List Awaited) → IsTimed c i n call h a xs →
-      (bytes : List ℕ) →
-      (finished (moved (quiet c) call.op (timed_out h call.op call.phase n a xs))).outcome ≡ Some (ReadOk bytes) →
-      ReadEnds h call.op (got_by call.phase) bytes
-  timed_ends n call h a xs k bytes e =
-      fits_answer (ReadEnds h call.op (got_by call.phase)) _ bytes e
-      (finished_fine (ReadEnds h call.op (got_by call.phase)) _
-      (timed_done (ReadEnds h call.op (got_by call.phase)) n call h a xs k (λ b x. x))).outcome
 
 -- ---- each run
 

@@ -16,7 +16,8 @@ use Rattle.client_rules.specs.Answers.{on_commit, committed, not_committed, refu
 use Rattle.client_rules.specs.Going.{phased, over, with_held, by_turn, moved, begins, begun, held_after, requests, asks_server, asks_under, returns}
 use Rattle.client_rules.specs.Messages.{Step, finished, answered_get, on_get, commit_under}
 use Rattle.client_rules.proofs.ReadMoves.{FitsOutcome, weaker}
-use Rattle.client_rules.proofs.ReadSteps.{held_file, put_at, Fits, Refuses, refused_with_refuses}
+use Rattle.client_rules.proofs.HeldGrants.{held_file, put_at}
+use Rattle.client_rules.proofs.ReadSteps.{Fits, Refuses, refused_with_refuses}
 use Rattle.world_history.specs.ClientNames.{Client, Call, CallOp, Held, Due, TimedOut, Column, Need, Get, Commit, Phase, Needs, Outcome, Status, Why, Turn, Goes, Ends, Forgets, Moved, Done}
 use Rattle.exchange_law.proofs.ClientKeeping.{put_read, without_read}
 use Rattle.history_law.specs.Turns.{FinishCases}

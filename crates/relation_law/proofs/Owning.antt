@@ -65,10 +65,6 @@ work_phase p (Fills t todo) fits = inl (inl fits)
 work_phase p Lengths fits = inl (inl fits)
 work_phase p (Checks todo t) fits = inl (inl fits)
 
--- the first piece of a repair that writes
-abbrev Stored : RawMap → List Awaited → Work → (k : ℕ) → Command → Type 0
-Stored m awaited work k x = IsOfWork m awaited k x work
-
 module _ (C : Coming) (i : Input) (f : File) (ready : IsReady C i f) where
   abbrev pub Known : List Component → Type 0
   Known cs = Clear C f cs

@@ -1,14 +1,12 @@
 -- What was shown to a call stays shown, and what a drive reads of a component is shown.
 -- Towards `ReadsGoOn` (`specs/Steps.antt`).
-use Rattle.std.proofs.Common.{◌≡◌, ℕ, zero, suc, ◌+◌, ◌-◌, ◌<◌, ◌≤◌, List, [], ◌∷◌, ◌++◌, length, take, drop, get_or, refl, sym, ap, subst, ◌∙◌, inl, inr, ◌⊎◌, arith}
+use Rattle.std.proofs.Common.{◌≡◌, ℕ, zero, suc, ◌+◌, ◌-◌, ◌<◌, ◌≤◌, List, [], ◌∷◌, length, take, drop, get_or, refl, sym, ap, ◌∙◌, inl, inr, arith}
 use Rattle.std.specs.Prelude.{replicate}
 use Rattle.std.proofs.lemmas.Bool.{cases_lt}
 use Rattle.std.proofs.lemmas.List.{length-append, length-take, length-drop, length-replicate, get_or_append_left, get_or-append_right, get_or-take, get_or-drop, get_or-replicate}
 use Rattle.osd_objects.specs.declared.object.StoredObject.{StoredObject}
 use Rattle.osd_commands.specs.declared.replies.Reply.{Reply}
 use Rattle.client_rules.specs.Io.{carried, got_of}
-use Rattle.server_rules.specs.Laws.{In}
-use Rattle.server_rules.proofs.Members.{in_either}
 use Rattle.world_history.specs.ClientNames.{Awaited, Io, Column}
 use Rattle.world_history.specs.State.{World}
 use Rattle.fence_law.specs.State.{State, Event, ReadReply}
@@ -17,8 +15,8 @@ use Rattle.fence_law.specs.Words.{In as InRun}
 use Rattle.fence_law.specs.Machine.{after, after_all}
 use Rattle.fence_law.proofs.SmallFiles.{same_map}
 use Rattle.file_simulation.specs.Components.{IsMade}
-use Rattle.file_simulation.specs.Messages.{WasShown, AreShown, HasReplied, WasPerformed}
-use Rattle.relation_law.specs.ReadsShown.{ShownGrows, NewAreShown, NoneIsAnswered}
+use Rattle.file_simulation.specs.Messages.{WasShown, AreShown}
+use Rattle.relation_law.specs.ReadsShown.{ShownGrows, NewAreShown}
 use Rattle.relation_law.proofs.ReadsShown.{AllShown}
 
 -- ---- the machine
@@ -59,36 +57,6 @@ are_shown_stay s t w v c j io g new h = record {
         | inl old ↦ was_shown_stays s t j a.ask.component (got_of a r) g (h.replied a r i old answers performed)
         | inr now ↦ now
       ];
-}
-
--- what a call has that awaits some of what it awaited, and new commands, and has got some of what was shown
-pub are_shown_on : (s t : State) (w v : World) (c j : ℕ) (io next : Io) (sent : List Awaited) → ShownGrows s t →
-    ((a : Awaited) → In a next.awaited → In a io.awaited ⊎ In a sent) →
-    ((a : Awaited) (r : Reply) → HasReplied v a.drive c r → HasReplied w a.drive c r) → NoneIsAnswered v c sent →
-    AllShown s j next.got → AreShown s w c j io → AreShown t v c j next
-are_shown_on s t w v c j io next sent g among same none got h = record {
-  got = all_shown_stay s t j next.got g got;
-  replied = λ a r i told answers performed. elim (among a i) [
-    | inl old ↦ was_shown_stays s t j a.ask.component (got_of a r) g (h.replied a r old (same a r told) answers performed)
-    | inr new ↦ absurd (none a r new (record { told = told; answers = answers; performed = performed }))
-  ];
-}
-
--- what was got, and what a reply gives to that
-pub got_more : (s : State) (w : World) (c j : ℕ) (io : Io) (a : Awaited) (r : Reply) → AreShown s w c j io → In a io.awaited →
-    WasPerformed w c a r → AllShown s j (io.got ++ got_of a r ∷ [])
-got_more s w c j io a r h i p col there = elim (in_either col io.got (got_of a r ∷ []) there) [
-  | inl old ↦ h.got col old
-  | inr (inl e) ↦ (a.ask.component, subst (WasShown s j a.ask.component) (sym e) (h.replied a r i p.told p.answers p.performed))
-  | inr (inr none) ↦ absurd none
-]
-
--- a call that begins has got nothing, and nothing of what it sends was replied to
-pub none_shown : (s : State) (w : World) (c j : ℕ) (io : Io) → io.got ≡ [] → NoneIsAnswered w c io.awaited → AreShown s w c j io
-none_shown s w c j io none answered = record {
-  got = λ col i. absurd (subst (In col) none i);
-  replied = λ a r i told answers performed.
-      absurd (answered a r i (record { told = told; answers = answers; performed = performed }));
 }
 
 -- ---- bytes

@@ -8,7 +8,7 @@ use Rattle.client_rules.specs.Going.{moved, phased, by_turn, with_held, begins, 
 use Rattle.client_rules.specs.Grants.{covers, held_of, put_held, without_held}
 use Rattle.client_rules.specs.Messages.{finished}
 use Rattle.client_rules.specs.Requests.{args_of, get_args, commit_args, return_args, report_of}
-use Rattle.client_rules.proofs.ReadSteps.{held_file, put_at}
+use Rattle.client_rules.proofs.HeldGrants.{held_file, put_at}
 use Rattle.world_history.specs.ClientNames.{Client, Call, CallOp, Held, Due, Request, Need, First, Get, Commit, Report, Close, Phase, Starts, Needs, Waits, Reads, Probes, Gathers, Scatters, Turn, Goes, Ends, Forgets, Moved, TimedOut, Done}
 use Rattle.exchange_law.specs.Calls.{Has}
 use Rattle.exchange_law.proofs.ClientKeeping.{put_other, none_left, without_read}

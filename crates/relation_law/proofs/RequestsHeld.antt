@@ -5,7 +5,7 @@ use Rattle.client_rules.specs.Calls.{file_of}
 use Rattle.client_rules.specs.Going.{moved, by_turn, with_held, begins, begun, progressed, asks_under, returns, requests}
 use Rattle.client_rules.specs.Grants.{held_of, put_held}
 use Rattle.client_rules.specs.Messages.{finished}
-use Rattle.client_rules.proofs.ReadSteps.{held_file}
+use Rattle.client_rules.proofs.HeldGrants.{held_file}
 use Rattle.world_history.specs.ClientNames.{CallOp, Held, Due, Request, Need, Turn, Goes, Ends, Forgets, Moved, Done}
 use Rattle.exchange_law.proofs.ClientKeeping.{put_read, without_read}
 use Rattle.history_law.proofs.Turns.{each_begin, each_progress}

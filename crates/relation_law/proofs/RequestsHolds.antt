@@ -1,20 +1,14 @@
 -- A client returns a grant only while it holds one on that file.
 -- Towards `ReturnsAreHeld` (`specs/RequestsGoing.antt`).
-use Rattle.std.proofs.Common.{◌≡◌, ◌≢◌, ◌==◌, ℕ, true, List, [], ◌∷◌, ◌++◌, Option, Some, None, find, refl, sym, ap, subst, ◌∙◌, inl, inr}
+use Rattle.std.proofs.Common.{◌≡◌, ◌≢◌, ◌==◌, true, List, [], ◌∷◌, ◌++◌, Option, Some, None, find, refl, sym, ap, subst, ◌∙◌, inl, inr}
 use Rattle.std.proofs.lemmas.Bool.{cases_Bool, true≢false}
-use Rattle.data_map.specs.declared.check.RawMap.{RawMap}
-use Rattle.layout_ops.specs.declared.messages.Answer.{Answer}
-use Rattle.layout_ops.specs.declared.args.Args.{Args}
 use Rattle.layout_ops.specs.declared.args.Args.TheVariants as args
 use Rattle.client_rules.specs.Calls.{file_of}
 use Rattle.client_rules.specs.Going.{asks_under, returns, requests, progressed, is_held}
 use Rattle.client_rules.specs.Grants.{held_of}
-use Rattle.world_history.specs.ClientNames.{Client, CallOp, Held, Due, Request, Need, Done}
+use Rattle.world_history.specs.ClientNames.{CallOp, Held, Due, Request, Need, Done}
 use Rattle.history_law.proofs.Turns.{each_progress}
-use Rattle.fence_law.specs.State.{State}
-use Rattle.file_simulation.specs.Calls.{HeldIs}
-use Rattle.file_simulation.specs.Requests.{phase_of}
-use Rattle.relation_law.specs.Requests.{IsReturning, HoldsWhatReturns}
+use Rattle.relation_law.specs.Requests.{IsReturning}
 
 -- ---- a grant that is due is held
 
@@ -72,10 +66,3 @@ module _ (d : Done) (none : d.requests ≡ []) where
     asks = λ op n h is out held. asks op n h held;
     gives_back = λ u idle out left is. gives_back u is;
   })
-
--- so the machine's client holds it too
-pub holds_returned : (file : ℕ) (m : RawMap) (s : State) (c : ℕ) (x : Client) (o : Option Answer) (h : Held)
-    → HeldIs file m s c x o (Some h) → (y : Client) (a : Args) → HoldsWhatReturns s c (phase_of y.call) a
-holds_returned file m s c x o h held y (args.LayoutGet g) = tt
-holds_returned file m s c x o h held y (args.LayoutCommit g) = tt
-holds_returned file m s c x o h held y (args.LayoutReturn g) = λ b is. (held.grant, held.held)

@@ -18,8 +18,8 @@ use Rattle.server_rules.specs.Slots.{slot_of}
 use Rattle.server_rules.specs.Laws.{last_of}
 use Rattle.client_rules.specs.declared.limits.TheConstants.{GREATEST_SEQUENCE}
 use Rattle.client_rules.specs.Answers.{is_loss_taken}
-use Rattle.client_rules.specs.Messages.{Message, Taken, TakesAnswer, TakesReply, TakesRecall, takes}
-use Rattle.client_rules.specs.History.{Input, Calls, Hears, TimesOut, Leaves, Resends, step}
+use Rattle.client_rules.specs.Messages.{Message, TakesAnswer, takes}
+use Rattle.client_rules.specs.History.{Hears, Resends, step}
 use Rattle.client_rules.specs.Results.{status_of}
 use Rattle.world_history.specs.ServerNames.{File, Slot, ClientRequest}
 use Rattle.world_history.specs.ClientNames.{Client, Request, Done}
@@ -37,7 +37,7 @@ use Rattle.exchange_law.proofs.Knowing.{lawful_at}
 use Rattle.history_law.specs.Moves.{IsForClient}
 use Rattle.fence_law.specs.State.{State}
 use Rattle.fence_law.specs.State.{Event as event}
-use Rattle.fence_law.specs.Machine.{Allowed, after_all}
+use Rattle.fence_law.specs.Machine.{Allowed}
 use Rattle.fence_law.specs.State.RequestKind.{Get, Return}
 use Rattle.file_simulation.specs.EventLists.{entry_of}
 use Rattle.file_simulation.specs.Relation.{client_of}
@@ -45,7 +45,7 @@ use Rattle.file_simulation.specs.Requests.{RequestClass, Own, Other, phase_of, r
 use Rattle.file_simulation.specs.ClientEvents as table
 use Rattle.file_simulation.specs.ClientEvents.{Going, going_in}
 use Rattle.relation_law.specs.Frames.{ByClient}
-use Rattle.relation_law.specs.Requests.{Turned, NothingAsked, OneAsked, HasTurned, HasRested, AskingStays, FirstMay}
+use Rattle.relation_law.specs.Requests.{Turned, NothingAsked, OneAsked, HasTurned, AskingStays, FirstMay}
 use Rattle.relation_law.specs.RequestsGoing.{first_behind, ended_behind, IsItsRequest, MayLaws, TakesOwnAnswer, CarriesOut}
 use Rattle.relation_law.specs.Steps.{Follows}
 use Rattle.relation_law.proofs.FramesParties as parties
@@ -55,7 +55,6 @@ use Rattle.relation_law.proofs.RequestsHeard.{heard_in, its_request}
 use Rattle.relation_law.proofs.RequestsOn.{IsServed}
 use Rattle.relation_law.proofs.RequestsPlain.{asking_more, asking_stays_all, first_plain, ended_plain}
 use Rattle.relation_law.proofs.RequestsSteps.{step_turned}
-use Rattle.relation_law.proofs.RequestsTaken.{answer_taken_rests}
 
 -- the last number isn't the next one
 last_other : (n : ℕ) → last_before n ≡ n → ⊥
@@ -183,15 +182,6 @@ module _ (laws : MayLaws) (w : World) (h : List Line) (m : Move) (count : ℕ) (
       answer_may =
           subst (λ (o : Option Request). FirstMay s (table.answered s file j.client j.state a o)) (sym own_is.outstanding) by_file
 
-      -- behind it the client waits for nothing
-      answer_rests : HasRested j.client s (first_behind s file j)
-      answer_rests =
-          subst (λ (i : Input). HasRested j.client s (after_all s (table.at_first s file j.client j.state i))) (sym is)
-          (subst (λ (o : Option Taken). HasRested j.client s (after_all s (table.taken s file j.client j.state o))) (sym took)
-          (subst (λ (o : Option Request). HasRested j.client s (after_all s (table.answered s file j.client j.state a o)))
-          (sym own_is.outstanding)
-          (answer_taken_rests file f.kept.map s j.client j.state p r agrees.slot own_is.served its a)))
-
     -- ---- it asks
 
     pub rests_on : (t u : State) → AskingStays t u → AwaitsNothing t j.client → AwaitsNothing u j.client
@@ -237,37 +227,6 @@ module _ (laws : MayLaws) (w : World) (h : List Line) (m : Move) (count : ℕ) (
           (asking_stays_all s (table.at_first s file j.client j.state j.input) (first_plain file j.client s j.state j.input none))
           ends)
           (subst (RequestIs file f.kept.map s p j.client j.state) (none_before none fresh) agrees.request)
-
-      -- Where the client asks, it waits for nothing.
-      pub asks_rest : (j.input ≡ Resends → ⊥) → AwaitsNothing (ended_behind s file j) j.client
-      asks_rest fresh = by_input j.input refl
-        where
-          quiet : (from : Node) (b : Message) → j.input ≡ Hears from b → (o : Option Taken) → takes j.state from b ≡ o
-              → ((a : Answer) → o ≡ Some (TakesAnswer a) → ⊥) → (a : Answer) (n : Node) (d : Message)
-              → j.input ≡ Hears n d → takes j.state n d ≡ Some (TakesAnswer a) → ⊥
-          quiet from b is o took none a n d e t =
-              let same : Hears from b ≡ Hears n d = sym is ∙ e in
-              let node_is : from ≡ n = cc same in
-              let message_is : b ≡ d = cc same in
-              none a (sym took ∙ ap (λ (z : Message). takes j.state from z) message_is
-              ∙ ap (λ (z : Node). takes j.state z d) node_is ∙ t)
-
-          by_taken : (from : Node) (b : Message) → j.input ≡ Hears from b → (o : Option Taken) → takes j.state from b ≡ o
-              → AwaitsNothing (ended_behind s file j) j.client
-          by_taken from b is (Some (TakesAnswer a)) took =
-              rests_on (first_behind s file j) (ended_behind s file j) ends (answer_rests from b a is took).rests
-          by_taken from b is None took = unanswered (quiet from b is None took (λ a e. cc e)) fresh
-          by_taken from b is (Some (TakesReply y q)) took =
-              unanswered (quiet from b is (Some (TakesReply y q)) took (λ a e. cc e)) fresh
-          by_taken from b is (Some (TakesRecall q)) took =
-              unanswered (quiet from b is (Some (TakesRecall q)) took (λ a e. cc e)) fresh
-
-          by_input : (i : Input) → j.input ≡ i → AwaitsNothing (ended_behind s file j) j.client
-          by_input (Hears from b) is = by_taken from b is (takes j.state from b) refl
-          by_input (Calls op) is = unanswered (λ a n d e t. cc (sym is ∙ e)) fresh
-          by_input (TimesOut n) is = unanswered (λ a y d e t. cc (sym is ∙ e)) fresh
-          by_input Leaves is = unanswered (λ a n d e t. cc (sym is ∙ e)) fresh
-          by_input Resends is = absurd (fresh is)
 
   -- ---- the server carries out a request
 

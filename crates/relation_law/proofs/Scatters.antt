@@ -18,7 +18,7 @@ use Rattle.client_rules.specs.Reads.{reads, reads_on, reads_unless, probes, prob
 use Rattle.client_rules.specs.Replies.{replied, performed, refused, refusal, refused_report, timed_after, timed_out, gather_timed}
 use Rattle.client_rules.specs.Turns.{turned, closing}
 use Rattle.client_rules.specs.Writes.{accounted, written, is_past_size, firsts, laters, scatters, scatters_on, gathers, gathers_on, gathers_due, is_too_short}
-use Rattle.client_rules.proofs.ReadSteps.{held_file, put_at}
+use Rattle.client_rules.proofs.HeldGrants.{held_file, put_at}
 use Rattle.history_law.proofs.Turns.{each_begin}
 use Rattle.world_history.specs.ClientNames.{Awaited, Call, CallOp, Column, Done, Held, Io, Moved, Need, Needs, Outcome, Phase, Starts, Waits, Reads, Probes, Gathers, Scatters, Span, Store, TimedOut, Turn, Goes, Ends, Forgets}
 use Rattle.gather_law.specs.Ready.{IsSome, IsReady as IsGatherReady, AreBelow}

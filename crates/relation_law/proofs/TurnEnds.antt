@@ -254,9 +254,6 @@ module _ (file : ℕ) (m : RawMap) (c : ℕ) (s : State) (x : Client) (slot : Op
     unfolding finished
     outcome_is u e = rw is_step (outcome_stays (begun d) ∙ e)
 
-    abbrev told_ : Option Outcome → State
-    told_ u = told_end file m c slot (after_all s es) (op_in x i) d w begin u
-
     same_told : (u : Option Outcome) → told_at u ≡ told_end file m c slot (after_all s es) (op_in x i) d w begin u
     same_told None = ap (after_all s) at
     same_told (Some u) =

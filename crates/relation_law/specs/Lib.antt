@@ -20,7 +20,6 @@ pub mod MessagesWrites
 pub mod ComponentsBehind
 pub mod ComponentsFacts
 pub mod CallsFits
-pub mod KeptSupplies
 pub mod RequestsClients
 pub mod ComponentsMove
 pub mod ComponentsFollow

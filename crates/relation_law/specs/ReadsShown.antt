@@ -19,7 +19,3 @@ abbrev pub NewAreShown : (w v : World) → State → (c j : ℕ) → List Awaite
 NewAreShown w v t c j awaited =
     (a : Awaited) (r : Reply) → In a awaited → WasPerformed v c a r →
     HasReplied w a.drive c r ⊎ WasShown t j a.ask.component (got_of a r)
-
--- no drive replied to any of these commands
-abbrev pub NoneIsAnswered : World → (c : ℕ) → List Awaited → Type 0
-NoneIsAnswered w c xs = (a : Awaited) (r : Reply) → In a xs → WasPerformed w c a r → ⊥
