@@ -6,7 +6,7 @@ use Rattle.fence_law.specs.Machine.{after, after_all}
 use Rattle.fence_law.proofs.Words.{updated_other}
 use Rattle.relation_law.specs.Frames.{AreAll, IsOfClient, IsOfServer, IsOfDrive, ClientStays, SlotStays}
 use Rattle.relation_law.proofs.FramesStay.{related_by_all}
-pub use Rattle.relation_law.proofs.FramesRest.{clients_same, clients_more, clients_by_step, clients_by_server, clients_by_drive, clients_by_drives, kept_same, kept_more, kept_by_drive, kept_by_drives, replies_same, replies_more, replies_by_step, replies_by_server}
+pub use Rattle.relation_law.proofs.FramesRest.{clients_same, clients_more, clients_by_step, clients_by_server, kept_same, kept_more, kept_by_drive, kept_by_drives, replies_same, replies_more, replies_by_step, replies_by_server}
 
 -- ---- what a client has
 
