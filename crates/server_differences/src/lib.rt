@@ -4,9 +4,9 @@
 //! without jobs stands for what a server keeps.
 #![tactic(auto)]
 
-mod differences;
 mod file_differences;
 mod sameness;
+mod state_differences;
 
-pub use differences::differences;
 pub use sameness::is_mirror;
+pub use state_differences::differences;

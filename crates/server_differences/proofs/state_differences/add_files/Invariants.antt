@@ -2,7 +2,7 @@ use Rattle.std.specs.Prelude.{◌++◌}
 use Rattle.server_state.specs.Tables.{files_in}
 use Rattle.server_differences.specs.Differences.{files_entries}
 use Rattle.server_differences.proofs.DifferenceLaws.{SoFar}
-use Rattle.server_differences.proofs.differences.add_files.Given as goal
+use Rattle.server_differences.proofs.state_differences.add_files.Given as goal
 
 abbrev pub invariant-loop-number : goal.invariant-loop-number
 invariant-loop-number l =

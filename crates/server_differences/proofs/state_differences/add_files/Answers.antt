@@ -7,7 +7,7 @@ use Rattle.server_entries.specs.declared.entry.Entry.{Entry}
 use Rattle.server_state.specs.Tables.{Table, files_in}
 use Rattle.server_differences.specs.Differences.{files_entries}
 use Rattle.server_differences.proofs.DifferenceLaws.{SoFar, file_more}
-use Rattle.server_differences.proofs.differences.add_files.Goals as goal
+use Rattle.server_differences.proofs.state_differences.add_files.Goals as goal
 
 pub loop-number-preserved : goal.loop-number-preserved
 loop-number-preserved c =

@@ -1,5 +1,5 @@
 use Rattle.std.specs.Prelude.{◌≡◌, ◌==◌, drop, find}
-use Rattle.server_differences.proofs.differences.drive_of.Given as goal
+use Rattle.server_differences.proofs.state_differences.drive_of.Given as goal
 
 abbrev pub invariant-loop-drive : goal.invariant-loop-drive
 invariant-loop-drive l =

@@ -1,6 +1,6 @@
 use Rattle.std.specs.Prelude.{◌≡◌, ◌++◌, drop}
 use Rattle.server_differences.specs.Differences.{slots_entries}
-use Rattle.server_differences.proofs.differences.add_slots.Given as goal
+use Rattle.server_differences.proofs.state_differences.add_slots.Given as goal
 
 abbrev pub invariant-loop-slot : goal.invariant-loop-slot
 invariant-loop-slot l =

@@ -1,6 +1,6 @@
 use Rattle.std.specs.Prelude.{◌≡◌, ◌++◌, drop}
 use Rattle.server_differences.specs.Differences.{drives_entries}
-use Rattle.server_differences.proofs.differences.add_drives.Given as goal
+use Rattle.server_differences.proofs.state_differences.add_drives.Given as goal
 
 abbrev pub invariant-loop-drive : goal.invariant-loop-drive
 invariant-loop-drive l =
