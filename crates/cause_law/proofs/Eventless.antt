@@ -7,7 +7,6 @@ use Rattle.scenario_text.specs.declared.event.Event.{Event}
 use Rattle.scenario_text.specs.declared.event.Event.TheVariants as event
 use Rattle.scenario_text.specs.declared.line.Line.{Line}
 use Rattle.scenario_text.specs.declared.line.Line.TheVariants as line
-use Rattle.world_history.specs.ClientNames as client_rules
 use Rattle.world_history.specs.State.{World, DriveAt, at_number}
 use Rattle.world_history.specs.Moves.{Action, Opens, Delivers, TimesOut, Pends, injects_at, injects, delivers, times_out, pends, begins, acts}
 use Rattle.world_history.specs.Sending.{Move, move, sends_all, sent_lines}

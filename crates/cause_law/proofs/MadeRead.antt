@@ -1,5 +1,5 @@
 -- A command that is made under a grant whose keys fit its capabilities is read from its bytes as it was made.
-use Rattle.std.proofs.Common.{◌≡◌, ◌==◌, ℕ, zero, suc, ◌-◌, ◌<◌, ◌^◌, Bool, true, false, List, [], ◌∷◌, length, replicate, Option, Some, None, Ok, slice_get, unwrap_or, nat_eq, refl, sym, subst, ◌∙◌, eq-eqb, arith}
+use Rattle.std.proofs.Common.{◌≡◌, ◌==◌, ℕ, zero, suc, ◌<◌, ◌^◌, Bool, true, false, List, [], ◌∷◌, length, replicate, Option, Some, None, Ok, slice_get, unwrap_or, nat_eq, refl, sym, subst, ◌∙◌, eq-eqb, arith}
 use Rattle.std.proofs.lemmas.Bool.{eqb-true}
 use Rattle.std.proofs.lemmas.List.{drop_all, drop_at, length-append, length-replicate}
 use Rattle.hmac_tags.specs.Mac.{hmac_sha1, hmac_sha256}

@@ -8,7 +8,7 @@ use Rattle.layout_ops.specs.declared.statuses.TheConstants.{NFS4_OK, NFS4ERR_NOE
 use Rattle.client_rules.specs.Answers.{busy, refused_with, not_granted, on_commit}
 use Rattle.client_rules.specs.Calls.{file_of, span_of}
 use Rattle.client_rules.specs.Commands.{credential_of, sealed, command, awaited_for}
-use Rattle.client_rules.specs.Going.{quiet, phased, with_held, by_turn, moved, begins, begun, held_after, requests, asks_under, returns}
+use Rattle.client_rules.specs.Going.{quiet, phased, with_held, by_turn, moved, begins, held_after, requests, asks_under, returns}
 use Rattle.client_rules.specs.Grants.{held_of, put_held, without_held}
 use Rattle.client_rules.specs.History.{Input, step}
 use Rattle.client_rules.specs.Layouts.{taken}

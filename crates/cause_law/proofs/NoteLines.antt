@@ -16,7 +16,7 @@ use Rattle.scenario_text.specs.declared.line.Note.{Note}
 use Rattle.scenario_text.specs.declared.line.Outcome.{Outcome as ToldOutcome}
 use Rattle.scenario_text.specs.declared.line.Line.{Line}
 use Rattle.scenario_text.specs.declared.line.Line.TheVariants as line
-use Rattle.world_history.specs.ServerNames.{Server, File, RawMap}
+use Rattle.world_history.specs.ServerNames.{RawMap}
 use Rattle.world_history.specs.ClientNames.{CallOp, Outcome}
 use Rattle.world_history.specs.State.{World}
 use Rattle.world_history.specs.Told.{kind_of, told_refusal}

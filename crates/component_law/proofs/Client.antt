@@ -1,6 +1,5 @@
 -- What a client's step does to the sizes that it knows, and to its LAYOUTCOMMIT.
 use Rattle.std.proofs.Common.{◌≡◌, ◌≢◌, ℕ, Bool, List, ◌∷◌, Option, Some, None, find, inl, inr, refl, sym, ap, subst, ◌∙◌}
-use Rattle.layout_ops.specs.declared.args.Args.TheVariants as args
 use Rattle.layout_ops.specs.declared.messages.Answer.{Answer}
 use Rattle.world_history.specs.ClientNames.{Client, Call, CallOp, Held, Due, Awaited, TimedOut, Request, Need, First, Get, Commit, Report, Close, Phase, Starts, Needs, Waits, Reads, Probes, Gathers, Scatters, Turn, Goes, Ends, Forgets, Moved, Done}
 use Rattle.client_rules.specs.Calls.{file_of}

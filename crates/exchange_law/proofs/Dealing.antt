@@ -16,7 +16,7 @@ use Rattle.world_history.specs.declared.messages.Message.{Message}
 use Rattle.world_history.specs.declared.messages.Posted.{Posted}
 use Rattle.world_history.specs.declared.messages.Body.{Body}
 use Rattle.world_history.specs.State.{ClientAt, World, at_number, with_number, with_client}
-use Rattle.world_history.specs.Handed.{Post, plain, is_addressed, quiet, server_post, client_posts, client_body, for_client}
+use Rattle.world_history.specs.Handed.{Post, plain, is_addressed, server_post, client_posts, client_body, for_client}
 use Rattle.world_history.specs.Moves.{Act, Action, adds_client, acts}
 use Rattle.server_rules.proofs.Members.{in_mapped, in_filtered}
 use Rattle.history_law.proofs.FencingMoves.{messages_in}

@@ -1,5 +1,5 @@
 -- Each file has as many components as its map, whatever comes to the server.
-use Rattle.std.proofs.Common.{◌≡◌, ◌≤◌, ◌==◌, ℕ, ◌+◌, Bool, true, false, List, [], ◌∷◌, Option, Some, None, length, map, refl, sym, ap, subst, ◌∙◌, if◌then◌else◌}
+use Rattle.std.proofs.Common.{◌≡◌, ◌≤◌, ◌==◌, ℕ, ◌+◌, Bool, true, false, List, [], ◌∷◌, Option, Some, None, length, refl, sym, ap, subst, ◌∙◌, if◌then◌else◌}
 use Rattle.server_rules.specs.declared.limits.TheConstants.{MAX_FILE_COMPONENTS, GREATEST_TAG}
 use Rattle.world_history.specs.ServerNames.{Server, File, Component, Job, JobKind, Work, Awaited, Grant, RequestArgs, Get, Commit, Return, ClientRequest, Reply, RawMap, Revoking, Targets, Gathers, Fills, Reported}
 use Rattle.server_rules.specs.Numbers.{among}

@@ -21,7 +21,7 @@ use Rattle.world_history.specs.ClientNames.{Client}
 use Rattle.world_history.specs.State.{ClientAt, World, at_number}
 use Rattle.world_history.specs.Told.{kind_of, told_refusal}
 use Rattle.world_history.specs.Names.{where_known, note_line, is_tellable_note, known_note_line, known_outcome}
-use Rattle.world_history.specs.Handed.{Post, quiet, op_in, end_line, ended_by}
+use Rattle.world_history.specs.Handed.{Post, op_in, end_line, ended_by}
 use Rattle.world_history.specs.Moves.{Act, Action, acts}
 use Rattle.world_history.specs.Sending.{Move, move, sent_lines}
 use Rattle.history_law.specs.Moves.{AreQuiet, front_of, MoveCases}

@@ -1,7 +1,7 @@
 -- The machine of a file that was just made: a lawful and calm run has reached it, its clients stand as they do in the world, and
 -- what lies on a drive that has failed is lost.
 -- Towards `EachFileIsCreated` (`file_simulation/specs/Simulation.antt`).
-use Rattle.std.proofs.Common.{◌≡◌, ◌<◌, ◌≤◌, ℕ, zero, suc, ◌+◌, ◌-◌, Bool, true, false, List, [], ◌∷◌, ◌++◌, Option, Some, None, flat_map, slice_get, refl, sym, ap, subst, ◌∙◌, arith}
+use Rattle.std.proofs.Common.{◌≡◌, ◌<◌, ◌≤◌, ℕ, zero, suc, ◌+◌, Bool, true, false, List, [], ◌∷◌, ◌++◌, Option, Some, None, flat_map, slice_get, refl, sym, ap, subst, ◌∙◌, arith}
 use Rattle.std.specs.List.{range_with_len}
 use Rattle.std.proofs.lemmas.List.{append-nil}
 use Rattle.layout_ops.specs.declared.messages.Answer.{Answer as Told}

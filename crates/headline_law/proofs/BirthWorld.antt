@@ -15,7 +15,7 @@ use Rattle.server_rules.specs.Laws.{last_of}
 use Rattle.server_rules.specs.Slots.{slot_of}
 use Rattle.client_rules.specs.Grants.{held_of}
 use Rattle.world_history.specs.Calm.{moment_of}
-use Rattle.world_history.specs.ClientNames.{Client, Call, Held, Request}
+use Rattle.world_history.specs.ClientNames.{Client, Held, Request}
 use Rattle.world_history.specs.Plans.{due}
 use Rattle.world_history.specs.ReadLog.{Log, log_of}
 use Rattle.world_history.specs.Sending.{Move, move}

@@ -1,7 +1,6 @@
 -- The answers that the server sends in a move that is followed fit their bytes.
 use Rattle.std.proofs.Common.{◌≡◌, ◌≤◌, ◌++◌, ◌+◌, ◌^◌, ℕ, List, [], ◌∷◌, Some, slice_get, sym, subst, inl, inr}
 use Rattle.layout_ops.specs.declared.messages.Answer.{Answer}
-use Rattle.scenario_text.specs.declared.event.Event.{Event}
 use Rattle.scenario_text.specs.declared.line.Line.{Line}
 use Rattle.scenario_text.specs.declared.line.Line.TheVariants as line
 use Rattle.server_rules.specs.History.{step}

@@ -19,7 +19,7 @@ use Rattle.server_rules.specs.Laws.{In}
 use Rattle.server_rules.specs.Numbers.{among}
 use Rattle.world_history.specs.declared.messages.Message.{Message}
 use Rattle.world_history.specs.declared.messages.Posted.{Posted}
-use Rattle.world_history.specs.ServerNames.{File, Component, Server}
+use Rattle.world_history.specs.ServerNames.{File, Component}
 use Rattle.world_history.specs.State.{World, DriveAt, at_number}
 use Rattle.world_history.specs.Drives.{verdict_on, is_deaf, command_in}
 use Rattle.world_history.specs.Stripes.{Moment, Mark, component_at, is_lost, is_calm}

@@ -10,7 +10,6 @@ use Rattle.world_history.specs.Plans.{due, due_in, due_by}
 use Rattle.world_history.specs.Refusals.{refusal, if_failed, unless_down, first_of}
 use Rattle.world_history.specs.Sending.{Move, move}
 use Rattle.world_history.specs.State.{World, DriveAt, at_number, with_down}
-use Rattle.world_history.proofs.Always.{opening}
 use Rattle.history_law.specs.BookMoments.{IsMoment, plan_at, lines_in}
 use Rattle.history_law.proofs.DriveEvents.{IsRead, kept}
 use Rattle.history_law.proofs.DriveLines.{drive_read}

@@ -13,7 +13,6 @@ use Rattle.server_rules.specs.Commit.{Committed, NoGrant as NotCommitted, Wrong,
 use Rattle.server_rules.specs.Files.{Step, file_at, at_file, begins, to_drives}
 use Rattle.server_rules.specs.Get.{Early, BadMode, Invalid, Unable, Waits, On, Late, NoNumber, Lacks, Conflict, Gives, early, late, must_fence, by_late, give_or_refuse, after_fence, fence_first, on_grants, by_early, gets}
 use Rattle.server_rules.specs.Going.{Going, noting, noting_if}
-use Rattle.server_rules.specs.Grants.{asked}
 use Rattle.server_rules.specs.History.{Input, step}
 use Rattle.server_rules.specs.Jobs.{fence_begins, making}
 use Rattle.server_rules.specs.Laws.{In}

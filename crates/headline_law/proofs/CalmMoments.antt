@@ -10,11 +10,10 @@ use Rattle.scenario_text.specs.declared.line.Note.{Note as ToldNote}
 use Rattle.scenario_text.specs.declared.line.Note.TheVariants as note
 use Rattle.scenario_text.specs.declared.line.Line.TheVariants as line
 use Rattle.data_map.specs.declared.check.RawMap.{RawMap}
-use Rattle.world_history.specs.ServerNames.{File, Component, Mended, Note}
+use Rattle.world_history.specs.ServerNames.{File, Component, Mended}
 use Rattle.world_history.specs.Stripes.{Mark, Moment, is_repaired, marks_left}
 use Rattle.world_history.specs.Calm.{moment_behind, marks_behind, noted, noted_in, stands_on}
 use Rattle.component_law.specs.Components.{told_by}
-use Rattle.fence_law.specs.State.Event.{Repaired}
 use Rattle.headline_law.specs.Watching.{is_no_repair}
 use Rattle.headline_law.proofs.CalmNotes.{IsOn}
 

@@ -15,7 +15,7 @@ use Rattle.world_history.specs.ReadLog.{Logged, Log}
 use Rattle.world_history.specs.Sending.{Move}
 use Rattle.world_history.specs.Stripes.{Mark, Moment, is_lost}
 use Rattle.world_history.specs.Book.{server_step, sees_server}
-use Rattle.world_history.specs.Calm.{Seen, Watched, watches, watched, begins, begun_file, through, mended_in, moment_of, takes_loss, taken_by, returned_at, marks_at, is_told_taken, seen_after, seen}
+use Rattle.world_history.specs.Calm.{Seen, Watched, watches, watched, begins, begun_file, through, mended_in, moment_of, takes_loss, taken_by, returned_at, marks_at, is_told_taken, seen_after}
 use Rattle.world_history.specs.ReadDrives.{injected_after}
 use Rattle.history_law.specs.Doing.{input_in}
 use Rattle.history_law.specs.Read.{BookIsRead}

@@ -15,7 +15,7 @@ use Rattle.world_history.specs.State.{World, at_number}
 use Rattle.world_history.specs.Names.{note_line}
 use Rattle.world_history.specs.Told.{told_note}
 use Rattle.world_history.specs.Stripes.{Moment, is_calm}
-use Rattle.world_history.specs.Calm.{Watched, watches, moment_behind, noted}
+use Rattle.world_history.specs.Calm.{Watched, watches, moment_behind}
 use Rattle.fence_law.specs.Columns.{IsCalm}
 use Rattle.fence_law.specs.Law.{IsCode}
 use Rattle.fence_law.specs.Machine.{Allowed, Lawful, after, after_all}

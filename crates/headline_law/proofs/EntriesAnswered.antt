@@ -9,7 +9,7 @@ use Rattle.layout_ops.specs.declared.messages.Answer.{Answer}
 use Rattle.layout_ops.specs.declared.statuses.TheConstants.{NFS4_OK, NFS4ERR_BADLAYOUT, NFS4ERR_NOENT, NFS4ERR_LAYOUTTRYLATER, NFS4ERR_RECALLCONFLICT, NFS4ERR_LAYOUTUNAVAILABLE}
 use Rattle.client_rules.specs.Answers.{busy, not_granted, on_commit, committed, not_committed, on_report, is_loss_taken, unavailable}
 use Rattle.client_rules.specs.Calls.{file_of, span_of, is_write}
-use Rattle.client_rules.specs.Going.{quiet, by_turn, phased, over, with_held}
+use Rattle.client_rules.specs.Going.{quiet, by_turn, phased, with_held}
 use Rattle.client_rules.specs.Grants.{held_of}
 use Rattle.client_rules.specs.History.{Input}
 use Rattle.client_rules.specs.Layouts.{taken}

@@ -1,6 +1,6 @@
 -- A call that begins: nothing of it is in the log yet, and its first command is still to be sent.
 -- Towards `CutsShowEntries` (`specs/Parts.antt`).
-use Rattle.std.proofs.Common.{◌≡◌, ◌==◌, ℕ, Bool, true, false, List, [], ◌∷◌, map, Option, Some, None, refl, sym, subst, inr, if◌then◌else◌}
+use Rattle.std.proofs.Common.{◌≡◌, ◌==◌, ℕ, Bool, true, false, List, [], ◌∷◌, Option, Some, None, refl, sym, subst, inr, if◌then◌else◌}
 use Rattle.client_rules.specs.Calls.{span_of, bytes_of, is_write}
 use Rattle.client_rules.specs.Commands.{write_commands}
 use Rattle.client_rules.specs.Going.{begins}

@@ -28,7 +28,7 @@ use Rattle.world_history.specs.ClientNames.{CallOp, Outcome, Outgoing}
 use Rattle.world_history.specs.Handed.{Post, is_addressed, is_write_out, client_posts, ended_by, end_line, op_in}
 use Rattle.world_history.specs.Moves.{acts}
 use Rattle.world_history.specs.Names.{known_outcome}
-use Rattle.world_history.specs.ReadLog.{Pending, Log, log_after, called_beside, begins_beside, sends_write, sends_read, sends_command, sends_in, sends_as, sends}
+use Rattle.world_history.specs.ReadLog.{Pending, Log, log_after, called_beside, begins_beside, sends_write, sends_read, sends_command, sends_in, sends_as}
 use Rattle.world_history.specs.Sending.{Move, sent_lines}
 use Rattle.world_history.specs.State.{World, at_number, without_number}
 use Rattle.world_history.specs.Told.{told_refusal, kind_of}

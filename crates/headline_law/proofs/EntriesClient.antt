@@ -17,7 +17,7 @@ use Rattle.world_history.specs.ReadLog.{Pending, Log, log_after, called, called_
 use Rattle.world_history.specs.Sending.{sent_lines}
 use Rattle.world_history.specs.State.{at_number}
 use Rattle.world_history.specs.Told.{kind_of}
-use Rattle.fence_law.specs.State.{State, Event}
+use Rattle.fence_law.specs.State.{State}
 use Rattle.file_simulation.specs.Showing.{Pairs}
 use Rattle.headline_law.proofs.EntriesCalls.{Stands, AreNamed}
 use Rattle.headline_law.proofs.EntriesNamed.{IsWell, after_well}

@@ -2,7 +2,7 @@
 -- Towards `CutsShowEntries` (`specs/Parts.antt`).
 use Rattle.std.proofs.Common.{◌≡◌, ◌⊎◌, ◌==◌, ℕ, Bool, true, false, List, [], find, Option, Some, None, refl, sym, ap, subst, ◌∙◌, inl, inr, if◌then◌else◌}
 use Rattle.client_rules.specs.Calls.{file_of, is_write}
-use Rattle.client_rules.specs.Going.{begins, begun, by_turn, moved, over, with_held, starts_with, starts_under, starts_at, starts_call, asks_under, requests, returns, returns_due, is_held, progress_phase, progress_call, progress_free, progressed}
+use Rattle.client_rules.specs.Going.{begins, begun, by_turn, moved, with_held, starts_with, starts_under, starts_at, starts_call, asks_under, requests, returns, returns_due, is_held, progress_phase, progress_call, progress_free, progressed}
 use Rattle.client_rules.specs.Grants.{held_of, covers}
 use Rattle.client_rules.specs.Messages.{finished}
 use Rattle.server_rules.specs.Laws.{In}

@@ -8,7 +8,6 @@ use Rattle.client_rules.specs.Calls.{span_of}
 use Rattle.client_rules.specs.Going.{quiet}
 use Rattle.client_rules.specs.History.{Input, Calls, unless_refused, step}
 use Rattle.client_rules.specs.Messages.{Step, still, finished, obeys, no_match}
-use Rattle.client_rules.specs.Replies.{replied}
 use Rattle.client_rules.specs.Steps.{writes_nothing, all_due, calls, is_bad_range, is_spent}
 use Rattle.history_law.specs.Turns.{with_start}
 use Rattle.world_history.specs.ClientNames.{Client, CallOp, Busy, BadRange, SlotSpent, WriteOk}

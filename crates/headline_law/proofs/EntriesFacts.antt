@@ -15,7 +15,7 @@ use Rattle.client_rules.specs.Grants.{held_of}
 use Rattle.client_rules.specs.History.{Input, Calls, Hears, TimesOut, Leaves, Resends, step}
 use Rattle.client_rules.specs.Io.{outs}
 use Rattle.client_rules.specs.Messages.{Step, Message, TakesAnswer, takes, to_drive}
-use Rattle.client_rules.specs.Replies.{answers, timed_after}
+use Rattle.client_rules.specs.Replies.{timed_after}
 use Rattle.client_rules.specs.Steps.{calls}
 use Rattle.gather_law.proofs.Gathered.{long_enough}
 use Rattle.world_history.specs.Calm.{moment_of}

@@ -9,9 +9,8 @@ use Rattle.client_rules.specs.Going.{quiet, moved, by_turn, with_held, begins, b
 use Rattle.client_rules.specs.Grants.{held_of, put_held}
 use Rattle.client_rules.specs.History.{Input, Resends, step}
 use Rattle.client_rules.specs.Messages.{Step, finished, on_call, obeys, no_match}
-use Rattle.client_rules.specs.Replies.{refused, replied, timed_out}
+use Rattle.client_rules.specs.Replies.{replied, timed_out}
 use Rattle.client_rules.specs.Steps.{all_due}
-use Rattle.client_rules.specs.Turns.{turned}
 use Rattle.client_rules.proofs.Numbering.{nonces_rise}
 use Rattle.client_rules.proofs.HeldGrants.{held_file}
 use Rattle.world_history.specs.ClientNames.{Client, Call, CallOp, Held, Awaited, Reply, Phase, Starts, Needs, Waits, Reads, Probes, Gathers, Scatters, Turn, Goes, Ends, Forgets, Close, Silent, Lost, Moved, Done}

@@ -1,6 +1,6 @@
 -- A whole move of a client, up to any line of it.
 -- Towards `CutsShowEntries` (`specs/Parts.antt`).
-use Rattle.std.proofs.Common.{◌≡◌, ◌≤◌, ◌+◌, ℕ, zero, suc, Bool, true, false, List, [], ◌∷◌, ◌++◌, length, take, slice_get, Option, Some, None, refl, sym, ap, subst, ◌∙◌, arith, if◌then◌else◌}
+use Rattle.std.proofs.Common.{◌≡◌, ◌≤◌, ℕ, zero, suc, Bool, true, false, List, [], ◌∷◌, ◌++◌, length, take, slice_get, Option, Some, None, refl, sym, ap, subst, ◌∙◌, arith, if◌then◌else◌}
 use Rattle.std.specs.List.{fold}
 use Rattle.std.specs.Prelude.{is_some}
 use Rattle.osd_lists.specs.declared.node.Node.{Node}
@@ -15,7 +15,7 @@ use Rattle.scenario_text.specs.declared.line.Line.TheVariants as line
 use Rattle.client_rules.specs.History.{Input, Calls, Hears, TimesOut, Leaves}
 use Rattle.world_history.specs.declared.messages.Message.{Message}
 use Rattle.world_history.specs.declared.messages.Posted.{Posted}
-use Rattle.world_history.specs.ClientNames.{Client, Call, CallOp}
+use Rattle.world_history.specs.ClientNames.{Client, CallOp}
 use Rattle.world_history.specs.Handed.{for_client}
 use Rattle.world_history.specs.Moves.{Action, Opens, Delivers, Pends, op_of}
 use Rattle.world_history.specs.Moves as moves

@@ -9,7 +9,7 @@ use Rattle.layout_ops.specs.declared.messages.Answer.{Answer}
 use Rattle.layout_types.specs.declared.ioerrs.IoErr.{IoErr}
 use Rattle.osd_commands.specs.declared.replies.Reply.{Reply}
 use Rattle.client_rules.specs.Calls.{file_of, span_of, bytes_of, is_write}
-use Rattle.client_rules.specs.Going.{quiet, moved, begun, by_turn, over, with_held, progressed}
+use Rattle.client_rules.specs.Going.{quiet, moved, begun, by_turn, with_held, progressed}
 use Rattle.client_rules.specs.Grants.{held_of, covers}
 use Rattle.client_rules.specs.History.{Input, Calls, Resends, step}
 use Rattle.client_rules.specs.Messages.{Step, still, finished, to_drive}

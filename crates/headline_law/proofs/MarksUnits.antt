@@ -1,6 +1,6 @@
 -- What a new WRITE carries is in the unit in which it begins: it was sent before, or its client scatters it behind the move.
 -- Towards `WritesStayTied` (`specs/MarksTied.antt`).
-use Rattle.std.proofs.Common.{◌≡◌, ◌<◌, ◌+◌, ◌++◌, ℕ, true, List, map, slice_get, Option, Some, None, refl, sym, ap, subst, ◌∙◌}
+use Rattle.std.proofs.Common.{◌≡◌, ◌<◌, ◌++◌, ℕ, true, List, slice_get, Option, Some, None, refl, sym, ap, subst, ◌∙◌}
 use Rattle.data_map.specs.declared.check.RawMap.{RawMap}
 use Rattle.data_map.specs.Check.{IsChecked}
 use Rattle.osd_commands.specs.declared.actions.Action.TheVariants.{Write}
@@ -17,7 +17,7 @@ use Rattle.client_rules.specs.Io.{awaited_in}
 use Rattle.world_history.specs.ClientNames.{Awaited, Call, Held, Phase, Starts, Needs, Waits, Reads, Probes, Gathers, Scatters, ToDrive}
 use Rattle.world_history.specs.ServerNames.{File, Component}
 use Rattle.world_history.specs.State.{World, ClientAt, at_number}
-use Rattle.world_history.specs.Sending.{Move, move, fresh}
+use Rattle.world_history.specs.Sending.{Move, move}
 use Rattle.history_law.specs.Moments.{IsMoment, lines_in}
 use Rattle.exchange_law.specs.InStep.{state_of}
 use Rattle.exchange_law.specs.Sent.{HasSent}

@@ -4,10 +4,9 @@ use Rattle.std.proofs.Common.{◌≡◌, ◌==◌, ◌++◌, ℕ, Bool, true, fa
 use Rattle.std.proofs.lemmas.Bool.{true≢false, cases_Bool, eq-eqb, ne_eqb}
 use Rattle.server_rules.specs.Going.{Going, noting, noting_if}
 use Rattle.server_rules.specs.Grants.{merged, count_stripes}
-use Rattle.server_rules.specs.Jobs.{making, loses}
+use Rattle.server_rules.specs.Jobs.{making}
 use Rattle.server_rules.specs.Laws.{In}
 use Rattle.server_rules.specs.Repair.{mended}
-use Rattle.server_rules.specs.Replies.{others}
 use Rattle.server_rules.proofs.Members.{in_either}
 use Rattle.world_history.specs.ServerNames.{Effects, Note, NoteKind, Ready, Repaired, NoDrive, NoSpace, Spent, Reported, Mended, Stripes}
 use Rattle.headline_law.proofs.PartWalk.{PartCases}

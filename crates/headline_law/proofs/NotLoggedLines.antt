@@ -25,7 +25,6 @@ use Rattle.scenario_text.specs.declared.line.Line.{Line}
 use Rattle.scenario_text.specs.declared.line.Line.TheVariants as line
 use Rattle.server_rules.specs.Laws.{In}
 use Rattle.client_rules.specs.Calls.{file_of}
-use Rattle.world_history.specs.declared.messages.Message.{Message}
 use Rattle.world_history.specs.ClientNames.{CallOp}
 use Rattle.world_history.specs.Handed.{Post}
 use Rattle.world_history.specs.Moves.{op_of}

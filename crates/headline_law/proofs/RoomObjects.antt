@@ -6,7 +6,7 @@ use Rattle.server_rules.specs.declared.limits.TheConstants.{MAX_FILE_COMPONENTS}
 use Rattle.server_rules.specs.Files.{Step, begins, at_file}
 use Rattle.server_rules.specs.Going.{Going}
 use Rattle.server_rules.specs.History.{Input, Makes, step}
-use Rattle.server_rules.specs.Jobs.{making, loses, declares}
+use Rattle.server_rules.specs.Jobs.{making, declares}
 use Rattle.server_rules.specs.Making.{with_file, makes_file, refusal}
 use Rattle.server_rules.specs.Openings.{opens, opens_each}
 use Rattle.server_rules.specs.Orders.{offline, declare, declares_each}

@@ -9,7 +9,7 @@ use Rattle.client_rules.specs.declared.limits.TheConstants.{MAX_CALL}
 use Rattle.client_rules.specs.Answers.{committed, on_commit, not_committed, not_granted, refused_with}
 use Rattle.client_rules.specs.Calls.{file_of, span_of}
 use Rattle.client_rules.specs.Commands.{of_component}
-use Rattle.client_rules.specs.Going.{quiet, over, with_held, by_turn, moved, begins, begun, requests, asks_under, returns}
+use Rattle.client_rules.specs.Going.{quiet, over, with_held, by_turn, moved, begins, requests, asks_under, returns}
 use Rattle.client_rules.specs.Grants.{held_of}
 use Rattle.client_rules.specs.History.{Input, Calls, unless_refused, step}
 use Rattle.client_rules.specs.Io.{awaited_in}

@@ -1,5 +1,5 @@
 -- What a job read of its first piece are rows of the machine's cells behind each whole move.
-use Rattle.std.proofs.Common.{◌≡◌, ◌⊎◌, ◌==◌, ◌++◌, ℕ, ◌+◌, ◌≤◌, ◌<◌, Bool, true, false, List, [], ◌∷◌, length, Option, Some, None, refl, sym, ap, subst, ◌∙◌, arith, inl, inr}
+use Rattle.std.proofs.Common.{◌≡◌, ◌⊎◌, ◌==◌, ◌++◌, ℕ, ◌+◌, ◌≤◌, ◌<◌, Bool, true, false, List, [], ◌∷◌, Option, Some, None, refl, sym, ap, subst, ◌∙◌, arith, inl, inr}
 use Rattle.std.proofs.lemmas.Bool.{and_parts, eqb-true}
 use Rattle.std.proofs.lemmas.Option.{same_Some}
 use Rattle.data_map.specs.Striping.{offset_of}
@@ -11,7 +11,7 @@ use Rattle.server_rules.specs.Files.{Step, file_at}
 use Rattle.server_rules.specs.History.{Input, step}
 use Rattle.server_rules.specs.Laws.{In, EachStepIsSafe}
 use Rattle.server_rules.specs.Messages.{awaited_by}
-use Rattle.server_rules.specs.Replies.{answers, is_done}
+use Rattle.server_rules.specs.Replies.{answers}
 use Rattle.world_history.specs.ServerNames.{Server, File, Kept, Piece, Awaited, Heard, Job, Work, Creates, Fences, Fetches, Stores, Targets, Gathers, Fills, Lengths, Checks}
 use Rattle.world_history.specs.Sending.{Move, move}
 use Rattle.world_history.specs.State.{World}

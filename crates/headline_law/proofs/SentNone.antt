@@ -18,7 +18,7 @@ use Rattle.client_rules.specs.Messages.{Message as ClientMessage}
 use Rattle.world_history.specs.Moves.{Act, Action, Opens, Delivers, TimesOut, Pends, acts}
 use Rattle.world_history.specs.Sending.{Move, move, sends_all}
 use Rattle.component_law.proofs.Doing.{IsAllowed}
-use Rattle.history_law.specs.Said.{said, posted}
+use Rattle.history_law.specs.Said.{posted}
 use Rattle.history_law.specs.Moves.{MoveCases, IsForClient, asked_in, number_in}
 use Rattle.history_law.proofs.Moves.{each_act}
 use Rattle.history_law.proofs.Goes.{moves_are_steps}

@@ -7,7 +7,7 @@ use Rattle.server_rules.specs.Commit.{Committed, NoGrant, Wrong, Sizes, commit_r
 use Rattle.server_rules.specs.Files.{at_file}
 use Rattle.server_rules.specs.Grants.{grant_of}
 use Rattle.server_rules.specs.Requests.{answer_with}
-use Rattle.world_history.specs.ServerNames.{File, Grant, Still, ClientRequest, Commit as Commits}
+use Rattle.world_history.specs.ServerNames.{File, Still, ClientRequest, Commit as Commits}
 use Rattle.world_history.specs.State.{World}
 use Rattle.fence_law.specs.State as machine
 use Rattle.fence_law.specs.State.{State}

@@ -7,7 +7,7 @@ use Rattle.scenario_text.specs.declared.line.Line.{Line}
 use Rattle.server_rules.specs.History.{Hears, Obeys}
 use Rattle.server_rules.specs.Laws.{In, NoneBeside}
 use Rattle.server_rules.specs.Messages.{Replies}
-use Rattle.server_rules.specs.Replies.{answers, others, heard_with}
+use Rattle.server_rules.specs.Replies.{answers, heard_with}
 use Rattle.world_history.specs.ServerNames.{File, Still, Piece, Target, Job, Work, Creates, Fences, Fetches, Stores, Targets, Gathers, Fills, Lengths, Checks, Awaited, ToDeclare}
 use Rattle.world_history.specs.State.{World}
 use Rattle.world_history.specs.Sending.{Move}

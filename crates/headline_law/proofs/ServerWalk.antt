@@ -27,7 +27,7 @@ use Rattle.plan_law.specs.FileLayout.{layout_of}
 use Rattle.plan_law.proofs.Codes.{layouts_are_codes}
 use Rattle.file_simulation.specs.Components.{has_failed}
 use Rattle.file_simulation.specs.EventLists.{where_so}
-use Rattle.file_simulation.specs.ServerEvents.{noted_here, rebuilt, cells_made}
+use Rattle.file_simulation.specs.ServerEvents.{noted_here, cells_made}
 use Rattle.file_simulation.specs.Showing.{IsRun}
 use Rattle.relation_law.specs.ComponentsWalk as told
 use Rattle.relation_law.specs.KeptGuards.{HasLayout}

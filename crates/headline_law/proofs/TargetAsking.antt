@@ -1,6 +1,6 @@
 -- Each source of a piece is asked, and a new file's job has no target.
 -- Towards `EachTargetIsWellAsked` (`specs/TargetLaws.antt`).
-use Rattle.std.proofs.Common.{◌≡◌, ℕ, ◌+◌, ◌-◌, ◌/◌, Bool, true, false, List, [], ◌∷◌, map, Option, Some, None, refl, sym, ap, subst, ◌∙◌, arith, inl, eq-eqb, if◌then◌else◌}
+use Rattle.std.proofs.Common.{◌≡◌, ℕ, ◌+◌, ◌/◌, Bool, true, false, List, [], ◌∷◌, Option, Some, None, refl, sym, ap, subst, ◌∙◌, arith, inl, eq-eqb, if◌then◌else◌}
 use Rattle.data_map.specs.declared.check.RawMap.{RawMap}
 use Rattle.data_map.specs.Striping.{replicas, offset_of}
 use Rattle.server_rules.specs.Commands.{Which, Creating, Reading, All, Only, FirstsOf, is_meant, to_all}

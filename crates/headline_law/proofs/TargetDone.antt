@@ -11,7 +11,7 @@ use Rattle.scenario_text.specs.declared.line.Line.{Line}
 use Rattle.server_rules.specs.declared.limits.TheConstants.{SERVER_HOLDER}
 use Rattle.server_rules.specs.Laws.{In}
 use Rattle.server_rules.specs.Messages.{Replies, awaited_by}
-use Rattle.server_rules.specs.Replies.{Done, answers, hearing, others}
+use Rattle.server_rules.specs.Replies.{Done, answers, hearing}
 use Rattle.history_law.specs.Said.{IsDelivered}
 use Rattle.history_law.specs.Spent.{HasPassed, IsSpent}
 use Rattle.component_law.proofs.NamedLines.{are_named}

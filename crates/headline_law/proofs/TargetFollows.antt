@@ -1,10 +1,9 @@
 -- Behind each whole move the target of a rebuild is as the machine has it.
 -- Towards `TargetsFollow` (`specs/Parts.antt`).
-use Rattle.std.proofs.Common.{◌≡◌, ◌++◌, ℕ, ◌+◌, ◌<◌, false, List, [], ◌∷◌, map, Option, Some, None, refl, sym, ap, subst, ◌∙◌, arith, inl, inr}
+use Rattle.std.proofs.Common.{◌≡◌, ◌++◌, ℕ, ◌<◌, false, List, [], ◌∷◌, Option, Some, None, refl, sym, ap, subst, ◌∙◌, arith, inl, inr}
 use Rattle.std.proofs.lemmas.Option.{same_Some}
 use Rattle.data_map.specs.declared.check.RawMap.{RawMap}
 use Rattle.osd_lists.specs.declared.node.Node.TheVariants as node
-use Rattle.osd_commands.specs.declared.actions.Action.TheVariants as action
 use Rattle.osd_objects.specs.declared.object.StoredObject.{StoredObject}
 use Rattle.scenario_text.specs.declared.line.Line.{Line}
 use Rattle.server_rules.specs.Files.{file_at}

@@ -1,9 +1,8 @@
 -- What a rebuild made anew in a move of the server stands behind it as the machine has it.
 -- Towards `EachRebuiltStands` (`relation_law/specs/ComponentsFollow.antt`).
-use Rattle.std.proofs.Common.{◌≡◌, ◌||◌, ◌++◌, ℕ, ◌+◌, ◌<◌, Bool, true, false, not, List, slice_get, Option, Some, None, refl, sym, ap, subst, ◌∙◌, arith, inr}
+use Rattle.std.proofs.Common.{◌≡◌, ◌||◌, ◌++◌, ℕ, ◌<◌, Bool, true, false, not, List, slice_get, Option, Some, None, refl, sym, ap, subst, ◌∙◌, arith, inr}
 use Rattle.std.proofs.lemmas.Bool.{true≢false}
 use Rattle.osd_lists.specs.declared.node.Node.TheVariants as node
-use Rattle.osd_commands.specs.declared.actions.Action.TheVariants as action
 use Rattle.osd_objects.specs.declared.object.StoredObject.{StoredObject}
 use Rattle.osd_objects.specs.declared.lanes.LaneEntry.{LaneEntry}
 use Rattle.osd_objects.specs.Store.{lane_or_none}

@@ -52,7 +52,7 @@ use Rattle.headline_law.specs.TargetLaws.{EachTargetIsWellMade}
 use Rattle.headline_law.specs.Parts.{PartsBehind}
 use Rattle.headline_law.specs.TargetDrives.{HasToDo, TargetObjectsStay}
 use Rattle.headline_law.specs.TargetGoes.{IsSameStill, AsksAgain, WaitsOn, TargetsGo}
-use Rattle.headline_law.proofs.TargetBefore.{TargetLaws, scenario, code, right, well, still_in, is_still, none, fit_job, job_is}
+use Rattle.headline_law.proofs.TargetBefore.{TargetLaws, scenario, code, right, still_in, is_still, none, fit_job, job_is}
 use Rattle.headline_law.proofs.TargetBytes.{same_machine}
 use Rattle.headline_law.proofs.UsedDrives.{stored_used}
 use Rattle.headline_law.proofs.TargetKeeps.{IsSameMachine, same_words, source_stays, LeavesTarget, target_as}

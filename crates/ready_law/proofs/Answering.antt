@@ -1,5 +1,5 @@
 -- Each ready call whose event is over ended in ok, within its bound of messages.
-use Rattle.std.proofs.Common.{◌≡◌, ◌≤◌, ◌+◌, ◌*◌, max, ℕ, false, List, [], ◌∷◌, ◌++◌, length, map, fold, slice_get, Option, Some, None, is_err, refl, sym, ap, subst, ◌∙◌, append_assoc, arith}
+use Rattle.std.proofs.Common.{◌≡◌, ◌≤◌, ◌+◌, ◌*◌, max, ℕ, false, List, [], ◌∷◌, ◌++◌, length, fold, slice_get, Option, Some, None, is_err, refl, sym, ap, subst, ◌∙◌, append_assoc, arith}
 use Rattle.std.specs.List.{list_any, sum_by}
 use Rattle.std.proofs.Math.Nat.{mul-le-mul_left}
 use Rattle.std.proofs.lemmas.Bool.{or_parts}
@@ -18,7 +18,6 @@ use Rattle.client_rules.specs.Calls.{span_of}
 use Rattle.world_history.specs.ClientNames.{CallOp}
 use Rattle.world_history.specs.declared.limits.TheConstants.{MAX_KEPT}
 use Rattle.world_history.specs.declared.messages.Sent.{Sent}
-use Rattle.world_history.specs.declared.messages.Message.{Message}
 use Rattle.world_history.specs.State.{World, ClientAt, at_number}
 use Rattle.world_history.specs.Moves.{Action, Opens, op_of}
 use Rattle.world_history.specs.Sending.{Move, move}
@@ -26,7 +25,6 @@ use Rattle.world_history.specs.Reading.{arrived, left_out, changed_by, changed_a
 use Rattle.world_history.specs.Plans.{Plan, Rule, went_on, plan_of, is_refused}
 use Rattle.world_history.specs.Runs.{world_after, lines_of, AreDue, plan_after, IsOver, Carries}
 use Rattle.world_history.specs.History.{Lawful, StandsFor, OneEventMore}
-use Rattle.world_history.specs.Guesses.{unguessed}
 use Rattle.world_history.specs.Laws.{shown, MessagesAreRead}
 use Rattle.history_law.specs.Read.{AreWritten}
 use Rattle.history_law.proofs.Staying.{written_front}

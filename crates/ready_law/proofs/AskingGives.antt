@@ -1,5 +1,5 @@
 -- What the server answers to a LAYOUTGET of the call: the grant, or that those are recalled that conflict.
-use Rattle.std.proofs.Common.{◌≡◌, ◌≢◌, ◌≤◌, ◌<◌, ◌+◌, ◌*◌, ℕ, zero, suc, min, Bool, true, false, true≢false, not, nat_lt, List, [], ◌∷◌, ◌++◌, length, slice_get, Some, None, is_some, Ok, inl, inr, refl, sym, ap, subst, ◌∙◌, eq-eqb, ne_eqb, arith, if◌then◌else◌}
+use Rattle.std.proofs.Common.{◌≡◌, ◌≤◌, ◌<◌, ◌+◌, ◌*◌, ℕ, zero, suc, min, Bool, true, false, true≢false, not, nat_lt, List, [], ◌∷◌, ◌++◌, length, slice_get, Some, None, is_some, Ok, inl, inr, refl, sym, ap, subst, ◌∙◌, eq-eqb, ne_eqb, arith, if◌then◌else◌}
 use Rattle.std.proofs.lemmas.Bool.{cases_eq, le-ltb}
 use Rattle.scenario_text.specs.declared.names.TheConstants.{CLIENTS}
 use Rattle.scenario_text.specs.declared.event.Event.{Event}
@@ -32,7 +32,6 @@ use Rattle.exchange_law.proofs.CountGrowing.{text_behind}
 use Rattle.exchange_law.proofs.HeldTaken.{gained, takes}
 use Rattle.exchange_law.proofs.HeldWorlds.{reached, readable_there}
 use Rattle.cause_law.proofs.Files.{few_there}
-use Rattle.cause_law.specs.Queue.{queue}
 use Rattle.cause_law.proofs.Queue.{queue_is_due}
 use Rattle.ready_law.specs.Ready.{stands}
 use Rattle.ready_law.proofs.Calls.{ReadyCall, op_at, file_at_call, kept_at, wanted_at, opposed_at, queue_at, IsIn, DeliversHead, request_message, answer_message}

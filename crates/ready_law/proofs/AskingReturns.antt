@@ -1,5 +1,5 @@
 -- A held grant that doesn't cover the call goes back before another one is asked for.
-use Rattle.std.proofs.Common.{◌≡◌, ◌+◌, ℕ, List, [], ◌∷◌, ◌++◌, Option, Some, None, option_map, inl, refl, sym, ap, subst, ◌∙◌, arith}
+use Rattle.std.proofs.Common.{◌≡◌, ℕ, List, [], ◌∷◌, ◌++◌, Option, Some, None, option_map, inl, refl, sym, ap, subst, ◌∙◌, arith}
 use Rattle.scenario_text.specs.declared.line.Line.{Line}
 use Rattle.server_rules.specs.Grants.{grant_of, without}
 use Rattle.server_rules.specs.Slots.{admit, slot_of}

@@ -30,7 +30,6 @@ use Rattle.world_history.specs.State.{World, ClientAt, at_number}
 use Rattle.world_history.specs.Moves.{Action, Delivers, acts}
 use Rattle.world_history.specs.Sending.{Move, move}
 use Rattle.history_law.specs.BookMoments.{lines_in}
-use Rattle.exchange_law.specs.Doing.{posted}
 use Rattle.exchange_law.specs.InStep.{state_of}
 use Rattle.exchange_law.proofs.Admitting.{is_next}
 use Rattle.exchange_law.proofs.Covered.{inside_limit}

@@ -38,7 +38,6 @@ use Rattle.exchange_law.specs.InStep.{state_of}
 use Rattle.exchange_law.specs.LaneTaken.{is_of_lanes, AwaitedAreTaken}
 use Rattle.exchange_law.specs.Meeting.{KeptGood, IsMet, ClientsAgree}
 use Rattle.exchange_law.specs.Placed.{IsPlaced}
-use Rattle.exchange_law.specs.Text.{AreFew}
 use Rattle.exchange_law.specs.Awaited as awaited
 use Rattle.exchange_law.proofs.Commands.{MaySend, credential_found}
 use Rattle.exchange_law.proofs.DriveNumbers.{drive_number}

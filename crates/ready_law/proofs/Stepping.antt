@@ -5,7 +5,7 @@ use Rattle.osd_lists.specs.declared.node.Node.TheVariants.{Server as FromServer,
 use Rattle.layout_ops.specs.declared.statuses.TheConstants.{NFS4_OK, NFS4ERR_LAYOUTTRYLATER}
 use Rattle.server_rules.specs.Laws.{In}
 use Rattle.client_rules.specs.declared.limits.TheConstants.{MAX_TRIES}
-use Rattle.client_rules.specs.Answers.{busy, refused_with, not_granted, committed, on_commit, is_loss_taken, on_report}
+use Rattle.client_rules.specs.Answers.{busy, refused_with, not_granted, on_commit, is_loss_taken, on_report}
 use Rattle.client_rules.specs.Calls.{file_of, span_of}
 use Rattle.client_rules.specs.Commands.{of_component}
 use Rattle.client_rules.specs.Going.{quiet, phased, over, with_held, moved, by_turn, begins, starts_with, starts_under, begun, requests, asks_under, is_held, returns, returns_due, progress_free, progressed}

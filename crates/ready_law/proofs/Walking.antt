@@ -5,8 +5,6 @@ use Rattle.std.proofs.lemmas.Bool.{or_from}
 use Rattle.std.proofs.lemmas.List.{append-nil, length-append}
 use Rattle.std.proofs.lemmas.List.Folds.{list_any-append}
 use Rattle.std.proofs.lemmas.List.Sums.{fold-append}
-use Rattle.scenario_text.specs.declared.event.Event.{Event}
-use Rattle.scenario_text.specs.declared.event.Event.TheVariants as event
 use Rattle.scenario_text.specs.declared.line.Line.{Line}
 use Rattle.scenario_text.specs.declared.line.Line.TheVariants as line
 use Rattle.client_rules.specs.Messages.{awaited_of}
@@ -26,14 +24,14 @@ use Rattle.history_law.specs.Read.{AreWritten}
 use Rattle.history_law.proofs.Staying.{written_front}
 use Rattle.history_law.specs.Moments.{IsMoment, with_event, lines_in, plan_at}
 use Rattle.history_law.proofs.Goes.{moves_are_steps}
-use Rattle.exchange_law.specs.Doing.{said, posted}
+use Rattle.exchange_law.specs.Doing.{posted}
 use Rattle.exchange_law.specs.Text.{AreOfText, AreFew}
 use Rattle.exchange_law.proofs.CountGrowing.{fewer, text_front}
 use Rattle.exchange_law.proofs.HeldWorlds.{next_moment}
 use Rattle.exchange_law.proofs.Knowing.{lawful_at}
 use Rattle.cause_law.specs.Readable.{FilesAndAnswersAreReadable}
 use Rattle.cause_law.specs.Lines.{is_event}
-use Rattle.cause_law.specs.Queue.{queue, IsHead}
+use Rattle.cause_law.specs.Queue.{IsHead}
 use Rattle.cause_law.proofs.Eventless.{NoEvent, first_plain, later_plain}
 use Rattle.cause_law.proofs.Queue.{queue_is_due, said_length}
 use Rattle.ready_law.specs.Answered.{EndsOk, ends_call}

@@ -26,7 +26,6 @@ use Rattle.world_history.specs.Sending.{Move, move}
 use Rattle.history_law.specs.BookMoments.{lines_in}
 use Rattle.exchange_law.specs.Doing.{posted}
 use Rattle.ready_law.specs.Answered.{ends_call, IsOk}
-use Rattle.ready_law.specs.Ready.{touched}
 use Rattle.ready_law.specs.Reacting.{components_of, IsLostThere, AreTimedWell, EndsWell}
 use Rattle.ready_law.specs.Stepping.{holding, asks_step, ends_step}
 use Rattle.ready_law.proofs.ReactingGood.{reached_there}

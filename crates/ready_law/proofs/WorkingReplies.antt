@@ -1,5 +1,5 @@
 -- A reply to a working call comes, or a component times out.
-use Rattle.std.proofs.Common.{◌≡◌, ◌≢◌, ◌⊎◌, ◌+◌, ◌==◌, not, ℕ, true, List, [], ◌∷◌, ◌++◌, length, filter, option_map, Option, Some, true≢false, refl, sym, ap, subst, ◌∙◌, inl, inr, arith, eq-eqb, if◌then◌else◌}
+use Rattle.std.proofs.Common.{◌≡◌, ◌⊎◌, ◌+◌, ◌==◌, not, ℕ, true, List, [], ◌∷◌, ◌++◌, length, filter, option_map, Option, Some, true≢false, refl, sym, ap, subst, ◌∙◌, inl, inr, arith, eq-eqb, if◌then◌else◌}
 use Rattle.std.proofs.lemmas.Bool.{eqb-true}
 use Rattle.osd_lists.specs.declared.node.Node.{Node}
 use Rattle.server_rules.specs.Laws.{In}

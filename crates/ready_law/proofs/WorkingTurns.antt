@@ -24,7 +24,6 @@ use Rattle.history_law.specs.BookMoments.{lines_in}
 use Rattle.exchange_law.specs.ClientNonces.{AllDiffer}
 use Rattle.exchange_law.specs.Doing.{posted}
 use Rattle.ready_law.specs.Answered.{ends_call}
-use Rattle.ready_law.specs.Ready.{touched}
 use Rattle.ready_law.specs.Reacting as reacting
 use Rattle.ready_law.specs.Reacting.{WorksWell, IsAwaitedWell, timed_in, is_writing}
 use Rattle.ready_law.specs.Stepping.{holding, in_phase}

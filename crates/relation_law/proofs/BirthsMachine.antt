@@ -11,7 +11,7 @@ use Rattle.fence_law.specs.Columns.{IsCalm}
 use Rattle.fence_law.specs.Machine.{Allowed, Lawful as IsLawfulRun, after, after_all, new_file_state}
 use Rattle.fence_law.specs.Law.{Calms}
 use Rattle.fence_law.proofs.Words.{updated_same}
-use Rattle.file_simulation.specs.Creation.{earlier, asked}
+use Rattle.file_simulation.specs.Creation.{earlier}
 
 -- ---- what stays as it was
 

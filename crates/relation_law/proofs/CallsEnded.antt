@@ -1,6 +1,6 @@
 -- The line that tells how a call has ended: behind its events the client is at nothing.
 -- Towards `CallsGoOn` (`specs/Steps.antt`).
-use Rattle.std.proofs.Common.{◌≡◌, ◌==◌, not, ℕ, ◌-◌, ◌*◌, ◌<◌, Bool, true, false, [], ◌∷◌, Option, Some, None, length, refl, sym, subst, ◌∙◌, inl, inr}
+use Rattle.std.proofs.Common.{◌≡◌, ◌==◌, not, ℕ, ◌*◌, ◌<◌, Bool, true, false, [], ◌∷◌, Option, Some, None, refl, sym, subst, ◌∙◌, inl, inr}
 use Rattle.std.specs.Prelude.{nat_lt}
 use Rattle.std.proofs.lemmas.Bool.{cases_Bool, eq-eqb, ne_eqb}
 use Rattle.data_map.specs.declared.check.RawMap.{RawMap}

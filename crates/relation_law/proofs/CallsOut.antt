@@ -1,10 +1,9 @@
 -- The WRITEs of a running write: one more is sent.
 -- Towards `CallsGoOn` (`specs/Steps.antt`).
-use Rattle.std.proofs.Common.{◌≡◌, ◌⊎◌, ℕ, ◌+◌, Bool, true, false, List, [], ◌∷◌, ◌++◌, refl, sym, ap, ◌∙◌, inl, inr, filter, if◌then◌else◌}
+use Rattle.std.proofs.Common.{◌≡◌, ◌⊎◌, ℕ, Bool, true, false, List, [], ◌∷◌, ◌++◌, refl, sym, ap, ◌∙◌, inl, inr, filter, if◌then◌else◌}
 use Rattle.std.proofs.lemmas.Bool.{true≢false, cases_eq}
 use Rattle.server_rules.specs.Laws.{In}
 use Rattle.server_rules.proofs.Members.{in_either, in_front, in_behind, in_filtered}
-use Rattle.client_rules.specs.Commands.{others}
 use Rattle.world_history.specs.ClientNames.{CallOp, Awaited, TimedOut, Store, Column}
 use Rattle.fence_law.specs.Words.{updated}
 use Rattle.fence_law.specs.State.{State, Grant, PartState}

@@ -1,6 +1,6 @@
 -- An answer to a return of the file, or to a LAYOUTGET: the machine's client takes what comes.
 -- Towards `CallsGoOn` (`specs/Steps.antt`).
-use Rattle.std.proofs.Common.{◌≡◌, ◌≢◌, ◌==◌, ℕ, ◌*◌, ◌<◌, Bool, true, false, [], ◌∷◌, Option, Some, None, Result, Ok, Err, refl, sym, ap, subst, ◌∙◌, inl, inr}
+use Rattle.std.proofs.Common.{◌≡◌, ◌==◌, ℕ, ◌*◌, ◌<◌, Bool, true, false, [], ◌∷◌, Option, Some, None, Result, Ok, Err, refl, sym, ap, subst, ◌∙◌, inl, inr}
 use Rattle.std.proofs.lemmas.Bool.{true≢false, cases_Bool, eqb-true}
 use Rattle.data_map.specs.declared.check.RawMap.{RawMap}
 use Rattle.layout_ops.specs.declared.messages.Answer.{Answer}

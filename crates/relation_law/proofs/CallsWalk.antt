@@ -12,7 +12,7 @@ use Rattle.client_rules.specs.Grants.{held_of}
 use Rattle.client_rules.specs.History.{Input, Calls, Hears, TimesOut, Leaves, Resends, unless_refused, step}
 use Rattle.client_rules.specs.Io.{awaited_in}
 use Rattle.client_rules.specs.Messages.{Step, Message, Answers, Replies, Recalls, TakesAnswer, TakesRecall, Taken, is_awaited, still, finished, obeys, no_match, recalled, takes, by_taken, hears, answer_taken, reply_taken, awaited_of, reply_call, reply_under}
-use Rattle.client_rules.specs.Replies.{answers, replied, timed_out}
+use Rattle.client_rules.specs.Replies.{answers, timed_out}
 use Rattle.client_rules.specs.Requests.{grant_in}
 use Rattle.client_rules.specs.Steps.{is_bad_range, is_spent, writes_nothing, starts, calls, timeout_under, timeout_call, times_out, leaves}
 use Rattle.world_history.specs.ClientNames.{Client, Call, CallOp, Busy, BadRange, SlotSpent, Held, Awaited, Request, Recall, Reply, WriteOk}

@@ -6,7 +6,6 @@ use Rattle.std.proofs.lemmas.Bool.{cases_Bool}
 use Rattle.osd_drive.proofs.Clear.{all_told}
 use Rattle.osd_drive.specs.State.{key_of_version}
 use Rattle.osd_lists.specs.declared.node.Node.TheVariants as node
-use Rattle.scenario_text.specs.declared.event.Event.{Event}
 use Rattle.scenario_text.specs.declared.event.Event.TheVariants as event
 use Rattle.scenario_text.specs.declared.line.Line.{Line}
 use Rattle.scenario_text.specs.declared.line.Line.TheVariants as line

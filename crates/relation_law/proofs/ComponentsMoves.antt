@@ -12,7 +12,6 @@ use Rattle.server_rules.specs.Messages.{Message, Asks, Replies, Orders}
 use Rattle.server_rules.specs.Orders.{offline, ordered}
 use Rattle.world_history.specs.ServerNames.{File, Component, Note, Drive, ToRecall, ToRevoke, ToDeclare, ToRebuild, ToAudit}
 use Rattle.world_history.specs.State.{World}
-use Rattle.world_history.specs.Sending.{sends_all}
 use Rattle.component_law.specs.Distinct.{AreDistinct}
 use Rattle.fence_law.specs.Words.{In as InRun}
 use Rattle.fence_law.specs.State.{State, Event}

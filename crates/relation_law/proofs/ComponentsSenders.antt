@@ -4,7 +4,6 @@ use Rattle.std.proofs.Common.{◌≡◌, ◌<◌, ℕ, suc, List, [], ◌∷◌,
 use Rattle.std.proofs.lemmas.List.{append-nil}
 use Rattle.std.proofs.lemmas.Option.{slice_get_within}
 use Rattle.osd_commands.specs.Commands.{reading, spelling}
-use Rattle.osd_commands.specs.declared.actions.Action.TheVariants as action
 use Rattle.osd_commands.specs.declared.commands.Command.{Command}
 use Rattle.osd_drive.proofs.Clear.{all_told}
 use Rattle.osd_lists.specs.declared.node.Node.{Node}
@@ -26,7 +25,7 @@ use Rattle.client_rules.specs.Io.{awaited_in}
 use Rattle.history_law.specs.Names.{Server, ToDrive}
 use Rattle.history_law.specs.Owned.{AreOwned}
 use Rattle.history_law.proofs.JobSteps.{step_owns}
-use Rattle.world_history.specs.ClientNames.{Awaited, Call, Client, Held}
+use Rattle.world_history.specs.ClientNames.{Awaited, Call, Held}
 use Rattle.world_history.specs.ServerNames.{File}
 use Rattle.world_history.specs.declared.messages.Body.{Body}
 use Rattle.world_history.specs.declared.messages.Body.TheVariants.{Command as OfCommand, Reply as OfReply, Envelope as OfEnvelope}

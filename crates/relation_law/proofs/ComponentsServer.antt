@@ -27,7 +27,7 @@ use Rattle.relation_law.specs.ComponentsBehind.{AreUnready, RebuiltStand}
 use Rattle.relation_law.specs.ComponentsWalk.{noted_after}
 use Rattle.relation_law.specs.Frames.{AreAll, ClientsStay, RepliesStay}
 use Rattle.relation_law.proofs.FramesClient.{where_all}
-use Rattle.relation_law.proofs.ComponentsFirst.{spared, IssuesNone, unissued}
+use Rattle.relation_law.proofs.ComponentsFirst.{IssuesNone, unissued}
 use Rattle.relation_law.proofs.ComponentsKept.{stands_kept}
 use Rattle.relation_law.proofs.ComponentsNotes.{Leaves, Told, WasKept, AreTold}
 use Rattle.relation_law.proofs.DriveStays.{IsAlike}

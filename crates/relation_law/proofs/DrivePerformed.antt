@@ -12,7 +12,7 @@ use Rattle.scenario_text.specs.declared.names.TheConstants.{CLIENTS}
 use Rattle.world_history.specs.ServerNames.{File, Component}
 use Rattle.world_history.specs.State.{World, DriveAt}
 use Rattle.world_history.specs.Stripes.{component_at}
-use Rattle.fence_law.specs.State.{State, Event, Write}
+use Rattle.fence_law.specs.State.{State, Event}
 use Rattle.fence_law.specs.State.Event.{Performs, SetsTag, Repairs, Shows}
 use Rattle.fence_law.specs.Machine.{Lawful, after, after_all}
 use Rattle.fence_law.proofs.Safe.{Safe}

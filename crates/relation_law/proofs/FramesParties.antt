@@ -8,7 +8,7 @@ use Rattle.scenario_text.specs.declared.event.Event.TheVariants as scenario
 use Rattle.scenario_text.specs.declared.line.Line.{Line}
 use Rattle.server_rules.specs.History.{Input, step as server_step}
 use Rattle.client_rules.specs.History.{step}
-use Rattle.world_history.specs.ServerNames.{Server, File}
+use Rattle.world_history.specs.ServerNames.{File}
 use Rattle.world_history.specs.declared.messages.Message.{Message}
 use Rattle.world_history.specs.declared.messages.Posted.{Posted}
 use Rattle.world_history.specs.State.{World}

@@ -19,7 +19,7 @@ use Rattle.client_rules.specs.Answers.{is_loss_taken}
 use Rattle.world_history.specs.ServerNames as server_rules
 use Rattle.world_history.specs.ServerNames.{Server, File, Component, ClientRequest, RequestArgs, Get as Gets, Commit as Commits, Return as Returns, Note, NoteKind, Outgoing, Answers, OrderKind, ToRecall, ToRevoke, ToDeclare, ToRebuild, ToAudit}
 use Rattle.world_history.specs.State.{World, at_number}
-use Rattle.fence_law.specs.State.{State, Event, Grant, RequestKind}
+use Rattle.fence_law.specs.State.{State, Event, RequestKind}
 use Rattle.fence_law.specs.State.RequestKind.{Get, Return}
 use Rattle.fence_law.specs.State.Event.{Fences, Fenced, Refenced}
 use Rattle.fence_law.specs.Machine.{after_all}

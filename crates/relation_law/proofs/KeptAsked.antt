@@ -21,7 +21,6 @@ use Rattle.relation_law.specs.KeptAsked.{AsksAs}
 use Rattle.relation_law.specs.KeptGets.{IsRefused, IsGiven, GetsAs, Refused, Given_}
 use Rattle.relation_law.specs.KeptSteps.{AllLight, notes_events, behind_notes, IsKeptAt}
 use Rattle.relation_law.proofs.KeptGrants.{grants_kept}
-use Rattle.relation_law.proofs.KeptRounds.{done}
 use Rattle.relation_law.proofs.KeptServer.{light_kept}
 
 -- ---- the answer to a LAYOUTGET

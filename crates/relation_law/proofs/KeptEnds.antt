@@ -18,7 +18,7 @@ use Rattle.fence_law.specs.Machine.{Lawful, after, after_all}
 use Rattle.fence_law.proofs.Safe.{Safe}
 use Rattle.file_simulation.specs.EventLists.{where_so}
 use Rattle.file_simulation.specs.Phases.{OutstandingIs, IsStill, IsEnded, IsFencing, IsRepairing, PhaseIs, AreBelowHigh}
-use Rattle.file_simulation.specs.ServerEvents.{begins_fence, fences}
+use Rattle.file_simulation.specs.ServerEvents.{begins_fence}
 use Rattle.relation_law.specs.KeptSteps.{core, IsSoFar, IsKeptAt}
 use Rattle.component_law.specs.KeptWalk.{IsWalked}
 use Rattle.relation_law.proofs.KeptHigh.{high_after}

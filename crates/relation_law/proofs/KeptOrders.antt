@@ -5,7 +5,6 @@ use Rattle.osd_lists.specs.declared.node.Node.{Node}
 use Rattle.osd_lists.specs.declared.node.Node.TheVariants as node
 use Rattle.layout_ops.specs.declared.envelope.Envelope.TheVariants as envelope
 use Rattle.layout_ops.proofs.Whole.{all_again}
-use Rattle.layout_ops.specs.declared.orders.Order.{Order}
 use Rattle.client_rules.specs.History.{step as client_step}
 use Rattle.server_rules.specs.Envelopes as server_bytes
 use Rattle.server_rules.specs.Envelopes.{message_in}

@@ -8,7 +8,7 @@ use Rattle.component_law.specs.Tagged.{fence_open}
 use Rattle.server_rules.specs.Files.{Step, still, begins, file_at, put_file, at_file, step_at}
 use Rattle.server_rules.specs.Get.{lowest}
 use Rattle.server_rules.specs.Going.{Going, noting, with_components}
-use Rattle.server_rules.specs.History.{Input, Hears, Makes, Obeys, Adds, Zones, Formats, Resends, Crashes, Opens, step}
+use Rattle.server_rules.specs.History.{Input, Hears, Makes, Obeys, Adds, Zones, Formats, Resends, Crashes, Opens}
 use Rattle.server_rules.specs.Jobs.{ending, fence_begins, declares, declared_in, targets}
 use Rattle.server_rules.specs.Laws.{In}
 use Rattle.server_rules.specs.Orders.{offline, declare, begins_job, starts, recalls_on, declares_known}

@@ -12,7 +12,7 @@ use Rattle.stripe_plan.specs.Words.{answered}
 use Rattle.server_rules.specs.Laws.{In}
 use Rattle.client_rules.specs.Calls.{span_of, is_write}
 use Rattle.client_rules.specs.Commands.{nonce_at, others, counted, command, sealed, credential_of}
-use Rattle.client_rules.specs.Grants.{clipped, is_for, covers}
+use Rattle.client_rules.specs.Grants.{clipped, is_for}
 use Rattle.client_rules.specs.Io.{outs, had, had_positions, got_of}
 use Rattle.client_rules.specs.Requests.{object_of}
 use Rattle.client_rules.specs.Reads.{reads_on, reads_due, reads_unless, reads, probes_on, probes_due, is_probe_lost, probes_sent, probes_by, probes, first_present}

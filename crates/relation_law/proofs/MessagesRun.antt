@@ -13,7 +13,7 @@ use Rattle.client_rules.specs.Layouts.{taken}
 use Rattle.client_rules.specs.Requests.{args_of, get_args, return_args}
 use Rattle.client_rules.specs.Results.{status_of}
 use Rattle.client_rules.specs.Answers.{on_commit, committed, not_committed, refused_with, not_granted}
-use Rattle.client_rules.specs.Going.{phased, over, with_held, by_turn, moved, begins, begun, held_after, requests, asks_server, asks_under, returns}
+use Rattle.client_rules.specs.Going.{phased, over, with_held, by_turn, moved, begins, held_after, requests, asks_server, asks_under, returns}
 use Rattle.client_rules.specs.Messages.{Step, finished, answered_get, on_get, commit_under}
 use Rattle.client_rules.proofs.ReadMoves.{FitsOutcome, weaker}
 use Rattle.client_rules.proofs.HeldGrants.{held_file, put_at}

@@ -1,6 +1,6 @@
 -- Each move of a call with the drives keeps what a read and a gather have.
 -- Towards `EventsAreLawful` (`specs/Steps.antt`).
-use Rattle.std.proofs.Common.{◌≡◌, ℕ, ◌+◌, ◌==◌, Bool, true, false, List, [], ◌∷◌, ◌++◌, inl, inr}
+use Rattle.std.proofs.Common.{◌≡◌, ℕ, ◌==◌, Bool, true, false, List, [], ◌∷◌, ◌++◌, inl, inr}
 use Rattle.std.specs.Prelude.{if◌then◌else◌}
 use Rattle.server_rules.specs.Laws.{In}
 use Rattle.client_rules.specs.declared.limits.TheConstants.{PERFORMED, OTHER_TAG}

@@ -31,7 +31,7 @@ use Rattle.exchange_law.proofs.CountGrowing.{as_many, fewer, text_front}
 use Rattle.exchange_law.proofs.HeldWorlds.{next_moment, reached}
 use Rattle.exchange_law.proofs.Replied.{read_at}
 use Rattle.fence_law.specs.State.{State, Event}
-use Rattle.fence_law.specs.Machine.{Lawful, after, after_all}
+use Rattle.fence_law.specs.Machine.{Lawful, after_all}
 use Rattle.fence_law.proofs.Safe.{Safe, safe_all}
 use Rattle.file_simulation.specs.ClientEvents as table
 use Rattle.file_simulation.specs.ClientEvents.{Going, going_in}

@@ -1,6 +1,6 @@
 -- Behind a whole move what may still come to a component is of the file's repair.
 -- Towards `JobsGoOn` (`relation_law`).
-use Rattle.std.proofs.Common.{◌≡◌, ◌⊎◌, ◌||◌, ◌&&◌, ◌++◌, ℕ, ◌+◌, ◌<◌, ◌^◌, Bool, true, false, not, nat_lt, length, map, List, [], ◌∷◌, slice_get, Option, Some, None, refl, sym, ap, subst, ◌∙◌, inl, inr, arith}
+use Rattle.std.proofs.Common.{◌≡◌, ◌⊎◌, ◌||◌, ◌&&◌, ◌++◌, ℕ, ◌<◌, ◌^◌, Bool, true, false, not, nat_lt, length, map, List, [], ◌∷◌, slice_get, Option, Some, None, refl, sym, ap, subst, ◌∙◌, inl, inr, arith}
 use Rattle.std.specs.Prelude.{take}
 use Rattle.std.proofs.lemmas.Bool.{cases_eq}
 use Rattle.std.proofs.lemmas.Bool.Decides.{nat_tests}

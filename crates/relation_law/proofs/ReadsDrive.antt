@@ -1,6 +1,6 @@
 -- A drive replies that it performed a READ that a client's call awaits: what it read is shown to the call's entry.
 -- Towards `ReadsGoOn` (`specs/Steps.antt`).
-use Rattle.std.proofs.Common.{nat_eq, ◌≡◌, ℕ, ◌==◌, Bool, true, false, List, [], ◌∷◌, length, take, drop, Option, Some, None, Ok, refl, sym, ap, subst, ◌∙◌, inl, inr, eq-eqb, eqb-true}
+use Rattle.std.proofs.Common.{nat_eq, ◌≡◌, ℕ, ◌==◌, Bool, true, false, List, [], ◌∷◌, take, drop, Option, Some, None, Ok, refl, sym, ap, subst, ◌∙◌, inl, inr, eq-eqb, eqb-true}
 use Rattle.std.proofs.lemmas.Bool.{cases_Bool, and_parts, true≢false}
 use Rattle.osd_lists.specs.declared.node.Node.TheVariants as node
 use Rattle.osd_commands.specs.declared.actions.Action.{Action}

@@ -18,7 +18,7 @@ use Rattle.server_rules.specs.History as server
 use Rattle.client_rules.specs.History as client
 use Rattle.world_history.specs.Moves.{Act, Action, Opens, Delivers, TimesOut, Pends, acts}
 use Rattle.world_history.specs.Sending.{Move, move}
-use Rattle.history_law.specs.Said.{said, posted, IsDelivered}
+use Rattle.history_law.specs.Said.{posted, IsDelivered}
 use Rattle.history_law.specs.Moves.{MoveCases, number_in}
 use Rattle.history_law.proofs.Moves.{each_act}
 use Rattle.history_law.proofs.Goes.{moves_are_steps}

@@ -1,6 +1,6 @@
 -- A client in the middle of a step has asked what its call waits for, and holds no grant that it returns.
 -- Towards `ReturnsAreHeld` (`specs/RequestsGoing.antt`).
-use Rattle.std.proofs.Common.{◌≡◌, ◌≢◌, ◌==◌, ℕ, Bool, true, false, List, [], Option, Some, None, find, refl, sym, ap, subst, ◌∙◌, if◌then◌else◌}
+use Rattle.std.proofs.Common.{◌≡◌, ◌==◌, ℕ, Bool, true, false, List, [], Option, Some, None, find, refl, sym, ap, subst, ◌∙◌, if◌then◌else◌}
 use Rattle.std.proofs.lemmas.Bool.{true≢false}
 use Rattle.layout_types.specs.declared.ioerrs.IoErr.{IoErr}
 use Rattle.client_rules.specs.Calls.{file_of}
@@ -15,7 +15,7 @@ use Rattle.exchange_law.proofs.ClientKeeping.{put_other, none_left, without_read
 use Rattle.relation_law.specs.Requests.{waits_in, Works, IsReturning}
 use Rattle.relation_law.specs.RequestsClients.{IsReturnOf, AsksBy, NeedsHeld, IsCommit, AsksFor}
 use Rattle.relation_law.proofs.RequestsDealt.{file_of_moved, begins_file}
-use Rattle.relation_law.proofs.RequestsMoves.{WorksTurn, WorksMoved, turn_of, needs, begins_works}
+use Rattle.relation_law.proofs.RequestsMoves.{WorksTurn, WorksMoved, turn_of, begins_works}
 
 -- ---- words
 

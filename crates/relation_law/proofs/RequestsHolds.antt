@@ -1,8 +1,7 @@
 -- A client returns a grant only while it holds one on that file.
 -- Towards `ReturnsAreHeld` (`specs/RequestsGoing.antt`).
-use Rattle.std.proofs.Common.{◌≡◌, ◌≢◌, ◌==◌, true, List, [], ◌∷◌, ◌++◌, Option, Some, None, find, refl, sym, ap, subst, ◌∙◌, inl, inr}
+use Rattle.std.proofs.Common.{◌≡◌, ◌==◌, true, List, [], ◌∷◌, ◌++◌, Option, Some, None, find, refl, sym, ap, subst, ◌∙◌, inl, inr}
 use Rattle.std.proofs.lemmas.Bool.{cases_Bool, true≢false}
-use Rattle.layout_ops.specs.declared.args.Args.TheVariants as args
 use Rattle.client_rules.specs.Calls.{file_of}
 use Rattle.client_rules.specs.Going.{asks_under, returns, requests, progressed, is_held}
 use Rattle.client_rules.specs.Grants.{held_of}

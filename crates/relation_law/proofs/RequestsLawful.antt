@@ -18,7 +18,6 @@ use Rattle.fence_law.specs.State.RequestKind.{Get}
 use Rattle.fence_law.specs.Machine.{Allowed, Lawful, after, after_all}
 use Rattle.file_simulation.specs.Relation.{client_of}
 use Rattle.file_simulation.specs.Requests.{Own, Other, phase_of, class_by, class_of}
-use Rattle.file_simulation.specs.ServerEvents as table
 use Rattle.relation_law.specs.Requests.{SteadyStays}
 use Rattle.relation_law.specs.RequestsGoing.{CarriesOut}
 use Rattle.relation_law.proofs.RequestsGuards.{refuses_may, asks_stay}

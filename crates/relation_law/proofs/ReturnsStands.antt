@@ -13,7 +13,6 @@ use Rattle.server_rules.proofs.FileLaws.{file_in}
 use Rattle.world_history.specs.ClientNames.{Client, CallOp, Held}
 use Rattle.world_history.specs.ServerNames.{Server, File}
 use Rattle.world_history.specs.History.{OneEventMore}
-use Rattle.world_history.specs.Moves.{acts}
 use Rattle.world_history.specs.State.{World, ClientAt, at_number}
 use Rattle.history_law.specs.Grants.{GrantsAreSafe}
 use Rattle.history_law.specs.BookMoments.{IsMoment}

@@ -10,7 +10,7 @@ use Rattle.server_rules.specs.Commit.{Committed, NoGrant, Wrong, Sizes, by_commi
 use Rattle.server_rules.specs.Files.{Step, still, begins, file_at, put_file, add_file, at_file, step_at, to_drives}
 use Rattle.server_rules.specs.Get.{Early, BadMode, Invalid, Unable, Waits, On, Late, NoNumber, Lacks, Conflict, Gives, by_late, late, give_or_refuse, after_fence, fence_first, on_grants, must_fence, by_early, gets}
 use Rattle.server_rules.specs.Going.{Going, noting, noting_if, keeping, with_components, rests, over, waits_on}
-use Rattle.server_rules.specs.History.{Input, step}
+use Rattle.server_rules.specs.History.{Input}
 use Rattle.server_rules.specs.Jobs.{making, fence_begins, loses, declares, declared_in, is_target, others_than, targets, is_made}
 use Rattle.server_rules.specs.Laws.{In}
 use Rattle.server_rules.specs.Making.{with_file, makes_file, set_format}

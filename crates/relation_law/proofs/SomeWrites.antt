@@ -1,7 +1,7 @@
 -- A write of some bytes sends something, whatever its gather got, where no touched stripe lacks more positions than it has
 -- parity: of the units that it changes, which are one of data and all of parity, one isn't out.
 -- Towards `CallsGoOn` (`relation_law/specs/Steps.antt`).
-use Rattle.std.proofs.Common.{◌≡◌, ◌⊎◌, ◌==◌, ◌<◌, ◌≤◌, ◌||◌, ℕ, zero, suc, ◌+◌, ◌-◌, ◌*◌, Bool, true, false, List, [], length, refl, ap, subst, arith, inl, inr}
+use Rattle.std.proofs.Common.{◌≡◌, ◌⊎◌, ◌==◌, ◌<◌, ◌≤◌, ◌||◌, ℕ, zero, suc, ◌+◌, ◌*◌, Bool, true, false, List, [], length, refl, ap, subst, arith, inl, inr}
 use Rattle.std.specs.Prelude.{filter, None, nat_le}
 use Rattle.std.specs.List.{range_with_len}
 use Rattle.std.proofs.lemmas.Bool.{cases_Bool, eq-eqb, le-leb, eqb-true}

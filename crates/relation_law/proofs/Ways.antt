@@ -1,7 +1,7 @@
 -- How a file goes on in a step of the server, once for all laws of jobs: by its job, by a request, or as it was.
-use Rattle.std.proofs.Common.{◌≡◌, ◌==◌, ◌||◌, ℕ, ◌+◌, Bool, true, false, List, [], ◌∷◌, ◌++◌, map, Option, Some, None, refl, sym, ap, subst, ◌∙◌, if◌then◌else◌}
+use Rattle.std.proofs.Common.{◌≡◌, ◌==◌, ◌||◌, ℕ, Bool, true, false, List, [], ◌∷◌, ◌++◌, Option, Some, None, refl, sym, ap, subst, ◌∙◌, if◌then◌else◌}
 use Rattle.server_rules.specs.declared.limits.TheConstants.{GREATEST_TAG}
-use Rattle.server_rules.specs.Files.{begins, file_at, at_file}
+use Rattle.server_rules.specs.Files.{file_at, at_file}
 use Rattle.server_rules.specs.Going.{Going, noting, noting_if, with_components}
 use Rattle.server_rules.specs.History.{Input}
 use Rattle.server_rules.specs.Jobs.{making, fence_begins, loses, declares, declared_in, is_target, others_than, targets}

@@ -29,7 +29,7 @@ use Rattle.relation_law.proofs.MessagesAlways.{found_one}
 use Rattle.relation_law.proofs.RequestsDealt.{file_of_moved, replied_file, timed_out_file, begins_file}
 use Rattle.relation_law.specs.CallsTurns.{IsWorking}
 use Rattle.relation_law.specs.Working.{QueueIn, WorksUnder, CallWorks, ClientWorks, SentIn, DoneWorks, TurnWorks, MovedWorks}
-use Rattle.relation_law.proofs.Works.{ends, forgets, needs, works_of, free_works, quiet_works, accounted_works, replied_works, timed_works, begins_works}
+use Rattle.relation_law.proofs.Works.{ends, forgets, works_of, free_works, quiet_works, accounted_works, replied_works, timed_works, begins_works}
 
 pub none_sent : (cs : List Awaited) (x : Option Call) → cs ≡ [] → SentIn cs x
 none_sent cs None none = tt
