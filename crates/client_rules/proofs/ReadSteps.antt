@@ -43,9 +43,9 @@ abbrev pub GoodCall : List Held → Option Call → List Column → Type 0
 GoodCall hs None got = Unit {0}
 GoodCall hs (Some call) got = GoodAt hs call.op call.phase got
 
-record IsGood (c : Client) (got : List Column) : Type 0 where
-  checked : AreChecked c.held
-  call : GoodCall c.held c.call got
+pub record IsGood (c : Client) (got : List Column) : Type 0 where
+  pub checked : AreChecked c.held
+  pub call : GoodCall c.held c.call got
 
 abbrev pub Fits : (List ℕ → Type 0) → Option Outcome → Type 0
 Fits Fit None = Unit {0}
