@@ -10,7 +10,10 @@ pub mod PlainStages
 pub mod PlainAlone
 pub mod PlainPending
 pub mod PlainReads
+pub mod Wrote
+pub mod OwnEntries
 pub mod PlainLogged
 pub mod PlainAnswers
+pub mod PlainWrites
 pub mod PlainSent
 pub mod PlainWhole

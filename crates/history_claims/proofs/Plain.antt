@@ -39,7 +39,8 @@ use Rattle.ready_law.specs.Ready.{Scene, scene_of, IsReady}
 use Rattle.ready_law.specs.Worlds.{ScenesAreRead}
 use Rattle.ready_law.proofs.Walking.{clean_behind}
 use Rattle.headline_law.specs.Claim.{IsRight, HeadlineHolds}
-use Rattle.history_claims.specs.Plain.{AreOnlyOf, ReadyCallsAreAlone, AnsweredAreLogged, ReadyReadsArePlain}
+use Rattle.history_claims.specs.Logged.{EndedAreLogged}
+use Rattle.history_claims.specs.Plain.{AreOnlyOf, ReadyCallsAreAlone, ReadyReadsArePlain}
 use Rattle.history_claims.proofs.PlainLog.{Runs, HasBegun, IsAnsweredIn, lines_run, call_runs, end_answers, lines_behind, file_log}
 
 -- ---- what the judge says of the log
@@ -81,7 +82,7 @@ pub record PlainLaws : Type 0 where
   pub answered : ReadyIsAnswered
   pub right : HeadlineHolds
   pub alone : ReadyCallsAreAlone
-  pub logged : AnsweredAreLogged
+  pub logged : EndedAreLogged
   pub apart : EventsStandApart
   pub scenes : ScenesAreRead
   pub pending : (w : World) (h : List Line) → IsMoment w h → AreOfText h → (c : ℕ) → IsPendingAt w (log_in h) c
@@ -190,9 +191,11 @@ module _ (laws : PlainLaws) (h : List Line) (lawful : Lawful h) (are_written : A
         where
           by : Runs c file offset count old (log_in upto) → HasBegun c file offset count old (log_in upto)
           by (inl k) =
-              let n = laws.logged h lawful are_written of_text few upto its (e.back ++ over.after) upto_is
-              (record { call = call.Read file offset count; entry = None }) k.pending refl in
-              absurd (cc n.1)
+              let n = laws.logged h lawful are_written of_text few upto its (e.back ++ over.after) upto_is in
+              let one : Some n.pending ≡ Some (record { call = call.Read file offset count; entry = None }) =
+              sym n.there ∙ k.pending in
+              let same : n.pending ≡ record { call = call.Read file offset count; entry = None } = cc one in
+              let none : None ≡ Some n.number = sym (ap (λ (p : Pending). p.entry) same) ∙ n.entry in absurd (cc none)
           by (inr k) = k
 
       log_whole : log_in whole ≡ fold log_after (log_after (log_in upto) its) e.back

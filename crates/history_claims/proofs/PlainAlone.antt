@@ -13,12 +13,10 @@ use Rattle.world_history.specs.Moves.{Action, Opens, Delivers, TimesOut, Pends, 
 use Rattle.world_history.specs.Sending.{Move, move}
 use Rattle.world_history.specs.Plans.{Plan, Rule, Alone, Prompt, next_pending, due_pending, due_by, due, when_quiet, quiet_at, went_on, plan_of, rule_of, is_refused}
 use Rattle.world_history.specs.Runs.{lines_of, AreDue, plan_after, Carries}
-use Rattle.world_history.specs.Guesses.{unguessed}
 use Rattle.world_history.proofs.ReadMessages.{never_opens}
 use Rattle.history_law.specs.Read.{AreWritten}
 use Rattle.history_law.specs.Moments.{IsMoment, with_event, lines_in}
 use Rattle.history_law.proofs.Staying.{written_front}
-use Rattle.exchange_law.specs.Doing.{posted}
 use Rattle.exchange_law.proofs.HeldWorlds.{next_moment}
 use Rattle.cause_law.specs.Queue.{IsHead}
 use Rattle.cause_law.specs.Readable.{FilesAndAnswersAreReadable}

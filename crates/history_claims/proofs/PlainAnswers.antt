@@ -1,5 +1,5 @@
--- An answered read has an entry in the log.
-use Rattle.std.proofs.Common.{◌≡◌, ◌&&◌, ◌+◌, nat_lt, ℕ, Bool, true, false, List, [], ◌∷◌, ◌++◌, length, Option, Some, None, refl, sym, ap, subst, ◌∙◌}
+-- A read that was answered, and a write of some bytes that was acknowledged, has its entry in the log.
+use Rattle.std.proofs.Common.{◌≡◌, ◌&&◌, ◌+◌, nat_lt, ℕ, Bool, true, false, List, [], ◌∷◌, ◌++◌, length, Option, Some, None, refl, sym, ap, subst, ◌∙◌, inl, inr}
 use Rattle.std.specs.Prelude.{option_map}
 use Rattle.std.specs.List.{filter_map, cons_option}
 use Rattle.std.proofs.lemmas.List.Sums.{fold-append}
@@ -36,10 +36,12 @@ use Rattle.exchange_law.specs.Pending.{logged_op}
 use Rattle.exchange_law.proofs.Along.{lawful}
 use Rattle.exchange_law.proofs.CountGrowing.{fewer, text_front}
 use Rattle.headline_law.specs.Claim.{IsOfScenario}
-use Rattle.history_claims.specs.Plain.{IsLoggedAt, AnsweredAreLogged}
-use Rattle.history_claims.proofs.PlainLogged.{LoggedLaws, OfClient, reads_by, all_logged}
-use Rattle.history_claims.proofs.PlainPending.{event_keeps}
+use Rattle.history_claims.specs.Logged.{IsLoggedAt, HasItsEntry, EndedAreLogged}
+use Rattle.history_claims.proofs.OwnEntries.{entries_are_own}
+use Rattle.history_claims.proofs.PlainLogged.{LoggedLaws, OfClient, reads_by, all_logged, sound}
+use Rattle.history_claims.proofs.PlainPending.{IsIn, event_keeps}
 use Rattle.history_claims.proofs.PlainReads.{HasWorked, read_worked}
+use Rattle.history_claims.proofs.Wrote.{written_late, answered_read}
 
 -- ---- lines that tell no answer
 
@@ -49,10 +51,12 @@ At b l = IsOfScenario b → IsLoggedAt b l
 
 abbrev IsNoAnswer : Line → Type 0
 IsNoAnswer (line.Ended c (outcome.ReadOk bytes)) = ⊥
+IsNoAnswer (line.Ended c (outcome.WriteOk count)) = ⊥
 IsNoAnswer l = Unit {0}
 
 no_answer : (b : List Line) (l : Line) → IsNoAnswer l → At b l
 no_answer b (line.Ended c (outcome.ReadOk bytes)) n = absurd n
+no_answer b (line.Ended c (outcome.WriteOk count)) n = absurd n
 no_answer b l n = λ s. tt
 
 quiet_at : (b : List Line) (ls : List Line) → AreQuiet ls → EachBehind At b ls
@@ -61,6 +65,7 @@ quiet_at b (l ∷ ls) q = (no_answer b l (by l q.0), quiet_at (b ++ l ∷ []) ls
   where
     by : (x : Line) → IsQuiet x → IsNoAnswer x
     by (line.Ended c (outcome.ReadOk bytes)) y = y
+    by (line.Ended c (outcome.WriteOk count)) y = y
     by x y = tt
 
 sent_at : (b : List Line) (n : ℕ) (ps : List Post) → EachBehind At b (sent_lines n ps)
@@ -82,21 +87,22 @@ known_end : (b : List Line) (c : ℕ) (known : Bool) (o : ToldOutcome) → IsNoA
 known_end b c true o n = (no_answer b (line.Ended c o) n, tt)
 known_end b c false o n = tt
 
--- an end that isn't an answer
+-- any end, by those that are ok
 other_end : (b : List Line) (c : ℕ) (kind : CallKind) (o : Outcome) → ((bytes : List ℕ) → o ≡ client_rules.ReadOk bytes →
-    At b (line.Ended c (outcome.ReadOk bytes))) → EachBehind At b (end_line c (known_outcome kind o))
-other_end b c kind (client_rules.ReadOk bytes) its = (its bytes refl, tt)
-other_end b c kind (client_rules.WriteOk n) its = (λ s. tt, tt)
-other_end b c kind client_rules.NoFile its = (λ s. tt, tt)
-other_end b c kind (client_rules.HeldBy k) its = known_end b c (is_tellable (client_rules.HeldBy k)) _ tt
-other_end b c kind (client_rules.Fencing n) its = (λ s. tt, tt)
-other_end b c kind (client_rules.Degraded n) its = (λ s. tt, tt)
-other_end b c kind client_rules.Spent its = (λ s. tt, tt)
-other_end b c kind (client_rules.Status status detail) its = (λ s. tt, tt)
-other_end b c kind (client_rules.Refused d n e) its = known_end b c (is_tellable (client_rules.Refused d n e)) _ tt
-other_end b c kind (client_rules.Silent n) its = (λ s. tt, tt)
-other_end b c kind (client_rules.Lost ps) its = (λ s. tt, tt)
-other_end b c kind (client_rules.BadLayout y) its = (λ s. tt, tt)
+    At b (line.Ended c (outcome.ReadOk bytes))) → ((count : ℕ) → o ≡ client_rules.WriteOk count →
+    At b (line.Ended c (outcome.WriteOk count))) → EachBehind At b (end_line c (known_outcome kind o))
+other_end b c kind (client_rules.ReadOk bytes) its wrote = (its bytes refl, tt)
+other_end b c kind (client_rules.WriteOk n) its wrote = (wrote n refl, tt)
+other_end b c kind client_rules.NoFile its wrote = (λ s. tt, tt)
+other_end b c kind (client_rules.HeldBy k) its wrote = known_end b c (is_tellable (client_rules.HeldBy k)) _ tt
+other_end b c kind (client_rules.Fencing n) its wrote = (λ s. tt, tt)
+other_end b c kind (client_rules.Degraded n) its wrote = (λ s. tt, tt)
+other_end b c kind client_rules.Spent its wrote = (λ s. tt, tt)
+other_end b c kind (client_rules.Status status detail) its wrote = (λ s. tt, tt)
+other_end b c kind (client_rules.Refused d n e) its wrote = known_end b c (is_tellable (client_rules.Refused d n e)) _ tt
+other_end b c kind (client_rules.Silent n) its wrote = (λ s. tt, tt)
+other_end b c kind (client_rules.Lost ps) its wrote = (λ s. tt, tt)
+other_end b c kind (client_rules.BadLayout y) its wrote = (λ s. tt, tt)
 
 -- ---- a move
 
@@ -121,38 +127,51 @@ module _ (laws : LoggedLaws) (w : World) (h : List Line) (k : IsMoment w h) (cho
   )
 
   module _ (c : ℕ) (a : ClientAt) (found : at_number w.clients c ≡ Some a) (i : Input) where
-    -- the entry of a read that is answered
+    o : OfClient h c a.state
+    o = all_logged laws scenario_front w h k c a found
+
+    -- the entry of its call
+    its_entry : (b : List Line) → Base b → IsOfScenario b → (call : Call) → a.state.call ≡ Some call → (write : Bool) →
+        is_write call.op ≡ write → IsIn (log_in h) c → HasItsEntry (log_in b) c write
+    its_entry b base s call pending write its i =
+        let op : logged_op (at_number (log_in h).pending c) ≡ Some call.op =
+        laws.pending w h k (base.1 s) c ∙ ap (λ (z : Client). option_map (λ (y : Call). y.op) z.call) (ap (state_of c) found)
+        ∙ ap (option_map (λ (z : Call). z.op)) pending in
+        let there : at_number (log_in b).pending c ≡ Some i.0 = base.0 i.0 c i.1 in
+        let one : Some (op_of i.0.call) ≡ Some call.op = sym (ap logged_op i.1) ∙ op in
+        let same : op_of i.0.call ≡ call.op = cc one in
+        record {
+          pending = i.0;
+          there = there;
+          kind = ap is_write same ∙ its;
+          number = i.2.0;
+          entry = i.2.1;
+          own = entries_are_own b c i.2.0 i.0 there i.2.1;
+        }
+
+    -- a read that is answered
     answered : (b : List Line) → Base b → (bytes : List ℕ) → (step a.state i).outcome ≡ Some (client_rules.ReadOk bytes) →
         At b (line.Ended c (outcome.ReadOk bytes))
-    answered b base bytes is s p there read = by (at_number (log_in h).pending c) refl
-      where
-        o : OfClient h c a.state
-        o = all_logged laws scenario_front w h k c a found
+    answered b base bytes is s =
+        let t = reads_took_replies c 1 o.inputs i bytes
+        (ap (λ (z : Client). (step z i).outcome) (sym o.ran) ∙ is) in
+        let n : HasWorked a.state (reads_by c o.inputs) =
+        read_worked a.state (reads_by c o.inputs) i (λ e.
+        t.some (ap (λ (z : Client). read_after z (reads_by c o.inputs) i) (sym o.ran) ∙ e)) in
+        let r = answered_read a.state i (sound c a.state o) bytes is in
+        let one : Some r.call ≡ Some n.call = sym r.pending ∙ n.pending in
+        let same : r.call ≡ n.call = cc one in
+        let read : is_write n.call.op ≡ false = ap (λ (z : Call). is_write z.op) (sym same) ∙ r.read in
+        its_entry b base s n.call n.pending false read (o.logged (base.1 s) n read)
 
-        n : HasWorked a.state (reads_by c o.inputs)
-        n =
-            let t = reads_took_replies c 1 o.inputs i bytes
-            (ap (λ (z : Client). (step z i).outcome) (sym o.ran) ∙ is) in
-            read_worked a.state (reads_by c o.inputs) i (λ e.
-            t.some (ap (λ (z : Client). read_after z (reads_by c o.inputs) i) (sym o.ran) ∙ e))
-
-        op : logged_op (at_number (log_in h).pending c) ≡ Some n.call.op
-        op =
-            laws.pending w h k (base.1 s) c ∙ ap (λ (z : Client). option_map (λ (y : Call). y.op) z.call) (ap (state_of c) found)
-            ∙ ap (option_map (λ (z : Call). z.op)) n.pending
-
-        by : (q : Option Pending) → at_number (log_in h).pending c ≡ q → (n : ℕ) × (p.entry ≡ Some n)
-        by None none = absurd (cc (sym op ∙ ap logged_op none))
-        by (Some q) some =
-            let one : Some q ≡ Some p = sym (base.0 q c some) ∙ there in
-            let same : q ≡ p = cc one in
-            let its : Some (op_of q.call) ≡ Some n.call.op = sym (ap logged_op some) ∙ op in
-            let call : op_of q.call ≡ n.call.op = cc its in
-            let e = o.logged (base.1 s) n
-            (sym (ap is_write call) ∙ ap (λ (z : Pending). is_write (op_of z.call)) same ∙ read) in
-            let two : Some e.0 ≡ Some q = sym e.1 ∙ some in
-            let its_p : e.0 ≡ p = cc (two ∙ one) in
-            (e.2.0, sym (ap (λ (z : Pending). z.entry) its_p) ∙ e.2.1)
+    -- a write that is acknowledged
+    acknowledged : (b : List Line) → Base b → (count : ℕ) → (step a.state i).outcome ≡ Some (client_rules.WriteOk count) →
+        At b (line.Ended c (outcome.WriteOk count))
+    acknowledged b base count is s some = elim (written_late a.state i (sound c a.state o) count is) [
+      | inl none ↦ absurd (some none)
+      | inr late ↦
+          let w = o.wrote (base.1 s) late in its_entry b base s late.call late.pending true w.1 w.0
+    ]
 
     ended_at : (b : List Line) → Base b → (p : Option CallOp) (o : Option Outcome) → (step a.state i).outcome ≡ o →
         EachBehind At b (ended_by c p o)
@@ -160,7 +179,8 @@ module _ (laws : LoggedLaws) (w : World) (h : List Line) (k : IsMoment w h) (cho
     ended_at b base (Some p) None is = tt
     ended_at b base (Some p) (Some o) is =
         other_end b c (kind_of p) o (λ bytes e.
-        answered b base bytes (is ∙ ap (λ (z : Outcome). Some z) e))
+        answered b base bytes (is ∙ ap (λ (z : Outcome). Some z) e)) (λ count e.
+        acknowledged b base count (is ∙ ap (λ (z : Outcome). Some z) e))
 
   module _ (b : List Line) (base : Base b) where
     abbrev Told : Act → Type 0
@@ -227,9 +247,9 @@ module _ (laws : LoggedLaws) (w : World) (h : List Line) (k : IsMoment w h) (m :
       by (TimesOut c j) = plain
       by (Pends c) = plain
 
--- Each answered read has its entry.
-pub answered_are_logged : LoggedLaws → AnsweredAreLogged
-answered_are_logged laws h is_lawful are_written of_text few before l after is =
+-- Each of them has its entry.
+pub ended_are_logged : LoggedLaws → EndedAreLogged
+ended_are_logged laws h is_lawful are_written of_text few before l after is =
     let all = lawful laws.more (λ w g. EachBehind At [] g) (record {
       starts = tt;
       moves = λ w g m k next may x. each_more At [] g (lines_in w m) x (move_at laws w g k m);

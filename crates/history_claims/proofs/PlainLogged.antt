@@ -1,5 +1,6 @@
--- At each moment the pending read of a client that has read something, or awaits something, has an entry in the log.
-use Rattle.std.proofs.Common.{◌≡◌, ◌≢◌, ◌⊎◌, ℕ, false, List, [], ◌∷◌, ◌++◌, fold, Option, Some, None, refl, sym, ap, subst, ◌∙◌, inl, inr}
+-- At each moment the pending read of a client that has read something, or awaits something, has an entry in the log; and so has
+-- a call that has scattered, which is a write.
+use Rattle.std.proofs.Common.{◌≡◌, ◌≢◌, ◌⊎◌, ℕ, true, false, List, [], ◌∷◌, ◌++◌, fold, Option, Some, None, refl, sym, ap, subst, ◌∙◌, inl, inr}
 use Rattle.std.specs.Prelude.{option_map}
 use Rattle.std.proofs.lemmas.Bool.{cases_eq}
 use Rattle.std.proofs.lemmas.List.Sums.{fold-append}
@@ -29,7 +30,9 @@ use Rattle.exchange_law.proofs.Turns.{acts_turn}
 use Rattle.cause_law.proofs.Eventless.{NoEvent, later_plain, opens_plain}
 use Rattle.headline_law.specs.Claim.{IsOfScenario}
 use Rattle.history_claims.proofs.PlainPending.{IsIn, Goes, lines_go, event_keeps, event_rises, log_rises}
+use Rattle.file_simulation.specs.Messages.{is_scatter}
 use Rattle.history_claims.proofs.PlainReads.{HasWorked, awaits_some, read_worked, state_more, read_more}
+use Rattle.history_claims.proofs.Wrote.{HasScattered, IsSound, AwaitsWrite, late_behind, always_sound}
 
 -- ---- what is known
 
@@ -42,19 +45,30 @@ pub record LoggedLaws : Type 0 where
       (client_of (move w m).world c).call ≡ Some call → is_write call.op ≡ false →
       (a : Awaited) → In a (awaited_of (client_of (move w m).world c).call) →
       In a (awaited_of (client_of w c).call) ⊎ IsIn (log_in (h ++ lines_in w m)) c
+  -- a call that scatters behind the move scattered before, or its WRITE is sent in the move; and it is a write
+  pub wrote : (w : World) (h : List Line) → IsMoment w h → (m : Move) →
+      IsMoment (move w m).world (h ++ lines_in w m) → IsOfScenario (h ++ lines_in w m) → (c : ℕ) (call : Call) →
+      (client_of (move w m).world c).call ≡ Some call → is_scatter call.phase ≡ true →
+      (a : Awaited) → In a (awaited_of (client_of (move w m).world c).call) →
+      (HasScattered (client_of w c) ⊎ IsIn (log_in (h ++ lines_in w m)) c) × (is_write call.op ≡ true)
 
 -- what a client has read after these inputs
 abbrev pub reads_by : (c : ℕ) → List Input → List Column
 reads_by c is = read_by (new_client c 1) [] is
 
--- A client went through some inputs; and if its pending call is a read that has worked, the log has its entry.
+-- A client went through some inputs; and if its pending call is a read that has worked, or has scattered, the log has its entry.
 pub record OfClient (h : List Line) (c : ℕ) (x : Client) : Type 0 where
   pub inputs : List Input
   pub ran : x ≡ state_after (new_client c 1) inputs
   pub logged : IsOfScenario h → (k : HasWorked x (reads_by c inputs)) → is_write k.call.op ≡ false → IsIn (log_in h) c
+  pub wrote : IsOfScenario h → (k : HasScattered x) → IsIn (log_in h) c × (is_write k.call.op ≡ true)
 
 abbrev pub AreLogged : World → List Line → Type 0
 AreLogged w h = (c : ℕ) (a : ClientAt) → at_number w.clients c ≡ Some a → OfClient h c a.state
+
+-- whatever came to it
+pub sound : {h : List Line} (c : ℕ) (x : Client) → OfClient h c x → IsSound x
+sound c x o = subst IsSound (sym o.ran) (always_sound c 1 o.inputs)
 
 -- ---- a move
 
@@ -161,6 +175,9 @@ module _ (laws : LoggedLaws) (front : (h ls : List Line) → IsOfScenario (h ++ 
     ran = o.ran;
     logged = λ t k read.
         kept t c k.call (ap (λ (y : Client). y.call) same ∙ k.pending) (o.logged (front h (lines_in w m) t) k read);
+    wrote = λ t k.
+        let was = o.wrote (front h (lines_in w m) t) k in
+        (kept t c k.call (ap (λ (y : Client). y.call) same ∙ k.pending) was.0, was.1);
   }
 
   -- one that goes on
@@ -191,12 +208,44 @@ module _ (laws : LoggedLaws) (front : (h ls : List Line) → IsOfScenario (h ++ 
               | inr there ↦ there
             ]
 
+    -- a call that has scattered
+    module _ (t : IsOfScenario behind) (n : HasScattered y) where
+      late_call : (client_of v c).call ≡ Some n.call
+      late_call = ap (λ (z : Client). z.call) now ∙ n.pending
+
+      late_before : HasScattered (client_of w c) → IsIn (log_in behind) c × (is_write n.call.op ≡ true)
+      late_before b =
+          let z : HasScattered x = subst HasScattered before b in
+          let was = o.wrote (front h (lines_in w m) t) z in (
+            kept t c n.call late_call was.0,
+            ap is_write (same_op t c n.call late_call z.call (ap (λ (z : Client). z.call) before ∙ z.pending)) ∙ was.1,
+          )
+
+      late_now : AwaitsWrite y n.call → IsIn (log_in behind) c × (is_write n.call.op ≡ true)
+      late_now a =
+          let r =
+          laws.wrote w h k m next t c n.call late_call a.scatters a.awaited
+          (subst (λ (z : Client). In a.awaited (awaited_of z.call)) (sym now) a.there) in
+          elim r.0 [
+            | inl b ↦ late_before b
+            | inr there ↦ (there, r.1)
+          ]
+
+      wrote_now : IsIn (log_in behind) c × (is_write n.call.op ≡ true)
+      wrote_now =
+          elim (late_behind x i (sound c x o)
+          (record { call = n.call; pending = ap (λ (z : Client). z.call) (sym step_is) ∙ n.pending; late = n.late })) [
+            | inl b ↦ late_before (subst HasScattered (sym before) b)
+            | inr a ↦ late_now (subst (λ (z : Client). AwaitsWrite z n.call) (sym step_is) a)
+          ]
+
     steps_on : OfClient behind c y
     steps_on = record {
       inputs = o.inputs ++ i ∷ [];
       ran =
           step_is ∙ ap (λ (z : Client). (step z i).client) o.ran ∙ sym (state_more (new_client c 1) o.inputs i);
       logged = λ t n read. now_logged t n read n.some;
+      wrote = λ t n. wrote_now t n;
     }
 
   module _ (logged : AreLogged w h) where
@@ -229,6 +278,8 @@ module _ (laws : LoggedLaws) (front : (h ls : List Line) → IsOfScenario (h ++ 
           inputs = [];
           ran = t.state;
           logged = λ s n read.
+              let none : None ≡ Some n.call = sym (ap (λ (z : Client). z.call) t.state) ∙ n.pending in absurd (cc none);
+          wrote = λ s n.
               let none : None ≡ Some n.call = sym (ap (λ (z : Client). z.call) t.state) ∙ n.pending in absurd (cc none);
         })
     turn_logged (Stops t) =

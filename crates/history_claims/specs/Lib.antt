@@ -4,3 +4,4 @@ pub mod Created
 pub mod Texts
 pub mod Sound
 pub mod Plain
+pub mod Logged

@@ -17,6 +17,7 @@ use Rattle.component_law.specs.OnDrives.{AreComponentsApart}
 use Rattle.history_claims.specs.Spread.{AreComponentsSpread}
 use Rattle.history_claims.specs.Created.{FilesAreCreated}
 use Rattle.history_claims.specs.Lanes.{HaveFairLanes, HaveOwnLanes}
+use Rattle.history_claims.specs.Logged.{IsLoggedAt}
 use Rattle.component_law.specs.Given.{GivenBefore}
 use Rattle.component_law.specs.Live.{AnswersAreLive}
 use Rattle.component_law.specs.Barred.{FencesBar}
@@ -158,6 +159,9 @@ pub record IsSound (h : List Line) : Type 0 where
   -- each byte of the answer is one that such a reply of its own position gave; or, if the position is out by the layout and the
   -- timeouts, the data byte of the one codeword that has what such replies gave of its column
   pub bytes : AtEachLine BytesAt h
+  -- in a history of a scenario's text with few messages, where a line tells that a read was answered, or that some bytes were
+  -- written, the log has the entry of this call, with its range, or its bytes; and so the judge sees it
+  pub logged : AreWritten h → AreOfText h → AreFew h → AtEachLine IsLoggedAt h
   -- in each move a call ends as only an answer says exactly if its client takes an answer that says so
   pub said : CallsEndAsSaid h
   -- and in each move a call is left pending exactly if the event came with it, ends there, and the call doesn't

@@ -1,5 +1,6 @@
 // What holds of every history, for the crates above.
 ghost use Rattle.history_claims.specs.Created.{EachFileIsCreated};
+ghost use Rattle.history_claims.specs.Logged.{EndedAreLogged};
 ghost use Rattle.history_claims.specs.Plain.{ReadyReadsArePlain};
 ghost use Rattle.history_claims.specs.Sound.{HistoriesAreSound};
 ghost use Rattle.history_claims.specs.Spread.{ComponentsStandSpread};
@@ -59,6 +60,14 @@ pub fn files_are_created()
     one_event_more();
 }
 
+/// In a lawful history of a scenario's text with few messages, where a line tells that a read was answered, or that some
+/// bytes were written, the log of the file has an entry of this call, with its range, or its bytes.
+pub fn ended_calls_are_logged()
+    ensures { EndedAreLogged }
+{
+    histories_are_lawful();
+}
+
 /// In a lawful history of a scenario's text with few messages, each read that is ready where its event begins, if the
 /// event is over and calm and each write that was started before it was acknowledged, gives the bytes that these
 /// writes leave in order.
@@ -66,6 +75,7 @@ pub fn ready_reads_are_plain()
     ensures { ReadyReadsArePlain }
 {
     histories_are_lawful();
+    ended_calls_are_logged();
     headline_holds();
     ready_calls_end_in_ok();
     fronts_are_lawful();
@@ -163,6 +173,7 @@ pub fn histories_are_sound()
     pending_calls_are_unanswered();
     losses_are_borne();
     ready_calls_end_in_ok();
+    ended_calls_are_logged();
     ready_reads_are_plain();
     headline_holds();
     audits_find_none();

@@ -1,5 +1,3 @@
-use Rattle.headline_law.proofs.Histories.{known, moved}
-use Rattle.headline_law.proofs.ReadsWell.{reads_await_reads}
 use Rattle.headline_law.specs.Histories.{HistoriesAreLawful}
 use Rattle.ready_law.proofs.Together.{stages}
 use Rattle.history_claims.proofs.PlainWhole.{ready_reads}
@@ -62,7 +60,6 @@ returns c =
             events = c.events_stand_apart.ensures;
             scenes = c.scenes_are_read.ensures;
           });
-      known = known l;
+      logged = c.ended_calls_are_logged.ensures;
       pending = l.calls_of_text_are_pending;
-      reads = reads_await_reads (moved l);
     })
