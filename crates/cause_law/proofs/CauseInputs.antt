@@ -21,6 +21,7 @@ use Rattle.history_law.specs.StepEnds.{BeginNone}
 use Rattle.history_law.proofs.Staying.{written_front}
 use Rattle.history_law.proofs.StepEnds.{place_of}
 use Rattle.history_law.proofs.Ending.{next_moment}
+use Rattle.history_law.proofs.NextSteps.{begin_more, move_begins}
 use Rattle.cause_law.specs.Steps.{AtInputs}
 use Rattle.cause_law.proofs.Reading.{IsRead, input_head, line_read}
 
@@ -91,6 +92,7 @@ module _ (read : BookIsRead) (step_read : StepIsRead) (moves : ServerMoves) (mor
                 more = e.more ++ lines_in w m;
                 cut = behind ∙ ap (λ (ls : List Line). ls ++ lines_in w m) e.cut ∙ append_assoc e.rest e.more (lines_in w m);
                 of_step = e.of_step;
+                ends = begin_more e.more (lines_in w m) e.ends (move_begins w m);
                 holds = e.holds;
               }
           | inr (front, own, it) ↦
@@ -101,6 +103,7 @@ module _ (read : BookIsRead) (step_read : StepIsRead) (moves : ServerMoves) (mor
                 more = [];
                 cut = sym (append-nil after);
                 of_step = (read_there w h k m d written front l after it i here).alone;
+                ends = tt;
                 holds =
                     subst (λ (ls : List Line). Holds ls l i after) (sym own)
                     (shown.shows w h k m d written front l after it i (moved w h k m d written front l after it i here));

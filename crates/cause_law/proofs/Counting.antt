@@ -22,6 +22,7 @@ use Rattle.history_law.specs.Read.{AreWritten, BookIsRead, StepIsRead}
 use Rattle.history_law.proofs.Staying.{written_front}
 use Rattle.history_law.proofs.StepEnds.{place_of}
 use Rattle.history_law.proofs.Ending.{next_moment}
+use Rattle.history_law.proofs.NextSteps.{begin_more, move_begins}
 use Rattle.exchange_law.proofs.HeldWorlds.{reached}
 use Rattle.component_law.specs.Order.{AreInOrder, GrantsAreInOrder}
 use Rattle.cause_law.specs.Steps.{InStep}
@@ -118,6 +119,7 @@ module _ (order : GrantsAreInOrder) (read : BookIsRead) (step_read : StepIsRead)
           more = [];
           cut = sym (append-nil after);
           of_step = r.alone;
+          ends = tt;
           holds = λ ok given. record {
             past =
                 subst (λ (s : Server). (server_after before).next_grant < s.next_grant) behind
@@ -145,6 +147,7 @@ module _ (order : GrantsAreInOrder) (read : BookIsRead) (step_read : StepIsRead)
             more = e.more ++ ms;
             cut = more ∙ ap (λ (ls : List Line). ls ++ ms) e.cut ∙ append_assoc e.rest e.more ms;
             of_step = e.of_step;
+            ends = begin_more e.more ms e.ends (move_begins w m);
             holds = λ ok given. older before l rest i own comes ok e.rest given (e.holds ok given);
           }
       | inr (front, own, it) ↦ newer before front l after i own it is comes
@@ -165,5 +168,6 @@ module _ (order : GrantsAreInOrder) (read : BookIsRead) (step_read : StepIsRead)
         more = e.more;
         cut = e.cut;
         of_step = e.of_step;
+        ends = e.ends;
         holds = λ ok given. (e.holds ok given).other;
       }

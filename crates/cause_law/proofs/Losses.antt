@@ -132,6 +132,7 @@ each_loss_has_its_cause each w h s written before l after i is comes =
       more = it.more;
       cut = it.cut;
       of_step = it.of_step;
+      ends = it.ends;
       holds = λ file k f g was now there gone.
           lost_so (server_after before) i it.rest file k f there g
           (subst (λ (o : Option File). Goes i (taken_out (server_after before) i) it.rest file o (Some g)) was

@@ -3,7 +3,7 @@ use Rattle.std.specs.Prelude.{◌≡◌, List, ◌∷◌, ◌++◌, Some}
 use Rattle.server_rules.specs.History.{Input}
 use Rattle.scenario_text.specs.declared.line.Line.{Line}
 use Rattle.world_history.specs.Book.{input_at, server_seen}
-use Rattle.history_law.specs.StepEnds.{BeginNone}
+use Rattle.history_law.specs.StepEnds.{BeginNone, BeginNext}
 
 -- some further lines of the step are so
 pub record InStep (Holds : (rest : List Line) → Type 0) (after : List Line) : Type 0 where
@@ -11,6 +11,7 @@ pub record InStep (Holds : (rest : List Line) → Type 0) (after : List Line) : 
   pub more : List Line
   pub cut : after ≡ rest ++ more
   pub of_step : BeginNone rest
+  pub ends : BeginNext more
   pub holds : Holds rest
 
 -- so it is of each line at which something comes to the server

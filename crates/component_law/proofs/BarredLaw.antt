@@ -154,7 +154,7 @@ module _ (read : BookIsRead) (more : OneEventMore) (end : FencesEnd) (refuses : 
       e.holds.fenced.there).0 in
       let objects : (server_after front).next_object ≤ 2 ^ 63 = e.holds.low.objects in
       let tag_fits : tag < 2 ^ 32 = omega (arith, fits.tag, e.holds.fenced.tag_is) in (
-        record { rest = e.rest; more = e.more; cut = e.cut; of_step = e.of_step; holds = e.holds.fenced },
+        record { rest = e.rest; more = e.more; cut = e.cut; of_step = e.of_step; ends = e.ends; holds = e.holds.fenced },
         λ at i there middle later l cut bytes c j reads own_object given.
             let object : at.object < (server_after front).next_object =
             (one_in (ComponentFits (server_after front).next_object) f.kept.components at fits.components i).object in

@@ -140,7 +140,7 @@ module _ (h : List Line) (live : AnswersAreLive h) (c : ℕ) (bytes : List ℕ) 
           number = r.number;
           middle = r.middle;
           place = place;
-          step = record { rest = e.rest; more = e.more; cut = e.cut; of_step = e.of_step; holds = spells };
+          step = record { rest = e.rest; more = e.more; cut = e.cut; of_step = e.of_step; ends = e.ends; holds = spells };
         }
         | inl earlier ↦
             let f = first_line n r.front (l ∷ (r.middle ++ after)) less split earlier in
@@ -218,6 +218,7 @@ each_given_was_live answers w h s text few before after is client o g =
         more = f.step.more;
         cut = f.step.cut;
         of_step = f.step.of_step;
+        ends = f.step.ends;
         holds = live;
       };
       capability = λ c read.

@@ -48,6 +48,7 @@ use Rattle.component_law.proofs.NextMoves.{acts_shape, next_opens, plain_lines}
 use Rattle.component_law.proofs.MoveOpening.{begins_bare}
 use Rattle.exchange_law.proofs.CountMoments.{at_moment}
 use Rattle.history_law.proofs.Ending.{next_moment}
+use Rattle.history_law.proofs.NextSteps.{begin_more, move_begins}
 use Rattle.history_claims.specs.Created.{file_event, ArePlaced, FilesAreCreated, EachFileIsCreated}
 
 -- ---- the file
@@ -257,6 +258,7 @@ module _ (put : FilesArePut) (on : ServerGoesOn) (all : AllLinesGoOn) where
                   behind ∙ ap (λ (ls : List Line). ls ++ lines_in w m) r.cut
                   ∙ append_assoc r.rest r.more (lines_in w m);
               of_step = r.of_step;
+              ends = begin_more r.more (lines_in w m) r.ends (move_begins w m);
               placed = r.placed;
             }
         | inr (front, own, it) ↦
@@ -278,6 +280,7 @@ module _ (put : FilesArePut) (on : ServerGoesOn) (all : AllLinesGoOn) where
               more = [];
               cut = sym (append-nil after);
               of_step = subst BeginNone (sym f.rest) bare;
+              ends = tt;
               placed =
                   subst (ArePlaced (placed_in after))
                   (sym (book_there (move w m).world (h ++ lines_in w m) next n)

@@ -10,7 +10,7 @@ use Rattle.world_history.specs.State.{World}
 use Rattle.world_history.specs.Book.{placed_in, book_of}
 use Rattle.world_history.specs.History.{StandsFor}
 use Rattle.history_law.specs.Read.{AreWritten}
-use Rattle.history_law.specs.StepEnds.{BeginNone}
+use Rattle.history_law.specs.StepEnds.{BeginNone, BeginNext}
 
 -- the drives to which CREATEs go are those of the file's components, in order; where there is no file, there are none
 abbrev pub ArePlaced : List ℕ → Option File → Type 0
@@ -23,6 +23,7 @@ pub record CreatesIts (before : List Line) (l : Line) (after : List Line) (numbe
   pub more : List Line
   pub cut : after ≡ rest ++ more
   pub of_step : BeginNone rest
+  pub ends : BeginNext more
   pub placed : ArePlaced (placed_in rest) (book_of (before ++ l ∷ rest) number)
 
 -- the event that makes a file, which is spread over zones or not

@@ -66,6 +66,7 @@ pub mod IssuedLaw
 pub mod Ranges
 pub mod Unforged
 pub mod Behind
+pub mod NextSteps
 pub mod StepEnds
 pub mod Answering
 pub mod Spelled

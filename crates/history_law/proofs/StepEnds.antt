@@ -13,6 +13,7 @@ use Rattle.history_law.specs.BookMoments.{IsMoment, plan_at, lines_in}
 use Rattle.history_law.specs.StepEnds.{AtStepEnds}
 use Rattle.history_law.proofs.Behind.{none_behind}
 use Rattle.history_law.proofs.Moments.{stands_kept}
+use Rattle.history_law.proofs.NextSteps.{begin_more, move_begins}
 
 -- a line of two lists is one of the first, or of the second
 pub place_of : (h ls before after : List Line) (x : Line) → h ++ ls ≡ before ++ x ∷ after
@@ -66,6 +67,7 @@ module _ (Fine : List Line → Type 0) (Says : Line → Type 0) (Holds : Line �
               more = e.more ++ lines_in w m;
               cut = behind ∙ ap (λ (ls : List Line). ls ++ lines_in w m) e.cut ∙ append_assoc e.rest e.more (lines_in w m);
               of_step = e.of_step;
+              ends = begin_more e.more (lines_in w m) e.ends (move_begins w m);
               holds = e.holds;
             }
         | inr (front, own, it) ↦ record {
@@ -73,6 +75,7 @@ module _ (Fine : List Line → Type 0) (Says : Line → Type 0) (Holds : Line �
           more = [];
           cut = sym (append-nil after);
           of_step = none_behind w m front after l it (said.tells l says);
+          ends = tt;
           holds =
               subst (λ (ls : List Line). Holds l ls (before ++ l ∷ after)) (sym own)
               (subst (Holds l (h ++ front)) is (said.ends w h k m d fine front l after it says));
