@@ -12,6 +12,7 @@ pub mod PlainPending
 pub mod PlainReads
 pub mod Wrote
 pub mod OwnEntries
+pub mod Numbers
 pub mod PlainLogged
 pub mod PlainAnswers
 pub mod PlainWrites

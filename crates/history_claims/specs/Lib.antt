@@ -5,3 +5,4 @@ pub mod Texts
 pub mod Sound
 pub mod Plain
 pub mod Logged
+pub mod Numbered

@@ -1,6 +1,7 @@
 // What holds of every history, for the crates above.
 ghost use Rattle.history_claims.specs.Created.{EachFileIsCreated};
 ghost use Rattle.history_claims.specs.Logged.{EndedAreLogged};
+ghost use Rattle.history_claims.specs.Numbered.{MessagesAreNumbered};
 ghost use Rattle.history_claims.specs.Plain.{ReadyReadsArePlain};
 ghost use Rattle.history_claims.specs.Sound.{HistoriesAreSound};
 ghost use Rattle.history_claims.specs.Spread.{ComponentsStandSpread};
@@ -57,6 +58,13 @@ pub fn files_are_created()
 {
     files_are_put();
     reading_goes_on();
+    one_event_more();
+}
+
+/// In each lawful history the line of a message has the number of messages before it.
+pub fn messages_are_numbered()
+    ensures { MessagesAreNumbered }
+{
     one_event_more();
 }
 
@@ -178,5 +186,6 @@ pub fn histories_are_sound()
     headline_holds();
     audits_find_none();
     repairs_leave_none();
+    messages_are_numbered();
     within_the_limit_are_few();
 }
