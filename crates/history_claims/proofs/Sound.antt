@@ -13,6 +13,7 @@ use Rattle.history_law.specs.Holder.{EachHolderIsOwn}
 use Rattle.history_law.specs.Fences.{UnforgedAreFenced}
 use Rattle.component_law.specs.Apart.{AreApart}
 use Rattle.component_law.specs.Naming.{AreNamed}
+use Rattle.component_law.proofs.NamedLines.{are_named}
 use Rattle.component_law.specs.OnDrives.{StandApart, ComponentsStandApart}
 use Rattle.history_claims.specs.Spread.{ComponentsStandSpread}
 use Rattle.history_claims.specs.Created.{EachFileIsCreated}
@@ -91,8 +92,8 @@ histories_are_sound safe answered issued listed fair ranges fronts apart spread 
         ranges = λ before after is. ranges before (fronts before after (subst Lawful is l));
         live = λ w s a. live w h s a;
         given = λ w s text few. given w h s text few;
-        apart = apart h l;
-        spread = spread h l;
+        apart = λ written. apart h l (are_named h written);
+        spread = λ written. spread h l (are_named h written);
         created = λ w s a. created w h s a;
         listed = listed h l;
         fair = fair h l;
@@ -129,7 +130,7 @@ histories_are_sound safe answered issued listed fair ranges fronts apart spread 
         said = λ w g k m rest d is. said w g k m d;
         left = λ w g k m rest d is. left w g k m d;
         unanswered = unanswered h l;
-        losses = λ names. losses_at apart borne h l names;
+        losses = λ written. losses_at apart borne h l (are_named h written);
         ready = λ written text few. ready h l written text few;
         plain = λ written text few. plain h l written text few;
         right = λ before after is. right before (fronts before after (subst Lawful is l));

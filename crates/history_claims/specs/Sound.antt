@@ -10,7 +10,6 @@ use Rattle.history_law.specs.Issued.{IssuedAt}
 use Rattle.history_law.specs.Unforged.{AreUnforged, InjectedAt}
 use Rattle.history_law.specs.Ranges.{AreRangesApart}
 use Rattle.history_law.specs.Read.{AreWritten}
-use Rattle.component_law.specs.Naming.{AreNamed}
 use Rattle.history_law.specs.Fenced.{FencesLast}
 use Rattle.history_law.specs.Holder.{OwnUnlessForged}
 use Rattle.component_law.specs.OnDrives.{AreComponentsApart}
@@ -71,12 +70,12 @@ pub record IsSound (h : List Line) : Type 0 where
   -- line at which its answer was first sent: the book at the end of that line's step has the grant live, and the capability
   -- is for a present component of the file as it is there, with the file's tag
   pub given : (w : World) → StandsFor w h → AreOfText h → AreFew h → GivenWasLive h
-  -- where lines can name the drives and files that events make, the components of each file stand on different drives, and
+  -- where the events are such as a text has them, the components of each file stand on different drives, and
   -- one that is made anew comes onto a further drive
-  pub apart : AreNamed h → AtEachMoment AreComponentsApart h
+  pub apart : AreWritten h → AtEachMoment AreComponentsApart h
   -- so those of a zoned file are spread over the zones into which events put drives: no zone has more of a group than its code
   -- brings back. If all lost ones were of one zone, each stripe can be read and written
-  pub spread : AreNamed h → AtEachMoment AreComponentsSpread h
+  pub spread : AreWritten h → AtEachMoment AreComponentsSpread h
   -- in a whole history the CREATEs of the step in which a file is made go to the drives of its components, in order and one
   -- each, as the book has the file behind the step
   pub created : (w : World) → StandsFor w h → AreWritten h → FilesAreCreated h
@@ -172,10 +171,10 @@ pub record IsSound (h : List Line) : Type 0 where
   -- so it is only if the request that its client waits for was outstanding already when the event began, or the server was
   -- down then: a server that is up answers in the event what is sent to it in the event
   pub unanswered : AtEachLine UnansweredAt h
-  -- at each moment, as far as lines can name the drives and files that events make: if the missing components of a file are on
+  -- at each moment, where the events are such as a text has them: if the missing components of a file are on
   -- drives that have failed, and fewer of its drives failed than one position more than its code brings back has replicas, no
   -- stripe of it has more positions lost than that
-  pub losses : AreNamed h → AtEachMoment FilesBearLosses h
+  pub losses : AreWritten h → AtEachMoment FilesBearLosses h
   -- in a history of a scenario's text with few messages each call that is ready where its event begins, and whose event is over,
   -- ended in ok, which one line of the event tells, and within its bound of messages
   pub ready : AreWritten h → AreOfText h → AreFew h → EachReadyIsAnswered h
