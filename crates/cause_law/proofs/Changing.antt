@@ -35,6 +35,7 @@ use Rattle.component_law.specs.Words.{Each}
 use Rattle.cause_law.specs.Answers.{IsNew}
 use Rattle.cause_law.specs.Changes as changes
 use Rattle.cause_law.specs.Changes.{FenceBegan, BeginsFence, ByOrder, ByOpening, IsAskedOf, Changes}
+use Rattle.cause_law.proofs.Unsettled.{is_fenced, unsettled}
 
 -- ---- a fence begins
 
@@ -138,7 +139,7 @@ module _ (s : Server) (i : Input) where
   -- an opening begins a fence only where there is something to end, and a further tag
   settled : (f : File) → i ≡ Opens → is_unsettled f.kept ≡ false → BeginsFence s i f → ⊥
   settled f is none (ByOrder kind fencing order takes free low) = no_opening i kind f.kept.number order is
-  settled f is none (ByOpening opens room unsettled low) = true≢false (sym unsettled ∙ none)
+  settled f is none (ByOpening opens room open_ low) = true≢false (sym (is_fenced f.kept open_) ∙ none)
 
   pub spent : (f : File) → f.kept.tag ≡ GREATEST_TAG → BeginsFence s i f → ⊥
   spent f tag (ByOrder kind fencing order takes free low) = low tag
@@ -147,11 +148,11 @@ module _ (s : Server) (i : Input) where
   by_tag : (format : ℕ) (g : Going) → i ≡ Opens → counters_have_room s ≡ true → is_unsettled g.file.kept ≡ true → (b : Bool)
       → (g.file.kept.tag == GREATEST_TAG) ≡ b → Goes g.file (opens_fenced format g).file
   unfolding opens_fenced
-  by_tag format g is room unsettled true e =
+  by_tag format g is room open_ true e =
       rw e (GoesSame refl (spent g.file (eqb-true g.file.kept.tag GREATEST_TAG e)) refl refl)
-  by_tag format g is room unsettled false e =
+  by_tag format g is room open_ false e =
       rw e (goes_fenced Revoking format g
-      (ByOpening is room unsettled (λ same. true≢false (sym (eq-eqb g.file.kept.tag GREATEST_TAG same) ∙ e))))
+      (ByOpening is room (unsettled g.file.kept open_) (λ same. true≢false (sym (eq-eqb g.file.kept.tag GREATEST_TAG same) ∙ e))))
 
   pub goes_opened : (format : ℕ) (g : Going) → i ≡ Opens → counters_have_room s ≡ true → Goes g.file (opens format g).file
   unfolding opens

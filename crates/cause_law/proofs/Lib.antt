@@ -102,3 +102,5 @@ pub mod ShortAsks
 pub mod MadeCommands
 pub mod MadeSteps
 pub mod MadeRead
+pub mod Unsettled
+pub mod Sendable

@@ -1,9 +1,11 @@
 -- At each moment behind a crash of the server, each file that had a grant or a fence then is barred, until a fence is over.
-use Rattle.std.proofs.Common.{◌≡◌, ◌≢◌, ◌⊎◌, ℕ, ◌<◌, true, false, true≢false, List, [], ◌∷◌, ◌++◌, Some, refl, sym, ap, subst, ◌∙◌, inl, inr}
+use Rattle.std.proofs.Common.{◌≡◌, ◌≢◌, ◌⊎◌, ℕ, ◌<◌, true, false, true≢false, List, [], ◌∷◌, ◌++◌, Some, Ok, refl, sym, ap, subst, ◌∙◌, inl, inr}
 use Rattle.std.proofs.lemmas.List.{append-nil}
 use Rattle.osd_lists.proofs.Slices.{tail_same}
+use Rattle.layout_ops.specs.declared.envelope.Envelope.{Envelope}
 use Rattle.layout_ops.specs.declared.envelope.Envelope.TheVariants as envelope
-use Rattle.layout_ops.specs.Spelling.{envelope_item}
+use Rattle.layout_ops.specs.Reading.{envelope_of}
+use Rattle.layout_ops.proofs.Whole.{all_again}
 use Rattle.scenario_text.specs.declared.names.TheConstants.{FILES}
 use Rattle.scenario_text.specs.declared.event.Event.TheVariants as event
 use Rattle.scenario_text.specs.declared.event.Machine.TheVariants as machine
@@ -13,7 +15,6 @@ use Rattle.scenario_text.specs.declared.line.Line.TheVariants as line
 use Rattle.server_rules.specs.declared.limits.TheConstants.{GREATEST_TAG}
 use Rattle.server_rules.specs.Files.{file_at}
 use Rattle.server_rules.specs.Laws.{In, AreSafe}
-use Rattle.server_rules.specs.Openings.{is_unsettled}
 use Rattle.server_rules.proofs.FileLaws.{number_at}
 use Rattle.server_rules.proofs.Members.{in_front, in_behind, in_either}
 use Rattle.world_history.specs.ServerNames.{Server, File, Kept, Answer}
@@ -36,14 +37,18 @@ use Rattle.history_law.specs.Read.{AreWritten, BookIsRead}
 use Rattle.history_law.proofs.Staying.{written_front}
 use Rattle.history_law.proofs.StepEnds.{place_of}
 use Rattle.history_law.proofs.Ending.{next_moment}
+use Rattle.history_law.proofs.Exact.{same_ok}
+use Rattle.component_law.specs.Live.{AreShort}
 use Rattle.exchange_law.specs.Counters.{CountersStayLow}
 use Rattle.exchange_law.specs.Text.{AreOfText, AreFew}
 use Rattle.exchange_law.proofs.CountGrowing.{fewer, text_front}
 use Rattle.component_law.proofs.Moments.{each_second, named_action, allowed_at}
-use Rattle.cause_law.specs.Told.{Answers, ToNew, Repeats, Refuses, IsToRequest, IsTold, TellsRecall, TellsAnswer, EachMessageIsCaused}
+use Rattle.cause_law.specs.Changes.{IsUnsettled}
+use Rattle.cause_law.specs.Told.{Answers, ToNew, Repeats, Refuses, IsToRequest, Spells, IsTold, TellsRecall, TellsAnswer, EachMessageIsCaused}
 use Rattle.cause_law.proofs.Answering.{safe_at}
 use Rattle.cause_law.proofs.Grants.{sound_at}
-use Rattle.cause_law.specs.Reopened.{crash_line, reopen_line, NoneOver, LeaveBarred, GiveLayout, WasSentTo, GivesNone, TellNoneNew, IsRefused, EachCrashBars}
+use Rattle.cause_law.specs.Reopened.{crash_line, reopen_line, NoneOver, LeaveBarred, GiveLayout, GivesLayoutOf, WasSentTo, ReadsNone, TellNoneNew, IsRefused, EachCrashBars}
+use Rattle.cause_law.proofs.Unsettled.{is_fenced}
 use Rattle.cause_law.proofs.Barring.{One, Stage, Crashed, Fenced, Again, Refused, under_none, fenced_on, stage_on, crashed}
 use Rattle.cause_law.proofs.ReopenMoving.{Moves, Crashing, Opening, Resting, Serving, each_move, events_first}
 use Rattle.cause_law.proofs.ReopenTelling.{Bars, plain_none, new_none, sent_before}
@@ -105,38 +110,42 @@ module _ (raise : EachStepRaisesTags) (n tag : ℕ) (w : World) (m : Move) (soun
     | inr r ↦ inr (one_is n _ (move w m).world.server.files g r.1 behind).1
   ]
 
-module _ (n : ℕ) (w : World) (action : Action) (before ls : List Line) (s t : Server) (told : TellNoneNew before n ls)
+-- the lines up to now, behind the move
+module _ (n : ℕ) (w : World) (action : Action) (before ls now : List Line) (s t : Server) (told : TellNoneNew before n ls)
     (bars : w.down ≡ false → (f g : File) → file_at s.files n ≡ Some f → file_at t.files n ≡ Some g → Bars f g) where
   abbrev h : List Line
   h = before ++ crash_line ∷ ls
 
-  by_why : (client : ℕ) (bytes : List ℕ) (a : Answer) → a.client ≡ client → bytes ≡ envelope_item (envelope.Answer a)
-      → (r : IsToRequest w action h s t a) → Answers h s t r.now r.request a
-      → WasSentTo before client bytes ⊎ GivesNone n bytes
-  by_why client bytes a c b r (ToNew new caused) =
-      inr (record {
-        message = envelope.Answer a;
-        bytes_are = b;
-        none = new_none n s t r.now r.request a (bars r.handed.5) caused;
-      })
-  by_why client bytes a c b r (Repeats last) = elim (sent_before n before ls a told last.sent) [
-    | inl it ↦
-        inl (subst (λ (k : ℕ). WasSentTo before k bytes) c (subst (WasSentTo before a.client) (sym b) it))
-    | inr it ↦ inr (subst (GivesNone n) (sym b) it)
-  ]
-  by_why client bytes a c b r (Refuses wrong) =
-      inr (record {
-        message = envelope.Answer a;
-        bytes_are = b;
-        none = λ g. plain_none r.request.args _
-            (subst GiveLayout (ap (λ (x : Answer). x.results) wrong.is) g.1);
-      })
+  -- where a message fits, it is read in its bytes
+  itself : (message : Envelope) (bytes : List ℕ) → Spells (AreShort now) message bytes → AreShort now → (m : Envelope)
+      → envelope_of bytes ≡ Ok m → message ≡ m
+  itself message bytes s short m read =
+      same_ok message m (envelope_of bytes) (ap envelope_of s.bytes_are ∙ all_again message (s.fits short)) read
 
-  pub told_on : (client : ℕ) (bytes : List ℕ) → IsTold w action h s t client bytes
-      → WasSentTo before client bytes ⊎ GivesNone n bytes
-  told_on client bytes (TellsRecall r c b) =
-      inr (record { message = envelope.Recall r; bytes_are = b; none = λ g. g })
-  told_on client bytes (TellsAnswer a c b r) = by_why client bytes a c b r r.why
+  by_why : (client : ℕ) (bytes : List ℕ) (a : Answer) → a.client ≡ client → Spells (AreShort now) (envelope.Answer a) bytes
+      → AreShort now → (r : IsToRequest w action h s t a) → Answers h s t r.now r.request a
+      → WasSentTo before client bytes ⊎ ReadsNone n bytes
+  by_why client bytes a c b short r (ToNew new caused) =
+      inr (λ m read gives.
+      new_none n s t r.now r.request a (bars r.handed.5) caused
+      (subst (GivesLayoutOf n) (sym (itself (envelope.Answer a) bytes b short m read)) gives))
+  by_why client bytes a c b short r (Repeats last) = elim (sent_before n before ls a told last.sent) [
+    | inl it ↦
+        inl (subst (λ (k : ℕ). WasSentTo before k bytes) c (subst (WasSentTo before a.client) (sym b.bytes_are) it))
+    | inr it ↦ inr (subst (ReadsNone n) (sym b.bytes_are) it)
+  ]
+  by_why client bytes a c b short r (Refuses wrong) =
+      inr (λ m read gives.
+      plain_none r.request.args _
+      (subst GiveLayout (ap (λ (x : Answer). x.results) wrong.is)
+      (subst (GivesLayoutOf n) (sym (itself (envelope.Answer a) bytes b short m read)) gives).1))
+
+  pub told_on : (client : ℕ) (bytes : List ℕ) → AreShort now → IsTold (AreShort now) w action h s t client bytes
+      → WasSentTo before client bytes ⊎ ReadsNone n bytes
+  told_on client bytes short (TellsRecall r c b) =
+      inr (λ m read gives.
+      subst (GivesLayoutOf n) (sym (itself (envelope.Recall r) bytes b short m read)) gives)
+  told_on client bytes short (TellsAnswer a c b r) = by_why client bytes a c b short r r.why
 
 -- ---- the moments
 
@@ -144,7 +153,7 @@ module _ (causes : EachMessageIsCaused) (raise : EachStepRaisesTags) (seen : See
     (read : BookIsRead) (low : CountersStayLow) where
   abbrev So : World → List Line → Type 0
   So w h = AreWritten h → AreOfText h → AreFew h → (before ls : List Line) → h ≡ before ++ crash_line ∷ ls → (n : ℕ)
-      (f : File) → file_at (server_after before).files n ≡ Some f → is_unsettled f.kept ≡ true → LeaveBarred n f.kept ls
+      (f : File) → file_at (server_after before).files n ≡ Some f → IsUnsettled f.kept → LeaveBarred n f.kept ls
       → Stage n f.kept.tag ls w × TellNoneNew before n ls
 
   module _ (w : World) (h : List Line) (k : IsMoment w h) (m : Move) (d : due (plan_at k) w ≡ Some m.action) (so : So w h)
@@ -169,9 +178,15 @@ module _ (causes : EachMessageIsCaused) (raise : EachStepRaisesTags) (seen : See
     behind : server_after (h ++ ms) ≡ (move w m).world.server
     behind = ap (λ (s : ServerSeen). s.server) (read (move w m).world (h ++ ms) (next_moment w h k m d) written)
 
+    short : AreShort (h ++ ms)
+    short = record { text = text; few = few }
+
+    abbrev Tells : List Line → Server → Server → ℕ → List ℕ → Type 0
+    Tells g s t = IsTold (AreShort (h ++ ms)) w m.action g s t
+
     -- a crash before the move
     older : (before rest : List Line) → h ≡ before ++ crash_line ∷ rest → (n : ℕ) (f : File)
-        → file_at (server_after before).files n ≡ Some f → is_unsettled f.kept ≡ true → LeaveBarred n f.kept (rest ++ ms)
+        → file_at (server_after before).files n ≡ Some f → IsUnsettled f.kept → LeaveBarred n f.kept (rest ++ ms)
         → Stage n f.kept.tag (rest ++ ms) (move w m).world × TellNoneNew before n (rest ++ ms)
     older before rest own n f found open_ leaves =
         let r = so written_here (text_front h ms text) (fewer h ms few) before rest own n f found open_
@@ -184,19 +199,19 @@ module _ (causes : EachMessageIsCaused) (raise : EachStepRaisesTags) (seen : See
           λ number client bytes i. elim (in_either _ rest ms i) [
             | inl j ↦ r.1 number client bytes j
             | inr j ↦
-                told_on n w m.action before rest w.server (move w m).world.server r.1
+                told_on n w m.action before rest (h ++ ms) w.server (move w m).world.server r.1
                 (bars_at raise n f.kept.tag w m sound (safe_at safe w h k)
-                (safe_at safe (move w m).world (h ++ ms) (next_moment w h k m d)) known quiet rest moves r.0) client bytes
-                (subst (λ (g : List Line). IsTold w m.action g w.server (move w m).world.server client bytes) own
-                (subst (λ (s : Server). IsTold w m.action h s (move w m).world.server client bytes) there
-                (subst (λ (s : Server). IsTold w m.action h (server_after h) s client bytes) behind
+                (safe_at safe (move w m).world (h ++ ms) (next_moment w h k m d)) known quiet rest moves r.0) client bytes short
+                (subst (λ (g : List Line). Tells g w.server (move w m).world.server client bytes) own
+                (subst (λ (s : Server). Tells h s (move w m).world.server client bytes) there
+                (subst (λ (s : Server). Tells h (server_after h) s client bytes) behind
                 (causes w h k m d written number client bytes j))))
           ],
         )
 
     -- the crash
     newer : (before front ls : List Line) → before ≡ h ++ front → ms ≡ front ++ crash_line ∷ ls → (n : ℕ) (f : File)
-        → file_at (server_after before).files n ≡ Some f → is_unsettled f.kept ≡ true → Moves w m
+        → file_at (server_after before).files n ≡ Some f → IsUnsettled f.kept → Moves w m
         → Stage n f.kept.tag ls (move w m).world × TellNoneNew before n ls
     newer before front ls own is n f found open_ (Crashing lines awake state down) =
         let none = none_before front ls (sym lines ∙ is) in
@@ -205,7 +220,7 @@ module _ (causes : EachMessageIsCaused) (raise : EachStepRaisesTags) (seen : See
         (sym there ∙ ap server_after (sym (append-nil h) ∙ ap (λ (x : List Line). h ++ x) (sym none.0) ∙ sym own))
         ∙ found in (
           subst (λ (x : List Line). Stage n f.kept.tag x (move w m).world) (sym none.1)
-              (crashed raise n w m sound f here open_ state down),
+              (crashed raise n w m sound f here (is_fenced f.kept open_) state down),
           λ number client bytes i. absurd (nothing_in _ ls none.1 i),
         )
     newer before front ls own is n f found open_ (Opening i asleep state down told) =
@@ -221,7 +236,7 @@ module _ (causes : EachMessageIsCaused) (raise : EachStepRaisesTags) (seen : See
         absurd (none.0 (subst (In crash_line) (sym is) (in_behind crash_line front (crash_line ∷ ls) (inl refl))))
 
     moved : (before ls : List Line) → h ++ ms ≡ before ++ crash_line ∷ ls → (n : ℕ) (f : File)
-        → file_at (server_after before).files n ≡ Some f → is_unsettled f.kept ≡ true → LeaveBarred n f.kept ls
+        → file_at (server_after before).files n ≡ Some f → IsUnsettled f.kept → LeaveBarred n f.kept ls
         → Stage n f.kept.tag ls (move w m).world × TellNoneNew before n ls
     moved before ls is n f found open_ leaves = elim (place_of h ms before ls crash_line is) [
       | inl (rest, own, more) ↦

@@ -19,7 +19,7 @@ use Rattle.cause_law.specs.Gets.{Asking, Row, LeavesLive, result_of as told_by}
 use Rattle.cause_law.specs.Returns.{Returns}
 use Rattle.cause_law.specs.Returns as return
 use Rattle.cause_law.specs.Told.{WasSent}
-use Rattle.cause_law.specs.Reopened.{crash_line, GiveLayout, GivesLayoutOf, GivesNone, WasSentTo, TellNoneNew}
+use Rattle.cause_law.specs.Reopened.{crash_line, GiveLayout, GivesLayoutOf, ReadsNone, WasSentTo, TellNoneNew}
 
 -- ---- results without a layout
 
@@ -117,7 +117,7 @@ new_none n s t now q a bars (OnFile f g found behind c) (of, gives) =
 -- what was sent before a crash and behind it
 pub sent_before : (n : ℕ) (before ls : List Line) (a : Answer) → TellNoneNew before n ls
     → WasSent (before ++ crash_line ∷ ls) a
-    → WasSentTo before a.client (envelope_item (envelope.Answer a)) ⊎ GivesNone n (envelope_item (envelope.Answer a))
+    → WasSentTo before a.client (envelope_item (envelope.Answer a)) ⊎ ReadsNone n (envelope_item (envelope.Answer a))
 sent_before n before ls a told s = elim (in_either (answer_line s.number a) before (crash_line ∷ ls) s.there) [
   | inl there ↦ inl (record { number = s.number; there = there })
   | inr (inl same) ↦ absurd (cc same)

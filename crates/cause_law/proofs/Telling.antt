@@ -51,12 +51,14 @@ use Rattle.exchange_law.specs.Made.{answer_to}
 use Rattle.exchange_law.proofs.Admitting.{is_last}
 use Rattle.exchange_law.proofs.CountMoments.{at_moment}
 use Rattle.exchange_law.proofs.SlotServing.{Comes, request_comes}
+use Rattle.component_law.specs.Live.{AreShort}
 use Rattle.component_law.proofs.Saying.{only_in, found_slot, kept_sent}
 use Rattle.component_law.proofs.Telling.{in_sent as in_sent_lines, not_silent, behind_event as behind_event_line}
 use Rattle.cause_law.specs.Answers.{IsCaused, answer_line}
 use Rattle.cause_law.specs.Told.{WasSent, Answers as AnswersIt, ToNew, Repeats, Refuses, IsToRequest, IsTold, TellsRecall, TellsAnswer, TellsCaused, EachMessageIsCaused}
 use Rattle.cause_law.proofs.Answering.{safe_at}
 use Rattle.cause_law.proofs.Causing.{Answered, request_answered}
+use Rattle.cause_law.proofs.Sendable.{answer_fits, recall_fits}
 
 -- ---- lines of messages
 
@@ -294,7 +296,7 @@ module _ (exact : ConflictsAreExact) (put : FilesArePut) (safe : GrantsAreSafe) 
   module _ (w : World) (h : List Line) (k : IsMoment w h) (m : Move) (d : due (plan_at k) w ≡ Some m.action)
       (x : AreWritten (h ++ lines_in w m)) where
     abbrev Told : Server → Server → ℕ → List ℕ → Type 0
-    Told s t = IsTold w m.action h s t
+    Told s t = IsTold (AreShort (h ++ lines_in w m)) w m.action h s t
 
     messages_are : sent_in h ≡ map shown w.network.messages
     messages_are =
@@ -379,12 +381,16 @@ module _ (exact : ConflictsAreExact) (put : FilesArePut) (safe : GrantsAreSafe) 
         → Told w.server after.server c (spelled (server_post o).message.body)
     by_out i handed state (ToDrive drive command) among addressed c to = absurd (cc to)
     by_out i handed state (AnswersOrder r) among addressed c to = absurd (cc to)
-    by_out i handed state (Recalls r) among addressed c to = TellsRecall r (same to) refl
+    by_out i handed state (Recalls r) among addressed c to =
+        TellsRecall r (same to)
+        (record { bytes_are = refl; fits = λ short. recall_fits w h k m d short i handed state r among })
       where
         same : node.Client r.client ≡ node.Client c → r.client ≡ c
         same e = cc e
     by_out i handed state (Answers a) among addressed c to =
-        TellsAnswer a (same to) refl (by_answer i handed state a among addressed)
+        TellsAnswer a (same to)
+        (record { bytes_are = refl; fits = λ short. answer_fits w h k m d short i handed state a among })
+        (by_answer i handed state a among addressed)
       where
         same : node.Client a.client ≡ node.Client c → a.client ≡ c
         same e = cc e

@@ -3,9 +3,8 @@ use Rattle.std.specs.Prelude.{◌≡◌, ◌≢◌, ◌⊎◌, ◌+◌, ℕ, tru
 use Rattle.server_rules.specs.declared.limits.TheConstants.{GREATEST_TAG}
 use Rattle.server_rules.specs.History.{Input, Obeys, Opens}
 use Rattle.server_rules.specs.Messages.{counters_have_room}
-use Rattle.server_rules.specs.Openings.{is_unsettled}
 use Rattle.scenario_text.specs.declared.line.Line.{Line}
-use Rattle.world_history.specs.ServerNames.{Server, File, OrderKind, ToRevoke, ToRebuild, ToAudit, ClientRequest}
+use Rattle.world_history.specs.ServerNames.{Server, File, Kept, Still, OrderKind, ToRevoke, ToRebuild, ToAudit, ClientRequest}
 use Rattle.world_history.specs.Book.{server_after, book_of}
 use Rattle.world_history.specs.State.{World}
 use Rattle.world_history.specs.History.{StandsFor}
@@ -34,12 +33,16 @@ abbrev pub TakesOrder : Server → Input → Type 0
 TakesOrder s (Obeys kind n) = Unit {0}
 TakesOrder s i = counters_have_room s ≡ true
 
+-- the file has a live grant, or a fence of it, or the repair behind that, isn't over
+abbrev pub IsUnsettled : Kept → Type 0
+IsUnsettled f = (f.grants ≢ []) ⊎ (f.phase ≢ Still)
+
 -- What begins a fence of the file beside a request: an order to revoke, to rebuild or to audit it, while no job of it runs; or
 -- the server's opening, if the file has a grant, or a fence of it or the repair behind that is cut off. There is a further tag.
 pub data BeginsFence (s : Server) (i : Input) (f : File) : Type 0 where
   ByOrder : (kind : OrderKind) → IsFencing kind → IsOrder i kind f.kept.number → TakesOrder s i → f.job ≡ None
       → f.kept.tag ≢ GREATEST_TAG → BeginsFence s i f
-  ByOpening : i ≡ Opens → counters_have_room s ≡ true → is_unsettled f.kept ≡ true → f.kept.tag ≢ GREATEST_TAG
+  ByOpening : i ≡ Opens → counters_have_room s ≡ true → IsUnsettled f.kept → f.kept.tag ≢ GREATEST_TAG
       → BeginsFence s i f
 
 -- a new request on the file comes

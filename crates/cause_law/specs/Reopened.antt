@@ -1,15 +1,14 @@
 -- What a server that crashed keeps from clients: no new grant of a file that had grants, or a fence under way, until a fence
 -- of it is over.
-use Rattle.std.specs.Prelude.{◌≡◌, ◌≢◌, ◌⊎◌, ℕ, true, List, [], ◌∷◌, ◌++◌, Option, Some, None}
+use Rattle.std.specs.Prelude.{◌≡◌, ◌≢◌, ◌⊎◌, ℕ, true, List, [], ◌∷◌, ◌++◌, Option, Some, None, Ok}
 use Rattle.layout_ops.specs.declared.results.LayoutGetResult.TheVariants as get
 use Rattle.layout_ops.specs.declared.results.Results.{Results}
 use Rattle.layout_ops.specs.declared.results.Results.TheVariants as results
 use Rattle.layout_ops.specs.declared.envelope.Envelope.{Envelope}
 use Rattle.layout_ops.specs.declared.envelope.Envelope.TheVariants as envelope
-use Rattle.layout_ops.specs.Spelling.{envelope_item}
+use Rattle.layout_ops.specs.Reading.{envelope_of}
 use Rattle.server_rules.specs.declared.limits.TheConstants.{GREATEST_TAG}
 use Rattle.server_rules.specs.Laws.{In}
-use Rattle.server_rules.specs.Openings.{is_unsettled}
 use Rattle.scenario_text.specs.declared.event.Event.TheVariants as event
 use Rattle.scenario_text.specs.declared.event.Machine.TheVariants as machine
 use Rattle.scenario_text.specs.declared.line.Note.TheVariants.{Fenced}
@@ -22,6 +21,7 @@ use Rattle.world_history.specs.State.{World}
 use Rattle.history_law.specs.BookMoments.{IsMoment}
 use Rattle.history_law.specs.Read.{AreWritten}
 use Rattle.exchange_law.specs.Text.{AreOfText, AreFew}
+use Rattle.cause_law.specs.Changes.{IsUnsettled}
 
 -- ---- lines
 
@@ -54,22 +54,20 @@ abbrev pub GivesLayoutOf : (file : ℕ) → Envelope → Type 0
 GivesLayoutOf n (envelope.Answer a) = (a.file ≡ n) × GiveLayout a.results
 GivesLayoutOf n e = ⊥
 
--- these bytes spell a message that gives no layout of the file
-pub record GivesNone (file : ℕ) (bytes : List ℕ) : Type 0 where
-  pub message : Envelope
-  pub bytes_are : bytes ≡ envelope_item message
-  pub none : GivesLayoutOf file message → ⊥
+-- no client reads in these bytes a message that gives a layout of the file
+abbrev pub ReadsNone : (file : ℕ) → (bytes : List ℕ) → Type 0
+ReadsNone file bytes = (m : Envelope) → envelope_of bytes ≡ Ok m → GivesLayoutOf file m → ⊥
 
 -- the server sent the client these bytes
 pub record WasSentTo (h : List Line) (client : ℕ) (bytes : List ℕ) : Type 0 where
   pub number : ℕ
   pub there : In (line.Message number party.Server (party.Client client) bytes) h
 
--- each message of the server to a client repeats what the client was sent before, or gives no layout of the file
+-- each message of the server to a client repeats what the client was sent before, or no layout of the file can be read in it
 abbrev pub TellNoneNew : (before : List Line) → (file : ℕ) → (ls : List Line) → Type 0
 TellNoneNew before file ls =
     (number client : ℕ) (bytes : List ℕ) → In (line.Message number party.Server (party.Client client) bytes) ls
-    → WasSentTo before client bytes ⊎ GivesNone file bytes
+    → WasSentTo before client bytes ⊎ ReadsNone file bytes
 
 -- ---- what the book has
 
@@ -85,11 +83,11 @@ pub record IsBarred (before ls : List Line) (file : ℕ) (kept : Kept) : Type 0 
   pub none : In reopen_line ls → kept.tag ≢ GREATEST_TAG → live_in (book_of (before ++ crash_line ∷ ls) file) ≡ []
   pub refused : In reopen_line ls → kept.tag ≡ GREATEST_TAG → IsRefused (book_of (before ++ crash_line ∷ ls) file)
 
--- So it is of each file that had a grant, or a fence that no repair had followed, when the server crashed.
+-- So it is of each file that had a live grant when the server crashed, or a fence that no repair had followed.
 abbrev pub CrashesBar : List Line → Type 0
 CrashesBar h =
     (before ls : List Line) → h ≡ before ++ crash_line ∷ ls → (file : ℕ) (f : File) → book_of before file ≡ Some f
-    → is_unsettled f.kept ≡ true → LeaveBarred file f.kept ls → IsBarred before ls file f.kept
+    → IsUnsettled f.kept → LeaveBarred file f.kept ls → IsBarred before ls file f.kept
 
 -- at each moment of a history of a scenario's text with few messages
 abbrev pub CrashesBarAt : List Line → Type 0

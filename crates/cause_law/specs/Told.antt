@@ -1,9 +1,10 @@
 -- Why the server sends a client what it sends: a recall, or an answer to the request that comes.
 use Rattle.std.specs.Prelude.{◌≡◌, ℕ, true, List, ◌++◌, Some}
 use Rattle.osd_lists.specs.declared.node.Node.TheVariants.{Client as FromClient}
+use Rattle.layout_ops.specs.declared.envelope.Envelope.{Envelope}
 use Rattle.layout_ops.specs.declared.envelope.Envelope.TheVariants as envelope
 use Rattle.layout_ops.specs.declared.statuses.TheConstants.{NFS4ERR_SEQ_MISORDERED}
-use Rattle.layout_ops.specs.Spelling.{envelope_item}
+use Rattle.layout_ops.specs.Spelling.{EnvelopeFits, envelope_item}
 use Rattle.server_rules.specs.Answers.{plain_answer}
 use Rattle.server_rules.specs.Files.{file_at}
 use Rattle.server_rules.specs.History.{Hears}
@@ -24,6 +25,7 @@ use Rattle.world_history.specs.Plans.{due}
 use Rattle.history_law.specs.Moments.{IsMoment, plan_at, lines_in}
 use Rattle.history_law.specs.Moves.{IsForServer}
 use Rattle.history_law.specs.Read.{AreWritten}
+use Rattle.component_law.specs.Live.{AreShort}
 use Rattle.cause_law.specs.Answers.{IsCaused, answer_line}
 
 -- ---- an answer
@@ -65,17 +67,25 @@ pub record IsToRequest (w : World) (action : Action) (h : List Line) (s t : Serv
 
 -- ---- in a move
 
--- these bytes tell the client a recall, or an answer to its request
-pub data IsTold (w : World) (action : Action) (h : List Line) (s t : Server) (client : ℕ) (bytes : List ℕ) : Type 0 where
-  TellsRecall : (r : Recall) → r.client ≡ client → bytes ≡ envelope_item (envelope.Recall r) → IsTold w action h s t client bytes
-  TellsAnswer : (a : Answer) → a.client ≡ client → bytes ≡ envelope_item (envelope.Answer a) → IsToRequest w action h s t a
-      → IsTold w action h s t client bytes
+-- these bytes spell the message, and where Short holds it is read in them as it was spelled
+pub record Spells (Short : Type 0) (message : Envelope) (bytes : List ℕ) : Type 0 where
+  pub bytes_are : bytes ≡ envelope_item message
+  pub fits : Short → EnvelopeFits message
 
--- so does each message of the server to a client in the lines of a move, by the books before and behind it
+-- these bytes tell the client a recall, or an answer to its request
+pub data IsTold (Short : Type 0) (w : World) (action : Action) (h : List Line) (s t : Server) (client : ℕ) (bytes : List ℕ)
+    : Type 0 where
+  TellsRecall : (r : Recall) → r.client ≡ client → Spells Short (envelope.Recall r) bytes
+      → IsTold Short w action h s t client bytes
+  TellsAnswer : (a : Answer) → a.client ≡ client → Spells Short (envelope.Answer a) bytes → IsToRequest w action h s t a
+      → IsTold Short w action h s t client bytes
+
+-- So does each message of the server to a client in the lines of a move, by the books before and behind it. Up to there the
+-- lines may be of a scenario's text, with few messages.
 abbrev pub TellsCaused : World → List Line → Move → Type 0
 TellsCaused w h m =
     (number client : ℕ) (bytes : List ℕ) → In (line.Message number party.Server (party.Client client) bytes) (lines_in w m)
-    → IsTold w m.action h (server_after h) (server_after (h ++ lines_in w m)) client bytes
+    → IsTold (AreShort (h ++ lines_in w m)) w m.action h (server_after h) (server_after (h ++ lines_in w m)) client bytes
 
 -- so it is in each move of a history
 abbrev pub MessagesAreCaused : List Line → Type 0

@@ -197,7 +197,7 @@ module _ (w : World) (chosen : List ℕ) (action : Action) where
       let same : k ≡ n = cc e in ap (λ (j : ℕ). brought w (slice_get w.network.messages j)) same
   delivered_is a n e = absurd (cc e)
 
-  heard_is : (d : IsDelivered w node.Server) (m : ServerMessage) → for_server d.posted.message ≡ Some m
+  pub heard_is : (d : IsDelivered w node.Server) (m : ServerMessage) → for_server d.posted.message ≡ Some m
       → number_in action ≡ Some d.number → w.down ≡ false
       → input_in w action ≡ Some (Hears w.clock d.posted.message.from m)
   heard_is d m read number up =
