@@ -1,7 +1,6 @@
 -- Behind the end of a fence the objects have its tag, and what was given before is of an earlier one: so it isn't
 -- performed.
 use Rattle.std.proofs.Common.{◌≡◌, ℕ, ◌≤◌, ◌<◌, ◌^◌, ◌∷◌, [], ◌++◌, List, false, Some, Ok, refl, sym, ap, subst, ◌∙◌, append_assoc, arith, inl}
-use Rattle.std.proofs.lemmas.List.{append-nil}
 use Rattle.layout_ops.specs.declared.envelope.Envelope.TheVariants as envelope
 use Rattle.layout_ops.specs.declared.results.LayoutGetOk.{LayoutGetOk}
 use Rattle.layout_ops.specs.declared.results.LayoutGetResult.TheVariants as get
@@ -22,18 +21,18 @@ use Rattle.world_history.specs.Plans.{due}
 use Rattle.world_history.specs.Sending.{Move, move}
 use Rattle.world_history.specs.Reading.{is_head, sent_in}
 use Rattle.world_history.specs.Book.{ServerSeen, server_after}
-use Rattle.world_history.specs.History.{StandsFor, OneEventMore, Lawful}
-use Rattle.world_history.specs.History.Begins.{Nothing}
+use Rattle.world_history.specs.History.{StandsFor, OneEventMore, Lawful, FrontsAreLawful}
 use Rattle.history_law.specs.BookMoments.{IsMoment, plan_at, lines_in}
 use Rattle.history_law.specs.Read.{BookIsRead}
 use Rattle.history_law.specs.StepEnds.{BehindStep}
 use Rattle.history_law.proofs.Exact.{same_ok, capability_read}
 use Rattle.history_law.proofs.StepEnds.{at_step_ends}
 use Rattle.history_law.specs.Reaching.{HolderIsServer}
+use Rattle.history_law.specs.Unforged.{AreUnforged}
 use Rattle.history_law.specs.Holder.{UnforgedHolderIsServer}
 use Rattle.history_law.specs.Fenced.{IsFenced, noted, FencesEnd, ReachedRefuses}
 use Rattle.history_law.proofs.Ending.{next_moment}
-use Rattle.history_law.proofs.InLines.{own_front}
+use Rattle.history_law.proofs.FencingFences.{whole, split_at}
 use Rattle.exchange_law.specs.Files.{ComponentFits, KeptFits}
 use Rattle.exchange_law.specs.Text.{AreOfText, AreFew}
 use Rattle.exchange_law.proofs.CountGrowing.{fewer, text_front}
@@ -49,19 +48,13 @@ use Rattle.component_law.proofs.Bodies.{low_now}
 
 -- ---- at the end of the step
 
--- the file is fenced, and numbers are low
+-- the file is fenced as far as what is performed under the server's holder is its own, and numbers are low
 record IsLowThen (number tag : ℕ) (h : List Line) : Type 0 where
-  fenced : IsFenced (server_after h).files h number tag
+  fenced : HolderIsServer h → IsFenced (server_after h).files h number tag
   low : IsLow (server_after h)
 
--- what is needed of a history
-record IsFine (h : List Line) : Type 0 where
-  text : AreOfText h
-  few : AreFew h
-  own : HolderIsServer h
-
-fine_front : (xs ys : List Line) → IsFine (xs ++ ys) → IsFine xs
-fine_front xs ys f = record { text = text_front xs ys f.text; few = fewer xs ys f.few; own = own_front xs ys f.own }
+short_front : (xs ys : List Line) → AreShort (xs ++ ys) → AreShort xs
+short_front xs ys s = record { text = text_front xs ys s.text; few = fewer xs ys s.few }
 
 -- ---- what was given
 
@@ -93,75 +86,70 @@ given_older before number tag c short g s =
     omega (arith, tag_is, o.older)
 
 module _ (read : BookIsRead) (more : OneEventMore) (end : FencesEnd) (refuses : ReachedRefuses)
-    (holder : UnforgedHolderIsServer) (older : GrantsAreOlder) where
+    (fronts : FrontsAreLawful) (holder : UnforgedHolderIsServer) (older : GrantsAreOlder) where
   module _ (number tag : ℕ) where
     ends_low : (w : World) (h : List Line) (k : IsMoment w h) (m : Move) → due (plan_at k) w ≡ Some m.action
-        → IsFine (h ++ lines_in w m) → (front : List Line) (l : Line) (after : List Line)
+        → AreShort (h ++ lines_in w m) → (front : List Line) (l : Line) (after : List Line)
         → lines_in w m ≡ front ++ l ∷ after → l ≡ line.Note number (note.Fenced tag)
         → IsLowThen number tag (h ++ lines_in w m)
-    ends_low w h k m d fine front l after there is =
+    ends_low w h k m d short front l after there is =
         let lines : List Line = h ++ lines_in w m in
         let next = next_moment w h k m d in
         let book : server_after lines ≡ (move w m).world.server =
-        ap (λ (s : ServerSeen). s.server) (read (move w m).world lines next (text_written lines fine.text)) in
+        ap (λ (s : ServerSeen). s.server) (read (move w m).world lines next (text_written lines short.text)) in
         record {
           fenced =
+              λ own.
               subst (λ (s : Server). IsFenced s.files lines number tag) (sym book)
-              (end w h k m d fine.own number tag
+              (end w h k m d own number tag
               (subst (In (line.Note number (note.Fenced tag))) (sym there)
               (in_behind (line.Note number (note.Fenced tag)) front (l ∷ after) (inl (sym is)))));
           low =
               subst IsLow (sym book)
-              (low_now (move w m).world lines (at_moment IsFitting all_fitting (move w m).world lines next)
-              (record { text = fine.text; few = fine.few }));
+              (low_now (move w m).world lines (at_moment IsFitting all_fitting (move w m).world lines next) short);
         }
 
-    behind_low : (w : World) (h : List Line) → StandsFor w h → IsFine h → (before after : List Line)
+    behind_low : (w : World) (h : List Line) → StandsFor w h → AreShort h → (before after : List Line)
         → h ≡ noted before number tag after
         → BehindStep (λ front lines. IsLowThen number tag lines) before (line.Note number (note.Fenced tag)) after
-    behind_low w h s fine before after is =
-        at_step_ends IsFine (λ l. l ≡ line.Note number (note.Fenced tag)) (λ l front lines. IsLowThen number tag lines)
+    behind_low w h s short before after is =
+        at_step_ends AreShort (λ l. l ≡ line.Note number (note.Fenced tag)) (λ l front lines. IsLowThen number tag lines)
         (record {
-          fronts = fine_front;
+          fronts = short_front;
           tells = λ l same. subst (λ (x : Line). is_head x ≡ false) (sym same) refl;
           ends = ends_low;
-        }) more w h s fine before (line.Note number (note.Fenced tag)) after is refl
+        }) more w h s short before (line.Note number (note.Fenced tag)) after is refl
 
   pub given_is_barred : GivenIsBarred
-  given_is_barred w h s text few fair before after number tag is =
-      let whole : Lawful h = record {
-        world = w;
-        whole = h;
-        stands = s;
-        last = [];
-        begins = Nothing refl;
-        lines_are = sym (append-nil h);
-      } in
-      let own : HolderIsServer h = holder h whole fair in
-      let e = behind_low number tag w h s (record { text = text; few = few; own = own }) before after is in
+  given_is_barred w h s text few before after number tag is =
+      let e = behind_low number tag w h s (record { text = text; few = few }) before after is in
       let front : List Line = noted before number tag e.rest in
-      let split : h ≡ front ++ e.more =
-      is ∙ ap (noted before number tag) e.cut
-      ∙ sym (append_assoc before (line.Note number (note.Fenced tag) ∷ e.rest) e.more) in
+      let split : h ≡ front ++ e.more = split_at h before e.rest e.more after number tag is e.cut in
+      let lawful : Lawful front = fronts front e.more (subst Lawful split (whole w h s)) in
+      let fenced : AreUnforged front → IsFenced (server_after front).files front number tag =
+      λ fair. e.holds.fenced (holder front lawful fair) in
       let behind : List Line = line.Note number (note.Fenced tag) ∷ after in
       let short : AreShort before = record {
         text = text_front before behind (subst AreOfText is text);
         few = fewer before behind (subst AreFew is few);
       } in
-      let f : File = e.holds.fenced.file in
-      let fits : KeptFits (server_after front).next_object f.kept =
-      (one_in (FileFits (server_after front).next_object) (server_after front).files f e.holds.low.fits.files
-      e.holds.fenced.there).0 in
-      let objects : (server_after front).next_object ≤ 2 ^ 63 = e.holds.low.objects in
-      let tag_fits : tag < 2 ^ 32 = omega (arith, fits.tag, e.holds.fenced.tag_is) in (
-        record { rest = e.rest; more = e.more; cut = e.cut; of_step = e.of_step; ends = e.ends; holds = e.holds.fenced },
-        λ at i there middle later l cut bytes c j reads own_object given.
+      let fits_so : (fair : AreUnforged front)
+      → KeptFits (server_after front).next_object (fenced fair).file.kept =
+      λ fair.
+      (one_in (FileFits (server_after front).next_object) (server_after front).files (fenced fair).file e.holds.low.fits.files
+      (fenced fair).there).0 in
+      let objects : (server_after front).next_object ≤ 2 ^ 63 = e.holds.low.objects in (
+        record { rest = e.rest; more = e.more; cut = e.cut; of_step = e.of_step; ends = e.ends; holds = fenced },
+        λ fair at i there middle later l cut bytes c j reads own_object given.
+            let fits : KeptFits (server_after front).next_object (fenced fair).file.kept = fits_so fair in
+            let tag_fits : tag < 2 ^ 32 = omega (arith, fits.tag, (fenced fair).tag_is) in
             let object : at.object < (server_after front).next_object =
-            (one_in (ComponentFits (server_after front).next_object) f.kept.components at fits.components i).object in
+            (one_in (ComponentFits (server_after front).next_object) (fenced fair).file.kept.components at fits.components
+            i).object in
             let object_fits : at.object < 2 ^ 64 = omega (arith, object, objects) in
             let late : tag ≤ c.capability.tag =
-            refuses h whole front middle later l (split ∙ ap (λ (ls : List Line). front ++ ls) cut) at.drive at.object tag
-            object_fits tag_fits (e.holds.fenced.raised at i there) bytes c j reads own_object in
+            refuses h (whole w h s) front middle later l (split ∙ ap (λ (ls : List Line). front ++ ls) cut) at.drive at.object
+            tag object_fits tag_fits ((fenced fair).raised at i there) bytes c j reads own_object in
             let early : c.capability.tag < tag =
             given_older before number tag c.capability short given
             (older w h s (text_written h text) before after number tag is given.given.number given.client

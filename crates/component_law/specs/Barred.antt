@@ -15,8 +15,7 @@ use Rattle.world_history.specs.State.{World}
 use Rattle.world_history.specs.History.{StandsFor}
 use Rattle.history_law.specs.Judging.{Judges}
 use Rattle.history_law.specs.Listed.{WasGiven}
-use Rattle.history_law.specs.Unforged.{AreUnforged}
-use Rattle.history_law.specs.Fenced.{noted, FencedBehind}
+use Rattle.history_law.specs.Fenced.{noted, FencedBehind, UnforgedTo}
 use Rattle.exchange_law.specs.Text.{AreOfText, AreFew}
 
 -- an answer of the server on this file gave a client a credential with this capability
@@ -28,20 +27,23 @@ pub record WasGivenFor (sent : List Sent) (file : ℕ) (c : Capability) : Type 0
   pub is : capabilities.reading credential.oc_capability ≡ Ok c
 
 -- Behind the step of the note no command is performed on the object of any component of the file that isn't missing there,
--- if its capability was given for the file before the note.
-abbrev pub BarsGiven : (before after : List Line) (number tag : ℕ) → FencedBehind before after number tag → Type 0
-BarsGiven before after number tag f =
-    (at : Component) → In at f.holds.file.kept.components → at.missing ≡ false →
+-- if its capability was given for the file before the note, whatever is forged behind it.
+abbrev pub BarsGiven :
+    (before after : List Line) (number tag : ℕ) (f : FencedBehind before after number tag)
+    → UnforgedTo before after number tag f → Type 0
+BarsGiven before after number tag f fair =
+    (at : Component) → In at (f.holds fair).file.kept.components → at.missing ≡ false →
     (middle later : List Line) (l : Line) → f.more ≡ middle ++ l ∷ later → (bytes : List ℕ) (c : Command) →
     Judges (noted before number tag f.rest ++ middle) l at.drive bytes Perform → reading bytes ≡ Ok c →
     c.object ≡ at.object → WasGivenFor (sent_in before) number c.capability → ⊥
 
--- so it is of each note that a fence is over
+-- so it is of each note that a fence is over, if nothing is forged up to the end of its step
 abbrev pub FencesBar : List Line → Type 0
 FencesBar h =
     (before after : List Line) (number tag : ℕ) → h ≡ noted before number tag after →
-    (f : FencedBehind before after number tag) × BarsGiven before after number tag f
+    (f : FencedBehind before after number tag)
+    × ((fair : UnforgedTo before after number tag f) → BarsGiven before after number tag f fair)
 
--- in each whole history of a scenario's text with few messages in which nothing is forged
+-- in each whole history of a scenario's text with few messages
 abbrev pub GivenIsBarred : Type 0
-GivenIsBarred = (w : World) (h : List Line) → StandsFor w h → AreOfText h → AreFew h → AreUnforged h → FencesBar h
+GivenIsBarred = (w : World) (h : List Line) → StandsFor w h → AreOfText h → AreFew h → FencesBar h

@@ -18,7 +18,7 @@ use history_law::{
     unforged_are_issued,
 };
 use server_rules::files_are_put;
-use world_history::{one_event_more, reading_goes_on};
+use world_history::{fronts_are_lawful, one_event_more, reading_goes_on};
 
 /// Each message of the server to a client, in a whole history whose events a text may have: the client was sent the same
 /// bytes before, or where they spell an answer that gives a layout, this is of a grant that is live in the book at the end
@@ -53,10 +53,10 @@ pub fn grants_are_older()
     seen_is_sound();
 }
 
-/// So a fence that is over bars what was given before it. In each whole history of a scenario's text with few messages in
-/// which nothing is forged, behind the step of each note that a fence of a file is over: no command is performed on the
-/// object of any component of the file that isn't missing there, if its capability is one that an answer of the server
-/// gave a client for this file before the note.
+/// So a fence that is over bars what was given before it. In each whole history of a scenario's text with few messages, of
+/// each note that a fence of a file is over: if nothing is forged up to the end of its step, no command is performed
+/// behind that on the object of any component of the file that isn't missing there, if its capability is one that an
+/// answer of the server gave a client for this file before the note.
 pub fn given_is_barred()
     ensures { GivenIsBarred }
 {
@@ -64,6 +64,7 @@ pub fn given_is_barred()
     one_event_more();
     fences_end();
     reached_refuses();
+    fronts_are_lawful();
     holder_is_server();
     grants_are_older();
 }

@@ -98,9 +98,9 @@ histories_are_sound safe answered issued listed fair ranges fronts apart spread 
         listed = listed h l;
         fair = fair h l;
         holders = own h l;
-        fenced = λ w s a u. fenced w h s a u;
+        fenced = λ w s a. fenced w h s a;
         older = λ w s a. older w h s a;
-        barred = λ w s text few u. barred w h s text few u;
+        barred = λ w s text few. barred w h s text few;
         lanes = λ before after is. lanes before (fronts before after (subst Lawful is l));
         own = λ before after is. lanes_own before (fronts before after (subst Lawful is l));
         exact = exact h l;

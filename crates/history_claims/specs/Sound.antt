@@ -86,14 +86,14 @@ pub record IsSound (h : List Line) : Type 0 where
   pub fair : unguessed h ≡ true → AreUnforged h
   -- what is performed under the server's holder the server sent, as far as nothing is forged
   pub holders : AtEachLine OwnUnlessForged h
-  -- so in a whole history in which nothing is forged, behind the step of each note that a fence is over the objects of the
-  -- file's components have the new tag, and from there on no command of an earlier one is performed on them
-  pub fenced : (w : World) → StandsFor w h → AreWritten h → AreUnforged h → FencesLast h
+  -- so in a whole history, if nothing is forged up to the end of the step of a note that a fence is over, the objects of the
+  -- file's components have the new tag there, and from there on no command of an earlier one is performed on them
+  pub fenced : (w : World) → StandsFor w h → AreWritten h → FencesLast h
   -- and whatever grants of the file the server gave before that note are of an earlier tag
   pub older : (w : World) → StandsFor w h → AreWritten h → GivenBefore h
-  -- so in a whole history of a scenario's text with few messages in which nothing is forged, behind the step of that note no
-  -- command is performed on the file's components that aren't missing whose capability was given for the file before it
-  pub barred : (w : World) → StandsFor w h → AreOfText h → AreFew h → AreUnforged h → FencesBar h
+  -- so in a whole history of a scenario's text with few messages, if nothing is forged up to there, behind that step no command
+  -- is performed on the file's components that aren't missing whose capability was given for the file before the note
+  pub barred : (w : World) → StandsFor w h → AreOfText h → AreFew h → FencesBar h
   -- at each moment each lane of an object is of a command of the lane's holder, the server or a client, or of one that carries
   -- what the server gave that client, as far as nothing is forged; where nothing was guessed it is of one that the holder
   -- sent; and no two lanes of an object have one holder

@@ -13,13 +13,13 @@ use Rattle.world_history.specs.State.{World}
 use Rattle.world_history.specs.Plans.{due}
 use Rattle.world_history.specs.Sending.{Move, move}
 use Rattle.world_history.specs.Book.{server_after}
-use Rattle.world_history.specs.History.{StandsFor, Lawful}
+use Rattle.world_history.specs.History.{Lawful}
 use Rattle.history_law.specs.Judging.{Judges}
 use Rattle.history_law.specs.StepEnds.{BehindStep}
 use Rattle.history_law.specs.Fencing.{AllRaised}
 use Rattle.history_law.specs.BookMoments.{IsMoment, plan_at, lines_in}
-use Rattle.history_law.specs.Read.{AreWritten}
 use Rattle.history_law.specs.Reaching.{reached_in, HolderIsServer}
+use Rattle.history_law.specs.Unforged.{AreUnforged}
 
 -- ---- the end of a fence
 
@@ -44,19 +44,12 @@ FencesEnd =
 abbrev pub noted : (before : List Line) → (number tag : ℕ) → (rest : List Line) → List Line
 noted before number tag rest = before ++ line.Note number (Fenced tag) ∷ rest
 
--- Behind the step of the note the file is so, by the server and the drives that are read off the lines.
+-- Behind the step of the note the file is so, by the server and the drives that are read off the lines, if nothing is forged up
+-- to there.
 abbrev pub FencedBehind : (before after : List Line) (number tag : ℕ) → Type 0
 FencedBehind before after number tag =
-    BehindStep (λ lines h. IsFenced (server_after h).files h number tag) before (line.Note number (Fenced tag)) after
-
--- so it is of each note that a fence is over
-abbrev pub AreFenced : List Line → Type 0
-AreFenced h =
-    (before after : List Line) (number tag : ℕ) → h ≡ noted before number tag after → FencedBehind before after number tag
-
--- In the words of the lines that is so of each whole history.
-abbrev pub FencedIsFenced : Type 0
-FencedIsFenced = (w : World) (h : List Line) → StandsFor w h → AreWritten h → HolderIsServer h → AreFenced h
+    BehindStep (λ lines h. AreUnforged h → IsFenced (server_after h).files h number tag) before (line.Note number (Fenced tag))
+    after
 
 -- ---- from then on
 
@@ -68,11 +61,17 @@ ReachedRefuses =
     (bytes : List ℕ) (c : Command) → Judges (first ++ middle) l drive bytes Perform → reading bytes ≡ Ok c →
     c.object ≡ object → tag ≤ c.capability.tag
 
+-- nothing is forged up to the end of the note's step
+abbrev pub UnforgedTo : (before after : List Line) (number tag : ℕ) → FencedBehind before after number tag → Type 0
+UnforgedTo before after number tag f = AreUnforged (noted before number tag f.rest)
+
 -- From there on no command of an earlier tag is performed on the object of any component of the file that isn't missing
--- there.
-abbrev pub RefusesOlder : (before after : List Line) (number tag : ℕ) → FencedBehind before after number tag → Type 0
-RefusesOlder before after number tag f =
-    (at : Component) → In at f.holds.file.kept.components → at.missing ≡ false → at.object < 2 ^ 64 →
+-- there, whatever is forged behind it.
+abbrev pub RefusesOlder :
+    (before after : List Line) (number tag : ℕ) (f : FencedBehind before after number tag)
+    → UnforgedTo before after number tag f → Type 0
+RefusesOlder before after number tag f fair =
+    (at : Component) → In at (f.holds fair).file.kept.components → at.missing ≡ false → at.object < 2 ^ 64 →
     (middle later : List Line) (l : Line) → f.more ≡ middle ++ l ∷ later → (bytes : List ℕ) (c : Command) →
     Judges (noted before number tag f.rest ++ middle) l at.drive bytes Perform → reading bytes ≡ Ok c →
     c.object ≡ at.object → tag ≤ c.capability.tag
@@ -81,8 +80,5 @@ RefusesOlder before after number tag f =
 abbrev pub FencesLast : List Line → Type 0
 FencesLast h =
     (before after : List Line) (number tag : ℕ) → h ≡ noted before number tag after →
-    (f : FencedBehind before after number tag) × (tag < 2 ^ 32 → RefusesOlder before after number tag f)
-
--- so it is in each whole history
-abbrev pub NothingOlder : Type 0
-NothingOlder = (w : World) (h : List Line) → StandsFor w h → AreWritten h → HolderIsServer h → FencesLast h
+    (f : FencedBehind before after number tag)
+    × (tag < 2 ^ 32 → (fair : UnforgedTo before after number tag f) → RefusesOlder before after number tag f fair)

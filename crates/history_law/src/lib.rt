@@ -36,8 +36,7 @@ mod job_laws;
 mod move_laws;
 
 pub use fencing_laws::{
-    fenced_is_fenced, fences_end, holder_is_server, holders_are_own, nothing_older,
-    reached_refuses, unforged_are_fenced,
+    fences_end, holder_is_server, holders_are_own, reached_refuses, unforged_are_fenced,
 };
 pub use history_laws::{
     book_is_read, commands_are_issued, drives_are_read, files_are_read, grants_are_counted,
