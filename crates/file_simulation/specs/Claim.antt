@@ -5,7 +5,7 @@ use Rattle.data_map.specs.Striping.{replicas, group_width, position_of, offset_o
 use Rattle.stripe_plan.specs.Laws.{word_of}
 use Rattle.osd_objects.specs.Store.{bytes_at}
 use Rattle.server_rules.specs.Files.{file_at}
-use Rattle.server_rules.specs.Grants.{count_stripes}
+use Rattle.server_rules.specs.Grants.{merged, count_stripes}
 use Rattle.server_rules.specs.Laws.{In}
 use Rattle.file_log.specs.Judge.{Accepts, candidates}
 use Rattle.scenario_text.specs.declared.line.Line.{Line}
@@ -95,11 +95,20 @@ RepairsLeaveNoneDisturbed =
     (s : ℕ) → is_worked s r.worked ≡ true →
     is_disturbed (moment_of (before ++ line.Note file (note.Repaired stripes 0) ∷ [])) file s ≡ false
 
--- The last step of some lines ends a repair of the file. It counted so many stripes, and left so many of them short. If it left
--- none, no stripe that it counted is disturbed.
+-- the file before a step that stands behind these
+abbrev pub IsBefore : List Step → (file : ℕ) → File → Type 0
+IsBefore earlier n f = file_at (fold sees_server server_at_first earlier).server.files n ≡ Some f
+
+-- The last step of some lines ends a repair of the file. It counted the stripes of the grants for writing that fences ended since
+-- the last repair: those that the book before the step has as ended, and those that are live there, which a fence of the step
+-- itself ends. These are so many stripes, and it left so many of them short. If it left none, no stripe that it counted is
+-- disturbed.
 pub record IsRepaired (h : List Line) (file stripes short : ℕ) : Type 0 where
   pub repair : Mended
   pub ends : EndsRepair h file repair
+  pub before : File
+  pub there : IsBefore ends.earlier file before
+  pub worked : repair.worked ≡ merged (before.kept.ended ++ before.kept.grants)
   pub counted : count_stripes repair.worked ≡ stripes
   pub left : length repair.short ≡ short
   pub undisturbed : short ≡ 0 → (s : ℕ) → is_worked s repair.worked ≡ true → is_disturbed (moment_of h) file s ≡ false

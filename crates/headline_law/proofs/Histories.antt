@@ -61,6 +61,7 @@ module _ (l : HistoriesAreLawful) where
   pub repairs : RepairLaws
   repairs = record {
     one_event_more = l.one_event_more;
+    grants_are_safe = l.grants_are_safe;
     steps_go_on = l.steps_go_on;
     all_lines_go_on = l.all_lines_go_on;
   }

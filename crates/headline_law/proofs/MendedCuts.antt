@@ -9,7 +9,8 @@ use Rattle.scenario_text.specs.declared.line.Line.{Line}
 use Rattle.scenario_text.specs.declared.line.Line.TheVariants as line
 use Rattle.server_rules.specs.Files.{file_at, Step as ServerStep}
 use Rattle.server_rules.specs.History.{Input, step}
-use Rattle.server_rules.specs.Laws.{In}
+use Rattle.server_rules.specs.Grants.{merged}
+use Rattle.server_rules.specs.Laws.{In, AreSafe}
 use Rattle.server_rules.proofs.Members.{in_behind}
 use Rattle.world_history.specs.ServerNames.{File, Server}
 use Rattle.world_history.specs.State.{World}
@@ -22,6 +23,7 @@ use Rattle.world_history.specs.History.{OneEventMore}
 use Rattle.world_history.specs.Laws.{BeginWithHead, StepsGoOn, ServerGoesOn, AllLinesGoOn}
 use Rattle.history_law.specs.Moments.{IsMoment, plan_at, lines_in}
 use Rattle.history_law.specs.Doing.{did_in}
+use Rattle.history_law.specs.Grants.{GrantsAreSafe}
 use Rattle.history_law.specs.Placed.{IsReadable}
 use Rattle.history_law.specs.Read.{AreWritten, is_written_line, ReadsAs}
 use Rattle.history_law.specs.StepEnds.{BeginNone}
@@ -31,11 +33,12 @@ use Rattle.history_law.proofs.BookMoments.{server_is_readable, book_is_read, ste
 use Rattle.history_law.proofs.Inputs.{placer_leaves_repairs}
 use Rattle.history_law.proofs.Staying.{written_front}
 use Rattle.component_law.specs.Distinct.{AreDistinct}
+use Rattle.cause_law.proofs.Answering.{safe_at}
 use Rattle.cause_law.proofs.Reading.{AllHeads}
 use Rattle.exchange_law.proofs.CountMoments.{reached}
 use Rattle.relation_law.proofs.FramesFiles.{files_distinct, step_stays}
 use Rattle.headline_law.specs.Mended.{EndsCounted}
-use Rattle.headline_law.proofs.MendedJobs.{repair_of, IsCounted}
+use Rattle.headline_law.proofs.MendedJobs.{repair_of, IsCounted, to_repair}
 use Rattle.headline_law.proofs.MendedSteps.{Counts, step_counts}
 use Rattle.headline_law.proofs.MendedTold.{over_line, HaveNote, IsNoted, told_by_move}
 
@@ -109,6 +112,7 @@ OverAt before l =
 -- laws of all histories
 pub record RepairLaws : Type 0 where
   pub one_event_more : OneEventMore
+  pub grants_are_safe : GrantsAreSafe
   pub steps_go_on : StepsGoOn
   pub all_lines_go_on : AllLinesGoOn
 
@@ -259,22 +263,26 @@ module _ (laws : RepairLaws) (w : World) (h : List Line) (k : IsMoment w h) (m :
     there_apart : AreDistinct there.server.files
     there_apart = subst (λ (s : Server). AreDistinct s.files) (sym server_is) apart
 
+    there_safe : AreSafe there.server.files
+    there_safe = subst (λ (s : Server). AreSafe s.files) (sym server_is) (safe_at laws.grants_are_safe w h k)
+
     -- the repairs are the same
     agree : Counts there.server there_apart full.notes cut.mended
     agree =
         subst (Counts there.server there_apart full.notes)
         (sym (placer_leaves_repairs there.server (placed_in (x.rest ++ l ∷ after)) (placed_in (x.rest ++ l ∷ [])) came.0
         (subst IsReadable (sym server_is) readable)))
-        (step_counts there.server there_apart (placed_in (x.rest ++ l ∷ after)) came.0)
+        (step_counts there.server there_apart there_safe (placed_in (x.rest ++ l ∷ after)) came.0)
 
     counts : IsCounted f cut.mended a b
     counts =
         subst (λ (n : ℕ). IsCounted n cut.mended a b) noted.file (agree.counted noted.note a b noted.told noted.kind)
 
+    stood : (y : File) × (file_at there.server.files f ≡ Some y) × (counts.repair.worked ≡ merged (to_repair y.kept))
+    stood = agree.there f counts.repair counts.found
+
     stands : (y : File) × (file_at cut.state.files f ≡ Some y)
-    stands =
-        let stood = agree.there f counts.repair counts.found in
-        (step_stays there.server (placed_in (x.rest ++ l ∷ [])) came.0 there_apart).2 f stood.0 stood.1
+    stands = (step_stays there.server (placed_in (x.rest ++ l ∷ [])) came.0 there_apart).2 f stood.0 stood.1
 
     does : server_step there last ≡ Some cut
     does = ap (step_by there.server (placed_in (x.rest ++ l ∷ []))) came.1
@@ -289,6 +297,9 @@ module _ (laws : RepairLaws) (w : World) (h : List Line) (k : IsMoment w h) (m :
           steps = steps;
           found = ap (λ (o : Option ServerStep). repair_of f (mended_in o)) does ∙ counts.found;
         };
+        before = stood.0;
+        there = stood.1;
+        worked = stood.2;
         counted = counts.worked;
         left = counts.left;
       };

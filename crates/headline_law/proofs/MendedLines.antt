@@ -30,6 +30,9 @@ module _ (counted : RepairsAreCounted) (leaves : RepairsLeaveNoneDisturbed) wher
       record {
         repair = r.repair;
         ends = r.ends;
+        before = r.before;
+        there = r.there;
+        worked = r.worked;
         counted = r.counted;
         left = r.left;
         undisturbed = clean before file stripes short lawful written r;

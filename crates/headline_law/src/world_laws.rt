@@ -123,8 +123,8 @@ pub fn none_is_logged()
 }
 
 /// Right behind each note that a repair is over, in every lawful history whose events a text may have: the note
-/// stands for a repair that counted so many stripes and left so many of them short; and if it left none, no stripe
-/// that it counted is disturbed there.
+/// stands for a repair that counted the stripes of the grants that fences ended by the book, so many, and left so many
+/// short; and if it left none, no stripe that it counted is disturbed there.
 pub fn repairs_leave_none()
     ensures { EachRepairLeavesNone }
 {

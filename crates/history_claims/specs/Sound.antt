@@ -187,8 +187,8 @@ pub record IsSound (h : List Line) : Type 0 where
   pub right : AtEachMoment IsRightIfCalm h
   -- and no audit found a bad stripe
   pub audits : AtEachMoment HasNoBadAudit h
-  -- right behind each note that a repair is over: the note stands for a repair that counted so many stripes and left so many of
-  -- them short; and if it left none short, no stripe that it counted is disturbed there
+  -- right behind each note that a repair is over: the note stands for a repair that counted the stripes of the grants that fences
+  -- ended by the book, so many, and left so many short; and if it left none short, no stripe that it counted is disturbed there
   pub mended : AtEachLine RepairedAt h
 
 -- Each lawful history is sound, whatever its events name. Where a text may have the events, it is one of a scenario's text;
