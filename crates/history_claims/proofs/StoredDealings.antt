@@ -28,7 +28,7 @@ use Rattle.relation_law.proofs.CallsMoved.{first_sent}
 use Rattle.relation_law.proofs.Works.{first_behind}
 use Rattle.history_claims.specs.Stored.{HasStored}
 use Rattle.history_claims.proofs.StoredParts.{Stands, Under, Scattering, Scattered, under_again, scattering_again, more_replied, under_more, are_stored}
-use Rattle.history_claims.proofs.StoredMoves.{quiet_alike, scatter_begins, scatter_replied, next_behind, under_timed, scatter_timed, left_behind}
+use Rattle.history_claims.proofs.StoredMoves.{quiet_alike, scatter_begins, scatter_replied, next_behind, under_timed, scatter_silent, left_behind}
 use Rattle.history_claims.proofs.Wrote.{IsNoOk}
 
 -- ---- a phase under the grant
@@ -124,6 +124,10 @@ module _ (before : List Held) (mine : Option CallOp) where
 
       -- ---- writes
 
+      -- what a scatter doesn't send at its begin
+      abbrev left_to : List Column → List TimedOut → List Store
+      left_to got timed = laters [] (stores h.map (span_of op) (bytes_of op) got (outs h timed))
+
       scatters_stored : (got : List Column) (timed : List TimedOut) → Under op h ms timed → WritesSome h op timed →
           MovedStored op (scatters h op got timed)
       unfolding scatters scatters_on
@@ -132,13 +136,11 @@ module _ (before : List Held) (mine : Option CallOp) where
           (first_sent h (stores h.map (span_of op) (bytes_of op) got (outs h timed)) (some got))
           (scatter_begins op h ms got timed under)
         where
-          abbrev queue : List Store
-          queue = laters [] (stores h.map (span_of op) (bytes_of op) got (outs h timed))
-
-          by_first : (cs : List Awaited) → Awaiting cs → Scattering op h ms timed cs queue →
-              MovedStored op (scatters_on h op timed queue cs cs)
+          by_first : (cs : List Awaited) → Awaiting cs → Scattering op h ms timed cs (left_to got timed) →
+              MovedStored op (scatters_on h op timed (left_to got timed) cs cs)
           by_first [] z x = absurd z
-          by_first (a ∷ cs) z x = scattering_again op h (h.count + length (a ∷ cs)) h.size ms timed (a ∷ cs) queue x
+          by_first (a ∷ cs) z x =
+              scattering_again op h (h.count + length (a ∷ cs)) h.size ms timed (a ∷ cs) (left_to got timed) x
 
       gathers_on_stored : (got : List Column) (timed : List TimedOut) (sent awaited : List Awaited) → Under op h ms timed →
           WritesSome h op timed → MovedStored op (gathers_on h op got timed sent awaited)
@@ -294,4 +296,4 @@ module _ (before : List Held) (mine : Option CallOp) where
           by true = tt
           by false =
               scatters_on_stored silent op h own _ _ [] _ (left_behind k io.awaited queue fits)
-              (scatter_timed op h ms io.timed io.awaited queue k a xs is x)
+              (scatter_silent op h ms io.timed io.awaited queue k a xs is x)

@@ -223,12 +223,12 @@ others_of : (k n : ℕ) → (n ≡ k → ⊥) → not (n == k) ≡ true
 others_of k n ne = rw (ne_eqb n k ne) refl
 
 -- and a scatter goes on without it
-pub scatter_timed : (op : CallOp) (h : Held) (ms : List Met) (timed : List TimedOut) (awaited : List Awaited)
+pub scatter_silent : (op : CallOp) (h : Held) (ms : List Met) (timed : List TimedOut) (awaited : List Awaited)
     (queue : List Store) (k : ℕ) (a : Awaited) (xs : List Awaited) → of_component k awaited ≡ a ∷ xs →
     Scattering op h ms timed awaited queue →
     Scattering op h (met.TimedOut h k ∷ ms) (timed_after timed a xs) (not_of k awaited) (without_component k queue)
 unfolding not_of without_component
-scatter_timed op h ms timed awaited queue k a xs is x = record {
+scatter_silent op h ms timed awaited queue k a xs is x = record {
   under = under_timed op h ms timed k awaited a xs is x.under;
   got = x.got;
   first = x.first;
