@@ -11,6 +11,14 @@ pub mod PlainAlone
 pub mod PlainPending
 pub mod PlainReads
 pub mod Wrote
+pub mod StoredPlan
+pub mod StoredParts
+pub mod StoredMoves
+pub mod StoredDealings
+pub mod StoredCalls
+pub mod StoredSteps
+pub mod StoredInputs
+pub mod StoredLines
 pub mod OwnEntries
 pub mod Numbers
 pub mod PlainLogged

@@ -661,7 +661,7 @@ late_behind x i s k = by k.call.phase refl k.late (subst (CallSo (HasScattered x
 
 -- ---- any inputs
 
-sound_step : (x : Client) (i : Input) → IsSound x → IsSound (step x i).client
+pub sound_step : (x : Client) (i : Input) → IsSound x → IsSound (step x i).client
 sound_step x i s = record {
   fine = turn_is_fine x i s.fine;
   works = step_works x s.works i;

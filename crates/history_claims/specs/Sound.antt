@@ -18,6 +18,7 @@ use Rattle.history_claims.specs.Created.{FilesAreCreated}
 use Rattle.history_claims.specs.Lanes.{HaveFairLanes, HaveOwnLanes}
 use Rattle.history_claims.specs.Logged.{IsLoggedAt}
 use Rattle.history_claims.specs.Numbered.{NumberedAt}
+use Rattle.history_claims.specs.Stored.{StoredAt}
 use Rattle.component_law.specs.Given.{GivenBefore}
 use Rattle.component_law.specs.Live.{AnswersAreLive}
 use Rattle.component_law.specs.Barred.{FencesBar}
@@ -159,6 +160,10 @@ pub record IsSound (h : List Line) : Type 0 where
   -- each byte of the answer is one that such a reply of its own position gave; or, if the position is out by the layout and the
   -- timeouts, the data byte of the one codeword that has what such replies gave of its column
   pub bytes : AtEachLine BytesAt h
+  -- where a line tells that some bytes were written, each was carried by a WRITE that was performed, as a reply to the call says,
+  -- to each replica of its position that isn't out by the layout and the timeouts; so was some byte of each unit of parity in its
+  -- column; and what timed out in the call was reported, and taken as a loss
+  pub stored : AtEachLine StoredAt h
   -- the line of each message has the number of messages before it
   pub numbered : AtEachLine NumberedAt h
   -- in a history of a scenario's text with few messages, where a line tells that a read was answered, or that some bytes were

@@ -5,6 +5,7 @@ ghost use Rattle.history_claims.specs.Numbered.{MessagesAreNumbered};
 ghost use Rattle.history_claims.specs.Plain.{ReadyReadsArePlain};
 ghost use Rattle.history_claims.specs.Sound.{HistoriesAreSound};
 ghost use Rattle.history_claims.specs.Spread.{ComponentsStandSpread};
+ghost use Rattle.history_claims.specs.Stored.{WritesAreStored};
 
 use cause_law::{
     answers_are_of_replies, awaited_have_causes, awaited_have_ends, awaited_were_sent,
@@ -68,6 +69,15 @@ pub fn messages_are_numbered()
     one_event_more();
 }
 
+/// In each lawful history, where a line tells that some bytes were written, a WRITE that was performed carried each of them
+/// to each replica of its position that isn't out, and another something of each unit of parity in the same column; and
+/// what timed out in the call was reported, and taken as a loss.
+pub fn writes_are_stored()
+    ensures { WritesAreStored }
+{
+    ends_are_caused();
+}
+
 /// In a lawful history of a scenario's text with few messages, where a line tells that a read was answered, or that some
 /// bytes were written, the log of the file has an entry of this call, with its range, or its bytes.
 pub fn ended_calls_are_logged()
@@ -121,7 +131,7 @@ pub fn ready_reads_are_plain()
 /// layout can't be used or since a command lies outside its capability, none is refused since its client has no
 /// sequence number left, and the server's counters have room. Each call ends as what it met says: the answers and
 /// replies that it took, and timeouts, or is left pending at the end of its event; and a read is answered by what was
-/// read of drives in its call. One that is left pending waits for the answer to an older request, or its server is
+/// read of drives in its call; an acknowledged write stored its bytes. One that is left pending waits for the answer to an older request, or its server is
 /// down. In a whole history each new request is answered in its step by the first row that applies to its file's
 /// book, any other answer repeats the last one or says that its request is misordered, and nothing else makes a grant
 /// live or ends one but a fence. There a file's tag changes exactly with the note that a fence of it is over, its
@@ -187,5 +197,6 @@ pub fn histories_are_sound()
     audits_find_none();
     repairs_leave_none();
     messages_are_numbered();
+    writes_are_stored();
     within_the_limit_are_few();
 }

@@ -10,5 +10,5 @@ mod laws;
 
 pub use laws::{
     components_stand_spread, ended_calls_are_logged, files_are_created, histories_are_sound,
-    messages_are_numbered, ready_reads_are_plain,
+    messages_are_numbered, ready_reads_are_plain, writes_are_stored,
 };
