@@ -6,3 +6,7 @@ pub mod Sound
 pub mod Plain
 pub mod Logged
 pub mod Numbered
+pub mod Received
+pub mod Delivered
+pub mod TimedOut
+pub mod Refused
