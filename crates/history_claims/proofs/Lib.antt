@@ -26,3 +26,17 @@ pub mod PlainAnswers
 pub mod PlainWrites
 pub mod PlainSent
 pub mod PlainWhole
+pub mod Plainly
+pub mod Moved
+pub mod Places
+pub mod Standing
+pub mod Single
+pub mod Quiet
+pub mod Opened
+pub mod Idle
+pub mod SoFar
+pub mod Prompting
+pub mod Receiving
+pub mod Delivering
+pub mod Timing
+pub mod Refusing

@@ -21,6 +21,10 @@ use Rattle.history_claims.specs.Sound.{HistoriesAreSound}
 use Rattle.history_claims.specs.Logged.{EndedAreLogged}
 use Rattle.history_claims.specs.Numbered.{MessagesAreNumbered}
 use Rattle.history_claims.specs.Stored.{WritesAreStored}
+use Rattle.history_claims.specs.Received.{MessagesAreReceived}
+use Rattle.history_claims.specs.Delivered.{EachEventDelivers}
+use Rattle.history_claims.specs.TimedOut.{EachIsTimedOut}
+use Rattle.history_claims.specs.Refused.{EachIsRefused}
 use Rattle.history_claims.specs.Plain.{ReadyReadsArePlain}
 use Rattle.component_law.specs.Given.{GrantsAreOlder}
 use Rattle.component_law.specs.Live.{EachAnswerIsLive}
@@ -81,11 +85,13 @@ pub histories_are_sound : HistoriesAreSafe → VerdictsAreAnswered → CommandsA
     → EachAwaitedWasSent → EachCrashBars → EachGrantIsNamedOnce → EachObjectIsOwn → EachEndIsSaid
     → EachCallIsLeftSo → PendingCallsAreUnanswered → LossesAreBorne → ReadyIsAnswered → EndedAreLogged → ReadyReadsArePlain
     → HeadlineHolds
-    → AuditsFindNone → EachRepairLeavesNone → MessagesAreNumbered → WritesAreStored → WithinTheLimitAreFew
+    → AuditsFindNone → EachRepairLeavesNone → MessagesAreNumbered → WritesAreStored → MessagesAreReceived → EachEventDelivers
+    → EachIsTimedOut → EachIsRefused → WithinTheLimitAreFew
     → HistoriesAreSound
 histories_are_sound safe answered issued listed fair ranges fronts apart spread created own fenced live given older barred exact
     allowed lanes lanes_own judged awaited low ends outcomes read bytes tags caused told changed gone lost raised waits until sent
-    barred_by named objects said left unanswered borne ready logged plain right audits mended numbered stored few = record {
+    barred_by named objects said left unanswered borne ready logged plain right audits mended numbered stored
+    received delivers silent refuses few = record {
       sound = λ h l. record {
         safe = safe h l;
         answered = λ w s. answered w h s;
@@ -128,6 +134,10 @@ histories_are_sound safe answered issued listed fair ranges fronts apart spread 
         bytes = bytes h l;
         stored = stored h l;
         numbered = numbered h l;
+        received = received h l;
+        delivers = delivers h l;
+        silent = silent h l;
+        refuses = refuses h l;
         logged = λ written text few. logged h l written text few;
         said = λ w g k m rest d is. said w g k m d;
         left = λ w g k m rest d is. left w g k m d;

@@ -118,7 +118,7 @@ timeout_there h k (met.TimedOut g j ∷ ms) x i = elim (from_rising j k (timed_i
     x.0.0,
     x.0.1,
     inl (ap (λ (c : ℕ). met.TimedOut (record h { count = x.0.0; size = x.0.1 }) c) same
-    ∙ ap (λ (y : Held). met.TimedOut y j) (sym x.0.2)),
+        ∙ ap (λ (y : Held). met.TimedOut y j) (sym x.0.2)),
   )
   | inr old ↦ let t = timeout_there h k ms x.1 old in (t.0, t.1, inr t.2)
 ]

@@ -149,11 +149,13 @@ module _ (x : Client) (ms : List Met) (s : IsSound x) (y : CallStored x.held x.o
     -- a call that doesn't wait goes on
     stays : (op : CallOp) (p : Phase) → x.call ≡ Some (record { op = op; phase = p }) →
         PhaseStored x.held None op older p → Lasts d
-    stays op p is z =
-        (subst (CallStored x.held None answered) (sym is) (call_more x.held None older answered m (Some (record {
-          op = op;
-          phase = p;
-        })) z), tt)
+    stays op p is z = (
+      subst (CallStored x.held None answered) (sym is) (call_more x.held None older answered m (Some (record {
+        op = op;
+        phase = p;
+      })) z),
+      tt,
+    )
 
     phase_stored : (op : CallOp) (p : Phase) → x.call ≡ Some (record { op = op; phase = p }) →
         PhaseStored x.held (Some r) op older p → Lasts (on_phase d op p a)

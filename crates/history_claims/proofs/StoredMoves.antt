@@ -58,8 +58,7 @@ numbered_carry : (h : Held) (count : ℕ) (ws : List Store) (w : Store) → In w
 unfolding numbered command sealed
 numbered_carry h count [] w i = absurd i
 numbered_carry h count (v ∷ ws) w (inl e) =
-    subst (IsAwaited h (numbered h true count (v ∷ ws))) (sym e)
-    (
+    subst (IsAwaited h (numbered h true count (v ∷ ws))) (sym e) (
       awaited_for h true v (nonce_at h (count + 1)),
       inl refl,
       record {

@@ -7,3 +7,7 @@ pub mod Plain
 pub mod Logged
 pub mod Numbered
 pub mod Stored
+pub mod Received
+pub mod Delivered
+pub mod TimedOut
+pub mod Refused

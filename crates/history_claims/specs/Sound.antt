@@ -19,6 +19,10 @@ use Rattle.history_claims.specs.Lanes.{HaveFairLanes, HaveOwnLanes}
 use Rattle.history_claims.specs.Logged.{IsLoggedAt}
 use Rattle.history_claims.specs.Numbered.{NumberedAt}
 use Rattle.history_claims.specs.Stored.{StoredAt}
+use Rattle.history_claims.specs.Received.{ReceivedAt}
+use Rattle.history_claims.specs.Delivered.{EventsDeliver}
+use Rattle.history_claims.specs.TimedOut.{AreTimedOut}
+use Rattle.history_claims.specs.Refused.{AreRefused}
 use Rattle.component_law.specs.Given.{GivenBefore}
 use Rattle.component_law.specs.Live.{AnswersAreLive}
 use Rattle.component_law.specs.Barred.{FencesBar}
@@ -166,6 +170,18 @@ pub record IsSound (h : List Line) : Type 0 where
   pub stored : AtEachLine StoredAt h
   -- the line of each message has the number of messages before it
   pub numbered : AtEachLine NumberedAt h
+  -- what is delivered was sent. Its receiver is deaf to it exactly if it has failed, is down, was stopped, or isn't there; else a
+  -- client or the server takes it, and a drive judges it
+  pub received : AtEachLine ReceivedAt h
+  -- an event that is over delivers just what it has to: a `do`, or one that makes a file, what is sent in it; `settle` what was
+  -- open, or is sent in it; each once, in order; and `deliver` what it names
+  pub delivers : EventsDeliver h
+  -- a component times out exactly if an event `timeout` says so, or in a `do` in which no message is left and of those that the
+  -- call awaits it is the lowest
+  pub silent : AreTimedOut h
+  -- a client refuses exactly a call while another is pending, or whose range passes a limit, or for which it has no number left,
+  -- and to leave while a call is pending. An event that it refuses has just the line that tells it
+  pub refuses : AreRefused h
   -- in a history of a scenario's text with few messages, where a line tells that a read was answered, or that some bytes were
   -- written, the log has the entry of this call, with its range, or its bytes; and so the judge sees it
   pub logged : AreWritten h → AreOfText h → AreFew h → AtEachLine IsLoggedAt h

@@ -2,7 +2,11 @@
 ghost use Rattle.history_claims.specs.Created.{EachFileIsCreated};
 ghost use Rattle.history_claims.specs.Logged.{EndedAreLogged};
 ghost use Rattle.history_claims.specs.Numbered.{MessagesAreNumbered};
+ghost use Rattle.history_claims.specs.Delivered.{EachEventDelivers};
 ghost use Rattle.history_claims.specs.Plain.{ReadyReadsArePlain};
+ghost use Rattle.history_claims.specs.Received.{MessagesAreReceived};
+ghost use Rattle.history_claims.specs.Refused.{EachIsRefused};
+ghost use Rattle.history_claims.specs.TimedOut.{EachIsTimedOut};
 ghost use Rattle.history_claims.specs.Sound.{HistoriesAreSound};
 ghost use Rattle.history_claims.specs.Spread.{ComponentsStandSpread};
 ghost use Rattle.history_claims.specs.Stored.{WritesAreStored};
@@ -76,6 +80,39 @@ pub fn writes_are_stored()
     ensures { WritesAreStored }
 {
     ends_are_caused();
+}
+
+/// In each lawful history what is delivered was sent, and its receiver is deaf to it exactly if it is a drive that has failed
+/// or is down, a client that was stopped, or the server, and that is down.
+pub fn messages_are_received()
+    ensures { MessagesAreReceived }
+{
+    one_event_more();
+}
+
+/// In each lawful history an event that is over delivers just what it has to.
+pub fn events_deliver()
+    ensures { EachEventDelivers }
+{
+    one_event_more();
+    events_stand_apart();
+}
+
+/// In each lawful history a component times out exactly where an event says so, or where the call of a `do` awaits it and
+/// no message is left.
+pub fn components_time_out()
+    ensures { EachIsTimedOut }
+{
+    one_event_more();
+    events_stand_apart();
+}
+
+/// In each lawful history a client refuses what it has to, and nothing else.
+pub fn clients_refuse()
+    ensures { EachIsRefused }
+{
+    one_event_more();
+    events_stand_apart();
 }
 
 /// In a lawful history of a scenario's text with few messages, where a line tells that a read was answered, or that some
@@ -198,5 +235,9 @@ pub fn histories_are_sound()
     repairs_leave_none();
     messages_are_numbered();
     writes_are_stored();
+    messages_are_received();
+    events_deliver();
+    components_time_out();
+    clients_refuse();
     within_the_limit_are_few();
 }

@@ -21,4 +21,5 @@ returns c =
     c.losses_are_borne.ensures c.ready_calls_end_in_ok.ensures c.ended_calls_are_logged.ensures
     c.ready_reads_are_plain.ensures c.headline_holds.ensures
     c.audits_find_none.ensures c.repairs_leave_none.ensures c.messages_are_numbered.ensures c.writes_are_stored.ensures
+    c.messages_are_received.ensures c.events_deliver.ensures c.components_time_out.ensures c.clients_refuse.ensures
     c.within_the_limit_are_few.ensures
