@@ -18,3 +18,9 @@ pub mod PlainAnswers
 pub mod PlainWrites
 pub mod PlainSent
 pub mod PlainWhole
+pub mod NoteWords
+pub mod NoteWalk
+pub mod NoteCauses
+pub mod NoteRequests
+pub mod NoteSteps
+pub mod NoteLaw

@@ -6,3 +6,4 @@ pub mod Sound
 pub mod Plain
 pub mod Logged
 pub mod Numbered
+pub mod Notes

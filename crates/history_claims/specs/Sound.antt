@@ -48,6 +48,7 @@ use Rattle.cause_law.specs.Numbers.{GrantsAreNamedOnce, ObjectsAreOwnAt}
 use Rattle.cause_law.specs.Reopened.{CrashesBarAt}
 use Rattle.component_law.specs.TagTags.{HaveTagsAt}
 use Rattle.headline_law.specs.Claim.{HasNoBadAudit, IsRightIfCalm, RepairedAt}
+use Rattle.history_claims.specs.Notes.{NotesHaveCauses}
 use Rattle.history_claims.specs.Texts.{EventsMakeText, CutsGoOn}
 
 -- What the lines of a sound history say.
@@ -159,6 +160,9 @@ pub record IsSound (h : List Line) : Type 0 where
   -- each byte of the answer is one that such a reply of its own position gave; or, if the position is out by the layout and the
   -- timeouts, the data byte of the one codeword that has what such replies gave of its column
   pub bytes : AtEachLine BytesAt h
+  -- in a whole history each note of the server has its cause in what the books have of the file before and behind its step, and
+  -- in what comes
+  pub noted : (w : World) → StandsFor w h → AreWritten h → NotesHaveCauses h
   -- the line of each message has the number of messages before it
   pub numbered : AtEachLine NumberedAt h
   -- in a history of a scenario's text with few messages, where a line tells that a read was answered, or that some bytes were

@@ -7,8 +7,10 @@
 #![tactic(auto)]
 
 mod laws;
+mod note_laws;
 
 pub use laws::{
     components_stand_spread, ended_calls_are_logged, files_are_created, histories_are_sound,
     messages_are_numbered, ready_reads_are_plain,
 };
+pub use note_laws::notes_have_causes;
