@@ -40,3 +40,9 @@ pub mod Receiving
 pub mod Delivering
 pub mod Timing
 pub mod Refusing
+pub mod NoteWords
+pub mod NoteWalk
+pub mod NoteCauses
+pub mod NoteRequests
+pub mod NoteSteps
+pub mod NoteLaw

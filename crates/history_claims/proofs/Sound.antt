@@ -19,6 +19,7 @@ use Rattle.history_claims.specs.Spread.{ComponentsStandSpread}
 use Rattle.history_claims.specs.Created.{EachFileIsCreated}
 use Rattle.history_claims.specs.Sound.{HistoriesAreSound}
 use Rattle.history_claims.specs.Logged.{EndedAreLogged}
+use Rattle.history_claims.specs.Notes.{EachNoteHasItsCause}
 use Rattle.history_claims.specs.Numbered.{MessagesAreNumbered}
 use Rattle.history_claims.specs.Stored.{WritesAreStored}
 use Rattle.history_claims.specs.Received.{MessagesAreReceived}
@@ -86,12 +87,12 @@ pub histories_are_sound : HistoriesAreSafe → VerdictsAreAnswered → CommandsA
     → EachCallIsLeftSo → PendingCallsAreUnanswered → LossesAreBorne → ReadyIsAnswered → EndedAreLogged → ReadyReadsArePlain
     → HeadlineHolds
     → AuditsFindNone → EachRepairLeavesNone → MessagesAreNumbered → WritesAreStored → MessagesAreReceived → EachEventDelivers
-    → EachIsTimedOut → EachIsRefused → WithinTheLimitAreFew
+    → EachIsTimedOut → EachIsRefused → EachNoteHasItsCause → WithinTheLimitAreFew
     → HistoriesAreSound
 histories_are_sound safe answered issued listed fair ranges fronts apart spread created own fenced live given older barred exact
     allowed lanes lanes_own judged awaited low ends outcomes read bytes tags caused told changed gone lost raised waits until sent
     barred_by named objects said left unanswered borne ready logged plain right audits mended numbered stored
-    received delivers silent refuses few = record {
+    received delivers silent refuses noted few = record {
       sound = λ h l. record {
         safe = safe h l;
         answered = λ w s. answered w h s;
@@ -138,6 +139,7 @@ histories_are_sound safe answered issued listed fair ranges fronts apart spread 
         delivers = delivers h l;
         silent = silent h l;
         refuses = refuses h l;
+        noted = λ w s a. noted w h s a;
         logged = λ written text few. logged h l written text few;
         said = λ w g k m rest d is. said w g k m d;
         left = λ w g k m rest d is. left w g k m d;

@@ -11,3 +11,4 @@ pub mod Received
 pub mod Delivered
 pub mod TimedOut
 pub mod Refused
+pub mod Notes

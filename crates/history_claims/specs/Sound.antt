@@ -53,6 +53,7 @@ use Rattle.cause_law.specs.Numbers.{GrantsAreNamedOnce, ObjectsAreOwnAt}
 use Rattle.cause_law.specs.Reopened.{CrashesBarAt}
 use Rattle.component_law.specs.TagTags.{HaveTagsAt}
 use Rattle.headline_law.specs.Claim.{HasNoBadAudit, IsRightIfCalm, RepairedAt}
+use Rattle.history_claims.specs.Notes.{NotesHaveCauses}
 use Rattle.history_claims.specs.Texts.{EventsMakeText, CutsGoOn}
 
 -- What the lines of a sound history say.
@@ -168,6 +169,9 @@ pub record IsSound (h : List Line) : Type 0 where
   -- to each replica of its position that isn't out by the layout and the timeouts; so was some byte of each unit of parity in its
   -- column; and what timed out in the call was reported, and taken as a loss
   pub stored : AtEachLine StoredAt h
+  -- in a whole history each note of the server has its cause in what the books have of the file before and behind its step, and
+  -- in what comes
+  pub noted : (w : World) → StandsFor w h → AreWritten h → NotesHaveCauses h
   -- the line of each message has the number of messages before it
   pub numbered : AtEachLine NumberedAt h
   -- what is delivered was sent. Its receiver is deaf to it exactly if it has failed, is down, was stopped, or isn't there; else a

@@ -11,6 +11,7 @@ ghost use Rattle.history_claims.specs.Sound.{HistoriesAreSound};
 ghost use Rattle.history_claims.specs.Spread.{ComponentsStandSpread};
 ghost use Rattle.history_claims.specs.Stored.{WritesAreStored};
 
+use crate::note_laws::notes_have_causes;
 use cause_law::{
     answers_are_of_replies, awaited_have_causes, awaited_have_ends, awaited_were_sent,
     calls_are_left, calls_end_so, components_have_causes, crashes_bar, each_byte_has_its_cause,
@@ -239,5 +240,6 @@ pub fn histories_are_sound()
     events_deliver();
     components_time_out();
     clients_refuse();
+    notes_have_causes();
     within_the_limit_are_few();
 }

@@ -8,9 +8,11 @@
 #![tactic(auto)]
 
 mod laws;
+mod note_laws;
 
 pub use laws::{
     clients_refuse, components_stand_spread, components_time_out, ended_calls_are_logged,
     events_deliver, files_are_created, histories_are_sound, messages_are_numbered,
     messages_are_received, ready_reads_are_plain, writes_are_stored,
 };
+pub use note_laws::notes_have_causes;

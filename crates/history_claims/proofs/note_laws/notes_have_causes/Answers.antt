@@ -1,0 +1,8 @@
+use Rattle.history_claims.proofs.NoteLaw.{each_note_has_its_cause}
+use Rattle.history_claims.proofs.note_laws.notes_have_causes.Goals as goal
+
+pub returns : goal.returns
+returns c =
+    each_note_has_its_cause c.conflicts_are_exact.ensures c.grants_are_safe.ensures c.server_moves.ensures
+    c.seen_is_sound.ensures c.book_is_read.ensures c.step_is_read.ensures c.one_event_more.ensures
+    c.reading_goes_on.ensures.server
