@@ -173,6 +173,7 @@ module _ (laws : AskingLaws) (begins_work : BeginsToWork) (s : ReadyCall) (m : M
           alike =
               ap (λ (x : Client). is_some (held_of x.held (file_at_call s))) after
               ∙ same_some_of (own_at s) (grant_of (kept_at s).grants s.client) s.ready.same;
+          others = λ g i. inr i;
           aside = begins_aside;
           drives = drives_begin s v steps.drives;
         };

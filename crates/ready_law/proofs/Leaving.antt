@@ -75,6 +75,7 @@ module _ (laws : AskingLaws) (s : ReadyCall) (w : World) (h : List Line) (i : Is
     file = file_now;
     found = r.server.found;
     file_is = refl;
+    live = r.others;
     caller = r.at;
     there = r.there;
     rests = record { idle = r.idle; same = holds_the_same };

@@ -254,6 +254,7 @@ module _ (laws : ReportingLaws) (s : ReadyCall) (w : World) (h : List Line) (k :
             ∙ ap (λ (o : Option Held). is_some o)
             (put_at c.held held_then (file_at_call s) (held_file c.held (file_at_call s) a.has.held a.has.holds))
             ∙ sym (ap (λ (o : Option Grant). is_some o) a.has.granted);
+        others = a.has.others;
         aside = aside_still s w (move w m).world a.has.grants steps_then.others a.has.aside;
         drives = drives_on a.drives steps_then.drives;
       }

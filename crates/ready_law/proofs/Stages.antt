@@ -521,6 +521,7 @@ pub record IsRested (s : ReadyCall) (w : World) : Type 0 where
   pub there : at_number w.clients s.client ≡ Some at
   pub idle : IsIdle at
   pub alike : is_some (held_by at (file_at_call s)) ≡ is_some (grant_of grants s.client)
+  pub others : (g : Grant) → In g grants → (g.client ≡ s.client) ⊎ In g (kept_at s).grants
   pub aside : OthersRest s w grants []
   pub drives : DrivesGoOn s w
 

@@ -75,6 +75,7 @@ module _ (laws : AskingLaws) (s : ReadyCall) (w : World) (m : Move) (held : Held
         grants = u.grants;
         grant = u.grant;
         granted = u.granted;
+        others = u.others;
         aside = u.aside;
         server = u.server;
         drives = c.drives;

@@ -169,6 +169,7 @@ module _ (laws : AskingLaws) (s : ReadyCall) (w : World) (h : List Line) (m : Mo
         grants = b.grants;
         grant = b.grant;
         granted = b.granted;
+        others = b.others;
         aside = b.aside;
         server = b.server;
         drives = drives_begin s v b.drives;

@@ -85,6 +85,7 @@ module _ (s : ReadyCall) (w : World) (m : Move) (held : Held) (u : Outcome) (t :
             ap (λ (z : Client). is_some (held_of z.held (file_at_call s))) after
             ∙ ap (λ (o : Option Held). is_some o) (put_at t.base.held held (file_at_call s) t.file_is)
             ∙ sym (ap (λ (o : Option Grant). is_some o) e.granted);
+        others = e.others;
         aside = e.aside;
         drives = e.drives;
       }

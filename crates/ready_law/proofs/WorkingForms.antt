@@ -83,6 +83,7 @@ pub record EndsUnder (s : ReadyCall) (w : World) (held : Held) : Type 0 where
   pub grants : List Grant
   pub grant : Grant
   pub granted : grant_of grants s.client ≡ Some grant
+  pub others : (g : Grant) → In g grants → (g.client ≡ s.client) ⊎ In g (kept_at s).grants
   pub aside : OthersRest s w grants []
   pub server : Serves s w grants (kept_at s).size
   pub drives : DrivesGoOn s w

@@ -1,8 +1,9 @@
 -- How a ready call leaves the parties, where no component of its file is lost: its client is idle again and holds what the server
 -- has of it, and so does each other client that did before.
-use Rattle.std.specs.Prelude.{◌≡◌, ◌≢◌, ◌+◌, ◌≤◌, ℕ, Bool, true, false, ◌&&◌, not, if◌then◌else◌, max, List, [], ◌∷◌, ◌++◌, slice_get, Option, Some, None, option_map}
+use Rattle.std.specs.Prelude.{◌≡◌, ◌≢◌, ◌⊎◌, ◌+◌, ◌≤◌, ℕ, Bool, true, false, ◌&&◌, not, if◌then◌else◌, max, List, [], ◌∷◌, ◌++◌, slice_get, Option, Some, None, option_map}
 use Rattle.server_rules.specs.Files.{file_at}
 use Rattle.server_rules.specs.Grants.{grant_of}
+use Rattle.server_rules.specs.Laws.{In}
 use Rattle.scenario_text.specs.declared.event.Call.{Call}
 use Rattle.scenario_text.specs.declared.event.Event.TheVariants as event
 use Rattle.scenario_text.specs.declared.line.Line.{Line}
@@ -59,6 +60,8 @@ pub record LeavesRest (s t : Scene) (c : ℕ) (op : CallOp) (f : File) : Type 0 
   pub file_is : file ≡ record f {
     kept = record f.kept { grants = file.kept.grants; size = size_after f.kept op; high = file.kept.high };
   }
+  -- no grant is new on it but one of the call's client
+  pub live : (g : Grant) → In g file.kept.grants → (g.client ≡ c) ⊎ In g f.kept.grants
   -- the client of the call rests, and each other one that rested
   pub caller : ClientAt
   pub there : t.client c ≡ Some caller
