@@ -56,6 +56,7 @@ use Rattle.cause_law.specs.Read.{AnswersAreOfReplies}
 use Rattle.cause_law.specs.ReadBytes.{EachByteHasItsCause}
 use Rattle.cause_law.specs.Unanswered.{PendingCallsAreUnanswered}
 use Rattle.ready_law.specs.Answered.{ReadyIsAnswered}
+use Rattle.ready_law.specs.Rested.{ReadyCallsLeaveRest}
 use Rattle.ready_law.specs.Losses.{FilesBearLosses, LossesAreBorne}
 use Rattle.component_law.specs.TagTags.{EachTagIsItsFiles}
 use Rattle.headline_law.specs.Claim.{AuditsFindNone, EachRepairLeavesNone, HeadlineHolds}
@@ -84,14 +85,15 @@ pub histories_are_sound : HistoriesAreSafe → VerdictsAreAnswered → CommandsA
     → EachByteHasItsCause → EachTagIsItsFiles → EachRequestIsAnswered → EachMessageIsCaused → EachGrantHasItsCauses
     → EachComponentHasItsCauses → EachLossHasItsCause → EachTagHasItsCause → EachAwaitedHasItsCauses → EachAwaitedHasItsEnd
     → EachAwaitedWasSent → EachCrashBars → EachGrantIsNamedOnce → EachObjectIsOwn → EachEndIsSaid
-    → EachCallIsLeftSo → PendingCallsAreUnanswered → LossesAreBorne → ReadyIsAnswered → EndedAreLogged → ReadyReadsArePlain
+    → EachCallIsLeftSo → PendingCallsAreUnanswered → LossesAreBorne → ReadyIsAnswered → ReadyCallsLeaveRest → EndedAreLogged
+    → ReadyReadsArePlain
     → HeadlineHolds
     → AuditsFindNone → EachRepairLeavesNone → MessagesAreNumbered → WritesAreStored → MessagesAreReceived → EachEventDelivers
     → EachIsTimedOut → EachIsRefused → EachNoteHasItsCause → WithinTheLimitAreFew
     → HistoriesAreSound
 histories_are_sound safe answered issued listed fair ranges fronts apart spread created own fenced live given older barred exact
     allowed lanes lanes_own judged awaited low ends outcomes read bytes tags caused told changed gone lost raised waits until sent
-    barred_by named objects said left unanswered borne ready logged plain right audits mended numbered stored
+    barred_by named objects said left unanswered borne ready leaves logged plain right audits mended numbered stored
     received delivers silent refuses noted few = record {
       sound = λ h l. record {
         safe = safe h l;
@@ -146,6 +148,7 @@ histories_are_sound safe answered issued listed fair ranges fronts apart spread 
         unanswered = unanswered h l;
         losses = λ written. losses_at apart borne h l (are_named h written);
         ready = λ written text few. ready h l written text few;
+        rests = λ written text few. leaves h l written text few;
         plain = λ written text few. plain h l written text few;
         right = λ before after is. right before (fronts before after (subst Lawful is l));
         audits = λ before after is. audits before (fronts before after (subst Lawful is l));

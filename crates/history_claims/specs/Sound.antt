@@ -48,6 +48,7 @@ use Rattle.cause_law.specs.Read.{AnswersAt}
 use Rattle.cause_law.specs.ReadBytes.{BytesAt}
 use Rattle.cause_law.specs.Unanswered.{UnansweredAt}
 use Rattle.ready_law.specs.Answered.{EachReadyIsAnswered, EachReadyReadIsPlain}
+use Rattle.ready_law.specs.Rested.{EachReadyLeavesRest}
 use Rattle.ready_law.specs.Losses.{FilesBearLosses}
 use Rattle.cause_law.specs.Numbers.{GrantsAreNamedOnce, ObjectsAreOwnAt}
 use Rattle.cause_law.specs.Reopened.{CrashesBarAt}
@@ -203,6 +204,9 @@ pub record IsSound (h : List Line) : Type 0 where
   -- in a history of a scenario's text with few messages each call that is ready where its event begins, and whose event is over,
   -- ended in ok, which one line of the event tells, and within its bound of messages
   pub ready : AreWritten h → AreOfText h → AreFew h → EachReadyIsAnswered h
+  -- and where no component of its file is lost, it left its client idle, which holds on the file what the server has of it
+  -- there, and so it left each other client that was so before
+  pub rests : AreWritten h → AreOfText h → AreFew h → EachReadyLeavesRest h
   -- and a ready read whose event is calm gave the bytes that the writes before it leave in order, if each of these was
   -- acknowledged
   pub plain : AreWritten h → AreOfText h → AreFew h → EachReadyReadIsPlain h

@@ -37,13 +37,16 @@ use Rattle.cause_law.proofs.Files.{few_there}
 use Rattle.cause_law.proofs.PendingMoves.{taken_rule}
 use Rattle.ready_law.specs.Answered.{scene_in, EndsOk, ends_call, messages_at, message_bound, ReadyIsAnswered}
 use Rattle.ready_law.specs.Events.{IsOver as IsOverIn, StandsApart, EventsStandApart}
-use Rattle.ready_law.specs.Ready.{Scene, scene_of, IsReady, touched}
+use Rattle.ready_law.specs.Ready.{Scene, scene_of, IsReady, touched, lost_of}
 use Rattle.ready_law.specs.Worlds.{ScenesAreRead}
 use Rattle.ready_law.proofs.Calls.{ReadyCall, op_at, kept_at, opposed_at, IsIn}
 use Rattle.ready_law.proofs.Stages.{GoesOn, Further, Over, asking_at, work_at}
 use Rattle.ready_law.proofs.Going.{StagesGoOn}
 use Rattle.ready_law.proofs.Opening.{body_of_moves, opened_clean, opens_call}
 use Rattle.ready_law.proofs.Walking.{Whole, IsFrontOf, fair_at, prompt_plan, counted, IsSilent, ends_behind, IsAt, EndsWithin, goes, nothing_due}
+use Rattle.ready_law.proofs.AskingForms.{AskingLaws}
+use Rattle.ready_law.proofs.Leaving.{leaves_rest}
+use Rattle.ready_law.specs.Rested.{LeavesRest, ReadyCallsLeaveRest}
 
 -- ---- how many messages lines tell of
 
@@ -260,6 +263,9 @@ module _ (more : OneEventMore) (apart : EventsStandApart) (scenes : ScenesAreRea
             ends =
                 ends_behind s (move v m).lines (lines_of (move v m).world ns) (silent_body silence) rest.ends;
             sent = rest.sent;
+            rests = rest.rests;
+            history = rest.history;
+            within = rest.within;
           }
       all_within (Over done ends) = last ns refl
         where
@@ -270,6 +276,9 @@ module _ (more : OneEventMore) (apart : EventsStandApart) (scenes : ScenesAreRea
               ((move v m).lines ++ lines_of (move v m).world l)) (sym none) (record {
                 ends = subst (EndsOk s.client (op_at s)) (sym (append-nil (move v m).lines)) (own_ends ends);
                 sent = done.sent;
+                rests = done.rests;
+                history = s.history ++ lines_in v m;
+                within = next_in;
               })
           last (y ∷ ms) some =
               let due_then : AreDue (prompt_plan s) (move v m).world (y ∷ ms) =
@@ -338,12 +347,46 @@ module _ (more : OneEventMore) (apart : EventsStandApart) (scenes : ScenesAreRea
                 (sum_by messages_at body) few_enough,
           )
 
+      -- where no component is lost, the parties rest behind it
+      rested : AskingLaws → (ready : IsReady (scene_of a.world before) c (op_of x))
+          → lost_of (scene_of a.world before) ready.file.kept ≡ []
+          → LeavesRest (scene_of a.world before) (scene_of a.next (before ++ line.Event (event.Do c x) ∷ body)) c (op_of x)
+          ready.file
+      rested laws ready whole =
+          let s : ReadyCall = call ready in
+          let e : EndsWithin s a.next body =
+          ends all s a.next body a.carries
+          (over.after, over.lines_are ∙ sym (append_assoc before (line.Event (event.Do c x) ∷ body) over.after)) in
+          leaves_rest laws s a.next e.history e.within (e.rests whole) (before ++ line.Event (event.Do c x) ∷ body)
+
+      abbrev Leaves : Scene → Type 0
+      Leaves z =
+          (r : IsReady z c (op_of x)) → lost_of z r.file.kept ≡ []
+          → LeavesRest z (scene_in (before ++ line.Event (event.Do c x) ∷ body)) c (op_of x) r.file
+
+      leaves : AskingLaws → Leaves (scene_in before)
+      leaves laws =
+          let after_are : h ≡ (before ++ line.Event (event.Do c x) ∷ body) ++ over.after =
+          over.lines_are ∙ sym (append_assoc before (line.Event (event.Do c x) ∷ body) over.after) in
+          subst Leaves
+          (sym (scenes a.world before a.stands
+          (written_front before (line.Event (event.Do c x) ∷ (body ++ over.after)) (subst AreWritten over.lines_are written))))
+          (λ r whole. subst (λ (z : Scene). LeavesRest (scene_of a.world before) z c (op_of x) r.file)
+          (sym (scenes a.next (before ++ line.Event (event.Do c x) ∷ body)
+          (more a.world a.next before (line.Event (event.Do c x) ∷ body) (event.Do c x) a.stands a.carries)
+          (written_front (before ++ line.Event (event.Do c x) ∷ body) over.after (subst AreWritten after_are written))))
+          (rested laws r whole))
+
       answers : Answers (scene_in before)
       answers =
           subst Answers
           (sym (scenes a.world before a.stands
           (written_front before (line.Event (event.Do c x) ∷ (body ++ over.after)) (subst AreWritten over.lines_are written))))
           answered
+
+  pub ready_leaves_rest : AskingLaws → ReadyCallsLeaveRest
+  ready_leaves_rest laws h lawful written of_text few before body c x over r whole =
+      leaves h lawful written of_text few before body c x over (apart h before (event.Do c x) body lawful over) laws r whole
 
   pub ready_is_answered : ReadyIsAnswered
   ready_is_answered h lawful written of_text few before body c x over r =

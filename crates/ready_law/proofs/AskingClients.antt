@@ -185,9 +185,41 @@ quiet_takes number n hs a (Some r) out = either (is_awaited (quiet_client number
     either true = last (n == 0)
     either false = record { call = refl; due = refl; sends = refl; outcome = refl }
 
+-- A client without a call that owes nothing takes the answer that it waits for: it waits for none then, and all else stays.
+pub record HearsAnswer (hs : List Held) (t : ClientStep) : Type 0 where
+  pub call : t.client.call ≡ None
+  pub outstanding : t.client.outstanding ≡ None
+  pub held : t.client.held ≡ hs
+  pub sends : t.sends ≡ []
+  pub outcome : t.outcome ≡ None
+
+quiet_answered : (number n : ℕ) (hs : List Held) (a : Answer) (r : Request)
+    → is_awaited (quiet_client number n (Some r) hs) a r ≡ true
+    → HearsAnswer hs (step (quiet_client number n (Some r) hs) (Hears FromServer (Answers a)))
+unfolding hears takes finished begun progressed returns_due
+quiet_answered number n hs a r e = either (is_awaited (quiet_client number n (Some r) hs) a r) e
+  where
+    last : (b : Bool) → HearsAnswer hs (closed (if b then quiet (quiet_client number n None hs)
+        else returns (quiet (quiet_client number n None hs)) None))
+    last true = record { call = refl; outstanding = refl; held = refl; sends = refl; outcome = refl }
+    last false = record { call = refl; outstanding = refl; held = refl; sends = refl; outcome = refl }
+
+    either : (b : Bool) → b ≡ true
+        → HearsAnswer hs (by_taken (quiet_client number n (Some r) hs) (if b then Some (TakesAnswer a) else None))
+    either true is = last (n == 0)
+    either false is = absurd (cc is)
+
 quiet_so : (x : Client) → x.due ≡ [] → x.call ≡ None → x ≡ quiet_client x.number x.next x.outstanding x.held
 quiet_so x due call =
     ap (λ (us : List Due). record x { due = us }) due ∙ ap (λ (c : Option Call). record x { due = []; call = c }) call
+
+pub answered_step : (x : Client) (a : Answer) (r : Request) → x.call ≡ None → x.due ≡ [] → x.outstanding ≡ Some r
+    → is_awaited x a r ≡ true → HearsAnswer x.held (step x (Hears FromServer (Answers a)))
+answered_step x a r call due out is =
+    let same : x ≡ quiet_client x.number x.next (Some r) x.held =
+    quiet_so x due call ∙ ap (λ (o : Option Request). quiet_client x.number x.next o x.held) out in
+    subst (λ (y : Client). HearsAnswer x.held (step y (Hears FromServer (Answers a)))) (sym same)
+    (quiet_answered x.number x.next x.held a r (subst (λ (y : Client). is_awaited y a r ≡ true) same is))
 
 pub quiet_step : (x : Client) (m : ClientMessage) → ((v : Recall) → m ≡ Recalls v → ⊥) → x.call ≡ None → x.due ≡ []
     → StaysQuiet (step x (Hears FromServer m))

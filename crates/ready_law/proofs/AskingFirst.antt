@@ -1,5 +1,5 @@
 -- The call's first LAYOUTGET: the grant is given at once, or conflicting ones are recalled first.
-use Rattle.std.proofs.Common.{◌≡◌, ◌+◌, ◌==◌, ◌<◌, ℕ, suc, nat_lt, not, List, [], ◌∷◌, ◌++◌, length, refl, sym, ap, subst, ◌∙◌, arith}
+use Rattle.std.proofs.Common.{◌≡◌, ◌+◌, ◌==◌, ◌<◌, ℕ, suc, nat_lt, not, List, [], ◌∷◌, ◌++◌, length, refl, sym, ap, subst, ◌∙◌, arith, inl, inr}
 use Rattle.std.proofs.lemmas.List.{length-append}
 use Rattle.scenario_text.specs.declared.names.TheConstants.{CLIENTS}
 use Rattle.scenario_text.specs.declared.line.Line.{Line}
@@ -16,7 +16,7 @@ use Rattle.ready_law.proofs.Going.{GoesOnBy}
 use Rattle.ready_law.proofs.Stages.{Asking, Recalls, GoesOn, Further}
 use Rattle.ready_law.proofs.ServingForms.{recall_messages}
 use Rattle.ready_law.proofs.ServingGets.{held_off}
-use Rattle.component_law.proofs.Without.{no_grant}
+use Rattle.component_law.proofs.Without.{no_grant, other_grant}
 use Rattle.ready_law.proofs.AskingForms.{AskingLaws}
 use Rattle.ready_law.proofs.AskingFrames.{against_others, opposed_yields, caller_stays, sent_more}
 use Rattle.ready_law.proofs.AskingGives.{caller_named, are_recalls_of, its_arrival, sent, file, gives_goes_on, refused}
@@ -39,7 +39,12 @@ module _ (laws : AskingLaws) (s : ReadyCall) (w : World) (h : List Line) (k : Is
   by [] is =
       gives_goes_on laws s w h k m next a.request grants 0 a.asks a.asked rest d (no_grant (kept_at s).grants s.client)
       named (λ g i. (in_filtered (λ (x : Grant). not (x.client == s.client)) g (kept_at s).grants i).0)
-      (against_others s a.asks.uncovered ∙ is) [] [] tt none_else 3 a.sent (omega arith)
+      (against_others s a.asks.uncovered ∙ is) [] [] tt tt none_else 3 a.sent (omega arith) (λ g i. absurd i)
+      (λ g i. absurd i)
+      (λ e other. inr (inl (record {
+        client = a.untouched e other;
+        grant = other_grant (kept_at s).grants e s.client other;
+      })))
   by (first ∷ more) is =
       let own = no_grant (kept_at s).grants s.client in
       let arrival = its_arrival laws s w h k m next a.request grants 0 a.asks a.asked rest d own named in
@@ -73,8 +78,7 @@ module _ (laws : AskingLaws) (s : ReadyCall) (w : World) (h : List Line) (k : Is
         returns = [];
         are_recalls = are_recalls_of w.server.next_recall (first ∷ more);
         are_returns = tt;
-        untouched =
-            λ g i. served_client laws arrival a.request _ it done g.client ∙ a.untouched g (subst (In g) (sym is) i);
+        untouched = λ e other. inr (served_client laws arrival a.request _ it done e ∙ a.untouched e other);
         queue =
             served_queue laws arrival a.request _ it done
             ∙ ap (λ (ms : List Message). ms ++ (recall_messages w.server.next_recall (first ∷ more)

@@ -33,7 +33,7 @@ use Rattle.ready_law.specs.Reacting.{IsGood}
 use Rattle.ready_law.specs.Ready.{is_listed, is_lost}
 use Rattle.ready_law.specs.Stepping.{StepsWell}
 use Rattle.ready_law.proofs.Calls.{ReadyCall, scene_at, op_at, file_at_call, kept_at, own_at, lost_at, queue_at, IsIn}
-use Rattle.ready_law.proofs.Stages.{Serves, HasSent, GoesOn, asking_at}
+use Rattle.ready_law.proofs.Stages.{Serves, HasSent, GoesOn, asking_at, OthersRest}
 
 -- ---- laws
 
@@ -107,6 +107,7 @@ pub record BeginsUnder (s : ReadyCall) (w : World) (m : Move) : Type 0 where
   pub grant : Grant
   pub granted : grant_of grants s.client ≡ Some grant
   pub others : (g : Grant) → In g grants → (g.client ≡ s.client) ⊎ In g (kept_at s).grants
+  pub aside : OthersRest s (move w m).world grants []
   pub server : Serves s (move w m).world grants (kept_at s).size
   pub in_time : (k : ℕ) (at : Component) (d : DriveAt) → slice_get (kept_at s).components k ≡ Some at
       → is_lost (scene_at s) at ≡ false → at_number s.world.drives at.drive ≡ Some d → d.clock ≤ grant.expiry

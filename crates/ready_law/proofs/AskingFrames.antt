@@ -1,5 +1,5 @@
 -- What a move of one party leaves of the others, and what holds of the grants of a call's file.
-use Rattle.std.proofs.Common.{◌≡◌, ◌≢◌, ◌≤◌, ◌+◌, ◌||◌, ◌&&◌, ℕ, nat_lt, Bool, true, false, true≢false, List, [], ◌∷◌, ◌++◌, length, filter, Option, Some, None, inl, inr, refl, sym, ap, ◌∙◌, arith, if◌then◌else◌}
+use Rattle.std.proofs.Common.{◌≡◌, ◌≢◌, ◌≤◌, ◌+◌, ◌||◌, ◌&&◌, ℕ, nat_lt, Bool, true, false, true≢false, List, [], ◌∷◌, ◌++◌, length, filter, Option, Some, None, inl, inr, refl, sym, ap, ◌∙◌, arith, if◌then◌else◌, ◌⊎◌, ◌==◌, ne_eqb, subst}
 use Rattle.std.specs.List.{list_any, filter_map, cons_option}
 use Rattle.std.proofs.lemmas.Bool.{cases_Bool, eq-eqb}
 use Rattle.std.proofs.lemmas.List.{length-map}
@@ -8,7 +8,7 @@ use Rattle.scenario_text.specs.declared.line.Delivery.{Delivery}
 use Rattle.scenario_text.specs.declared.line.Line.{Line}
 use Rattle.scenario_text.specs.declared.line.Line.TheVariants as line
 use Rattle.server_rules.specs.Files.{file_at}
-use Rattle.server_rules.specs.Grants.{conflicts, against, asked, without}
+use Rattle.server_rules.specs.Grants.{conflicts, against, asked, without, grant_of}
 use Rattle.server_rules.specs.Laws.{In, Apart, IsSafe}
 use Rattle.server_rules.specs.Slots.{admit, slot_of}
 use Rattle.server_rules.proofs.FileLaws.{safe_at, file_in}
@@ -29,17 +29,12 @@ use Rattle.component_law.specs.Order.{Rise}
 use Rattle.ready_law.specs.Answered.{ends_call}
 use Rattle.ready_law.specs.Ready.{is_covered, Yields}
 use Rattle.ready_law.proofs.Calls.{ReadyCall, scene_at, op_at, file_at_call, kept_at, own_at, wanted_at, opposed_at}
-use Rattle.ready_law.proofs.Stages.{Caller, Serves, IsAsked, IsAnsweredBy, IsReturning, IsQuiet, AreReturns, AreTaken, HasSent}
+use Rattle.ready_law.proofs.Stages.{Caller, Serves, IsAsked, IsAnsweredBy, IsReturning, AreReturns, AreTaken, HasSent, IsTaking, HasOneOf, HaveOwnClients, OthersRest}
 use Rattle.ready_law.proofs.ServingGrants.{against_own}
 use Rattle.ready_law.proofs.AskingForms.{AskingLaws}
 use Rattle.ready_law.proofs.AskingMoves.{sent_ends_none}
 
 -- ---- grants of several clients
-
--- no client has two of these grants
-abbrev pub HaveOwnClients : List Grant → Type 0
-HaveOwnClients [] = Unit {0}
-HaveOwnClients (g ∷ gs) = ((x : Grant) → In x gs → x.client ≢ g.client) × HaveOwnClients gs
 
 own_clients : (gs : List Grant) → Apart gs → Rise gs → HaveOwnClients gs
 own_clients [] apart rise = tt
@@ -188,6 +183,8 @@ returning_stays s w v g q same k = record {
   free = k.free;
   outstanding = k.outstanding;
   due = k.due;
+  alive = k.alive;
+  released = k.released;
 }
 
 pub returns_stay : (s : ReadyCall) (w v : World) (gs : List Grant) (ms : List Message)
@@ -211,22 +208,72 @@ returns_more s w (y ∷ gs) g [] a m k l = absurd k
 returns_more s w (y ∷ gs) g (x ∷ []) a m k l = absurd k
 returns_more s w (y ∷ gs) g (x ∷ z ∷ ms) a m k l = (k.0, k.1, returns_more s w gs g ms a m k.2 l)
 
-pub quiet_stays : (w v : World) (c : ℕ) → at_number v.clients c ≡ at_number w.clients c → IsQuiet w c → IsQuiet v c
-quiet_stays w v c same k = record { at = k.at; there = same ∙ k.there; free = k.free; due = k.due }
+taking_stays : (s : ReadyCall) (w v : World) (g : Grant) (a : Answer) → IsKept w v g.client → IsTaking s w g a
+    → IsTaking s v g a
+taking_stays s w v g a same k = record {
+  at = k.at;
+  there = same.client ∙ k.there;
+  alive = k.alive;
+  free = k.free;
+  request = k.request;
+  outstanding = k.outstanding;
+  due = k.due;
+  released = k.released;
+  client_is = k.client_is;
+  sequence = k.sequence;
+  status = k.status;
+  slot = k.slot;
+  slot_is = same.slot ∙ k.slot_is;
+  kept = k.kept;
+}
 
-pub taken_stay : (w v : World) (gs : List Grant) (ms : List Message)
-    → ((g : Grant) → In g gs → IsQuiet w g.client → IsQuiet v g.client) → AreTaken w gs ms → AreTaken v gs ms
-taken_stay w v [] [] on k = tt
-taken_stay w v [] (m ∷ ms) on k = absurd k
-taken_stay w v (g ∷ gs) [] on k = absurd k
-taken_stay w v (g ∷ gs) (m ∷ ms) on k = (on g (inl refl) k.0, k.1, taken_stay w v gs ms (λ x i. on x (inr i)) k.2)
+pub taken_stay : (s : ReadyCall) (w v : World) (gs : List Grant) (ms : List Message)
+    → ((g : Grant) → In g gs → IsKept w v g.client) → AreTaken s w gs ms → AreTaken s v gs ms
+taken_stay s w v [] [] same k = tt
+taken_stay s w v [] (m ∷ ms) same k = absurd k
+taken_stay s w v (g ∷ gs) [] same k = absurd k
+taken_stay s w v (g ∷ gs) (m ∷ ms) same k = (
+  (k.0.0, taking_stays s w v g k.0.0 (same g (inl refl)) k.0.1, k.0.2),
+  taken_stay s w v gs ms (λ x i. same x (inr i)) k.1,
+)
 
-pub taken_more : (w : World) (gs : List Grant) (g : Grant) (ms : List Message) (m : Message) → AreTaken w gs ms
-    → AreTaken w (g ∷ []) (m ∷ []) → AreTaken w (gs ++ g ∷ []) (ms ++ m ∷ [])
-taken_more w [] g [] m k l = l
-taken_more w [] g (x ∷ ms) m k l = absurd k
-taken_more w (y ∷ gs) g [] m k l = absurd k
-taken_more w (y ∷ gs) g (x ∷ ms) m k l = (k.0, k.1, taken_more w gs g ms m k.2 l)
+pub taken_more : (s : ReadyCall) (w : World) (gs : List Grant) (g : Grant) (ms : List Message) (m : Message)
+    → AreTaken s w gs ms → AreTaken s w (g ∷ []) (m ∷ []) → AreTaken s w (gs ++ g ∷ []) (ms ++ m ∷ [])
+taken_more s w [] g [] m k l = l
+taken_more s w [] g (x ∷ ms) m k l = absurd k
+taken_more s w (y ∷ gs) g [] m k l = absurd k
+taken_more s w (y ∷ gs) g (x ∷ ms) m k l = (k.0, taken_more s w gs g ms m k.1 l)
+
+-- ---- the other clients
+
+-- Each client that isn't busy is as it was, and so is its grant.
+pub aside_stays : (s : ReadyCall) (w v : World) (grants after busy : List Grant)
+    → ((c : ℕ) → c ≢ s.client → HasOneOf busy c
+    ⊎ ((at_number v.clients c ≡ at_number w.clients c) × (grant_of after c ≡ grant_of grants c)))
+    → OthersRest s w grants busy → OthersRest s v after busy
+aside_stays s w v grants after busy same o c other = elim (same c other) [
+  | inl b ↦ inl b
+  | inr is ↦ elim (o c other) [
+    | inl b ↦ inl b
+    | inr (inl a) ↦ inr (inl (record { client = is.0 ∙ a.client; grant = is.1 ∙ a.grant }))
+    | inr (inr b) ↦
+        inr (inr (record { at = b.at; there = is.0 ∙ b.there; idle = b.idle; released = b.released; none = is.1 ∙ b.none }))
+  ]
+]
+
+-- A step of the call's client leaves them alone.
+pub aside_still : (s : ReadyCall) (w v : World) (grants : List Grant)
+    → ((c : ℕ) → c ≢ s.client → at_number v.clients c ≡ at_number w.clients c)
+    → OthersRest s w grants [] → OthersRest s v grants []
+aside_still s w v grants same o = aside_stays s w v grants grants [] (λ c other. inr (same c other, refl)) o
+
+-- a further grant is its client's
+pub one_more : (gs : List Grant) (g : Grant) (c : ℕ) → g.client ≢ c → grant_of (gs ++ g ∷ []) c ≡ grant_of gs c
+one_more [] g c other = rw (ne_eqb g.client c other) refl
+one_more (x ∷ gs) g c other = elim (cases_Bool (x.client == c)) [
+  | inl t ↦ rw t refl
+  | inr f ↦ rw f (one_more gs g c other)
+]
 
 -- ---- what is sent and told
 

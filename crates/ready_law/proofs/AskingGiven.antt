@@ -1,5 +1,5 @@
 -- The layout comes, behind the answers to those that gave grants back, and the call begins to work.
-use Rattle.std.proofs.Common.{◌≡◌, ◌≢◌, ◌⊎◌, ◌≤◌, ℕ, Bool, true, false, not, List, [], ◌∷◌, ◌++◌, filter, slice_get, Option, Some, None, is_some, option_map, Ok, inl, inr, refl, sym, ap, subst, ◌∙◌, arith}
+use Rattle.std.proofs.Common.{◌≡◌, ◌≢◌, ◌⊎◌, ◌≤◌, ℕ, Bool, true, false, not, List, [], ◌∷◌, ◌++◌, filter, slice_get, Option, Some, None, is_some, option_map, Ok, inl, inr, refl, sym, ap, subst, ◌∙◌, arith, eq-eqb}
 use Rattle.std.specs.List.{list_any}
 use Rattle.std.proofs.lemmas.Bool.{cases_eq}
 use Rattle.std.proofs.lemmas.List.{append-nil}
@@ -11,10 +11,10 @@ use Rattle.server_rules.specs.Laws.{In}
 use Rattle.server_rules.specs.Slots.{admit, slot_of}
 use Rattle.server_rules.proofs.Members.{in_either}
 use Rattle.client_rules.specs.Commands.{credential_in}
-use Rattle.client_rules.specs.Grants.{covers}
+use Rattle.client_rules.specs.Grants.{covers, held_of}
 use Rattle.client_rules.specs.History.{Hears, step}
 use Rattle.client_rules.specs.Layouts.{taken}
-use Rattle.client_rules.specs.Messages.{Message as ClientMessage, Answers, Step as ClientStep}
+use Rattle.client_rules.specs.Messages.{Message as ClientMessage, Answers, Step as ClientStep, names_nobody, is_awaited}
 use Rattle.client_rules.proofs.HeldGrants.{put_at}
 use Rattle.world_history.specs.ClientNames.{Client, Call, CallOp, Held, Request, Answer, Get}
 use Rattle.world_history.specs.ServerNames.{Server, File, Grant, Component}
@@ -31,25 +31,30 @@ use Rattle.exchange_law.specs.Meeting.{IsFitting, IsMet, AgreesAt, KeptGood}
 use Rattle.exchange_law.proofs.HeldWorlds.{reached, readable_there}
 use Rattle.cause_law.proofs.Given.{taken_covers}
 use Rattle.ready_law.specs.Answered.{ends_call}
-use Rattle.ready_law.specs.Ready.{stands, is_listed, is_lost}
+use Rattle.ready_law.specs.Ready.{stands, is_listed, is_lost, IsIdle, held_by}
 use Rattle.ready_law.specs.Stepping.{holding, unasked, IsAnsweredAt}
 use Rattle.ready_law.proofs.Calls.{ReadyCall, op_at, file_at_call, kept_at, own_at, lost_at, scene_at, IsIn, DeliversHead, answer_message}
 use Rattle.ready_law.proofs.Going.{GoesOnBy}
-use Rattle.ready_law.proofs.Stages.{IsQuiet, AreTaken, Getting, Gets, GoesOn, Further}
+use Rattle.ready_law.proofs.Stages.{AreTaken, Getting, Gets, GoesOn, Further, IsTaking, GaveBack, HasOneOf, HaveOwnClients, OthersRest}
 use Rattle.ready_law.proofs.Stepping.{answers_step}
 use Rattle.ready_law.proofs.AskingAsks.{in_step_there, step_silent, its_answer, answer_steps, asks_new}
-use Rattle.ready_law.proofs.AskingClients.{answer_no_recall, quiet_step}
+use Rattle.ready_law.proofs.AskingClients.{answered_step, answer_read}
 use Rattle.ready_law.proofs.AskingForms.{AskingLaws, Steps, BeginsToWork}
-use Rattle.ready_law.proofs.AskingFrames.{serves_stays, caller_stays, IsKept, answered_stays, quiet_stays, taken_stay, sent_more}
+use Rattle.ready_law.proofs.AskingFrames.{serves_stays, caller_stays, IsKept, answered_stays, taken_stay, sent_more, aside_still}
 use Rattle.ready_law.proofs.AskingGives.{last_grant}
 use Rattle.ready_law.proofs.AskingGood.{ListsCall, is_good}
-use Rattle.ready_law.proofs.AskingMoves.{IsUnread, delivered_steps, delivered_unread}
+use Rattle.ready_law.proofs.AskingMoves.{delivered_steps}
+use Rattle.layout_ops.specs.declared.envelope.Envelope.TheVariants as envelope
+use Rattle.layout_ops.specs.Spelling.{EnvelopeFits}
 
 -- ---- an answer to a client that gave its grant back
 
--- the client stays quiet, and no other party changes
-record StaysSo (w : World) (m : Move) (c : ℕ) : Type 0 where
-  quiet : IsQuiet (move w m).world c
+-- the client is idle and has no grant on the file, and no other party changes
+record TakesBack (s : ReadyCall) (w : World) (m : Move) (c : ℕ) : Type 0 where
+  at : ClientAt
+  there : at_number (move w m).world.clients c ≡ Some at
+  idle : IsIdle at
+  released : held_by at (file_at_call s) ≡ None
   others : (d : ℕ) → d ≢ c → at_number (move w m).world.clients d ≡ at_number w.clients d
   server : (move w m).world.server ≡ w.server
   clock : (move w m).world.clock ≡ w.clock
@@ -58,43 +63,44 @@ record StaysSo (w : World) (m : Move) (c : ℕ) : Type 0 where
   posts : posted (acts w m.chosen m.action).posts ≡ []
   silent : (d : ℕ) → list_any (ends_call d) (lines_in w m) ≡ false
 
-module _ (s : ReadyCall) (w : World) (m : Move) (c : ℕ) (quiet : IsQuiet w c) (a : Answer) (to : a.client ≡ c)
-    (rest : List Message) (d : DeliversHead s w m (answer_message a) rest) where
-  unread : IsUnread w m → StaysSo w m c
-  unread u = record {
-    quiet = quiet_stays w (move w m).world c (ap (λ (xs : List (ℕ × ClientAt)). at_number xs c) u.clients) quiet;
-    others = λ e other. ap (λ (xs : List (ℕ × ClientAt)). at_number xs e) u.clients;
-    server = u.server;
-    clock = u.clock;
-    down = u.down;
-    drives = u.drives;
-    posts = ap posted u.posts;
-    silent = u.lines;
-  }
+module _ (laws : AskingLaws) (s : ReadyCall) (w : World) (h : List Line) (k : IsIn s w h) (m : Move) (g : Grant) (a : Answer)
+    (it : IsTaking s w g a) (rest : List Message) (d : DeliversHead s w m (answer_message a) rest) where
+  fits : EnvelopeFits (envelope.Answer a)
+  fits =
+      subst (λ (z : Answer). EnvelopeFits (envelope.Answer z)) it.kept
+      ((readable_there w h k.fair.moment k.fair.readable).answers g.client it.slot it.slot_is)
 
-  goes_to : (answer_message a).to ≡ node.Client c
-  goes_to = ap (λ (n : ℕ). node.Client n) to
+  number : it.at.state.number ≡ g.client
+  number = (in_step_there laws w h k.fair g.client it.at it.there).number
 
-  deaf : (quiet.at.stopped ≡ true) ⊎ ((quiet.at.stopped ≡ false) × (for_client (answer_message a) ≡ None)) → StaysSo w m c
-  deaf why =
-      unread (delivered_unread w m d.number c d.posted_as (answer_message a) quiet.at d.action_is d.found d.message_is goes_to
-      quiet.there why)
+  names : names_nobody a ≡ false
+  names = rw it.status refl
 
-  reads : (x : ClientMessage) → quiet.at.stopped ≡ false → for_client (answer_message a) ≡ Some x → StaysSo w m c
-  reads x alive read =
+  its : is_awaited it.at.state a it.request ≡ true
+  its =
+      rw (
+        eq-eqb a.client it.at.state.number (it.client_is ∙ sym number),
+        eq-eqb a.sequence it.request.sequence it.sequence,
+        names,
+      ) refl
+
+  takes_back : TakesBack s w m g.client
+  takes_back =
       let st =
-      delivered_steps w m d.number c d.posted_as (answer_message a) quiet.at x d.action_is d.found d.message_is goes_to
-      quiet.there alive read in
-      let k =
-      quiet_step quiet.at.state x (λ v is. answer_no_recall a v (read ∙ ap (λ (y : ClientMessage). Some y) is)) quiet.free
-      quiet.due in
+      delivered_steps w m d.number g.client d.posted_as (answer_message a) it.at (Answers a) d.action_is d.found d.message_is
+      (ap (λ (n : ℕ). node.Client n) it.client_is) it.there it.alive (answer_read a fits) in
+      let t = answered_step it.at.state a it.request it.free it.due it.outstanding its in
       record {
-        quiet = record {
-          at = st.after;
-          there = st.there;
-          free = ap (λ (y : Client). y.call) st.state ∙ k.call;
-          due = ap (λ (y : Client). y.due) st.state ∙ k.due;
+        at = st.after;
+        there = st.there;
+        idle = record {
+          alive = st.stopped ∙ it.alive;
+          free = ap (λ (y : Client). y.call) st.state ∙ t.call;
+          answered = ap (λ (y : Client). y.outstanding) st.state ∙ t.outstanding;
         };
+        released =
+            ap (λ (y : Client). held_of y.held (file_at_call s)) st.state
+            ∙ ap (λ (hs : List Held). held_of hs (file_at_call s)) t.held ∙ it.released;
         others = st.others;
         server = st.server;
         clock = st.clock;
@@ -102,18 +108,9 @@ module _ (s : ReadyCall) (w : World) (m : Move) (c : ℕ) (quiet : IsQuiet w c) 
         drives = st.drives;
         posts =
             ap posted st.posts
-            ∙ ap (λ (os : _). posted (filter is_addressed (client_posts c st.wrote st.logged os))) k.sends;
-        silent = step_silent w m c quiet.at (pending_op quiet.at.state) _ st k.outcome;
+            ∙ ap (λ (os : _). posted (filter is_addressed (client_posts g.client st.wrote st.logged os))) t.sends;
+        silent = step_silent w m g.client it.at (pending_op it.at.state) _ st t.outcome;
       }
-
-  stays_so : StaysSo w m c
-  stays_so = by quiet.at.stopped refl (for_client (answer_message a)) refl
-    where
-      by : (b : Bool) → quiet.at.stopped ≡ b → (o : Option ClientMessage) → for_client (answer_message a) ≡ o
-          → StaysSo w m c
-      by true dead o read = deaf (inl dead)
-      by false alive None read = deaf (inr (alive, read))
-      by false alive (Some x) read = reads x alive read
 
 module _ (laws : AskingLaws) (begins_work : BeginsToWork) (s : ReadyCall) (w : World) (h : List Line) (k : IsIn s w h)
     (m : Move) (next : IsIn s (move w m).world (h ++ lines_in w m)) (a : Getting s w) where
@@ -122,18 +119,21 @@ module _ (laws : AskingLaws) (begins_work : BeginsToWork) (s : ReadyCall) (w : W
 
   -- ---- such an answer comes
 
-  module _ (g : Grant) (gs : List Grant) (ts : List Message) (quiet : IsQuiet w g.client) (b : Answer)
-      (to : b.client ≡ g.client) (are : AreTaken w gs ts) (rest : List Message)
+  module _ (g : Grant) (gs : List Grant) (left_is : a.left ≡ g ∷ gs) (ts : List Message) (b : Answer)
+      (it : IsTaking s w g b) (are : AreTaken s w gs ts) (rest : List Message)
       (d : DeliversHead s w m (answer_message b) rest) (is : rest ≡ ts ++ answer_message a.answer ∷ []) where
-    stays : StaysSo w m g.client
-    stays = stays_so s w m g.client quiet b to rest d
+    stays : TakesBack s w m g.client
+    stays = takes_back laws s w h k m g b it rest d
 
     other : s.client ≢ g.client
     other same =
-        let at : quiet.at ≡ a.asks.caller.at =
-        same_some quiet.at a.asks.caller.at (at_number w.clients g.client) quiet.there
+        let at : it.at ≡ a.asks.caller.at =
+        same_some it.at a.asks.caller.at (at_number w.clients g.client) it.there
         (ap (at_number w.clients) (sym same) ∙ a.asks.caller.there) in
-        absurd (cc (sym quiet.free ∙ ap (λ (x : ClientAt). x.state.call) at ∙ a.asks.caller.call))
+        absurd (cc (sym it.free ∙ ap (λ (x : ClientAt). x.state.call) at ∙ a.asks.caller.call))
+
+    own_left : HaveOwnClients (g ∷ gs)
+    own_left = subst HaveOwnClients left_is a.own_left
 
     its_own : IsKept w v s.client
     its_own = record {
@@ -141,10 +141,45 @@ module _ (laws : AskingLaws) (begins_work : BeginsToWork) (s : ReadyCall) (w : W
       slot = ap (λ (z : Server). slot_of z.slots s.client) stays.server;
     }
 
-    still_quiet : (x : ℕ) → IsQuiet w x → IsQuiet v x
-    still_quiet x was = elim (cases_eq x g.client) [
-      | inl same ↦ subst (IsQuiet v) (sym same) stays.quiet
-      | inr differs ↦ quiet_stays w v x (stays.others x differs) was
+    kept_beside : (x : ℕ) → x ≢ g.client → IsKept w v x
+    kept_beside x differs = record {
+      client = stays.others x differs;
+      slot = ap (λ (z : Server). slot_of z.slots x) stays.server;
+    }
+
+    -- it gave its grant back
+    gave_back : (e : ℕ) → e ≡ g.client → GaveBack s v (a.before ++ a.grant ∷ []) e
+    gave_back e same =
+        subst (GaveBack s v (a.before ++ a.grant ∷ [])) (sym same) (record {
+          at = stays.at;
+          there = stays.there;
+          idle = stays.idle;
+          released = stays.released;
+          none = a.gone g (subst (In g) (sym left_is) (inl refl));
+        })
+
+    -- the client of another grant isn't done
+    not_done : (e : ℕ) → e ≢ g.client → HasOneOf a.left e → HasOneOf gs e
+    not_done e differs (x, i, is) = elim (subst (In x) left_is i) [
+      | inl same ↦ absurd (differs (sym is ∙ ap (λ (y : Grant). y.client) same))
+      | inr j ↦ (x, j, is)
+    ]
+
+    aside : OthersRest s v (a.before ++ a.grant ∷ []) gs
+    aside e apart = elim (cases_eq e g.client) [
+      | inl same ↦ inr (inr (gave_back e same))
+      | inr differs ↦ elim (a.aside e apart) [
+        | inl one ↦ inl (not_done e differs one)
+        | inr (inl x) ↦ inr (inl (record { client = stays.others e differs ∙ x.client; grant = x.grant }))
+        | inr (inr x) ↦
+            inr (inr (record {
+              at = x.at;
+              there = stays.others e differs ∙ x.there;
+              idle = x.idle;
+              released = x.released;
+              none = x.none;
+            }))
+      ]
     ]
 
     pub taken_goes_on : GoesOn s v (lines_in w m)
@@ -169,7 +204,10 @@ module _ (laws : AskingLaws) (begins_work : BeginsToWork) (s : ReadyCall) (w : W
       answered = answered_stays s w v a.request a.answer its_own a.answered;
       status = a.status;
       taken_by = ts;
-      are_taken = taken_stay w v gs ts (λ x i was. still_quiet x.client was) are;
+      own_left = own_left.1;
+      are_taken = taken_stay s w v gs ts (λ x i. kept_beside x.client (own_left.0 x i)) are;
+      gone = λ x i. a.gone x (subst (In x) (sym left_is) (inr i));
+      aside = aside;
       queue = d.queue_is ∙ ap (λ (ms : List Message). rest ++ ms) stays.posts ∙ append-nil rest ∙ is;
       sent = sent_more s w m _ _ [] a.sent d.count_is stays.posts (omega arith);
       expiry = a.expiry;
@@ -178,7 +216,8 @@ module _ (laws : AskingLaws) (begins_work : BeginsToWork) (s : ReadyCall) (w : W
 
   -- ---- the layout comes
 
-  module _ (rest : List Message) (d : DeliversHead s w m (answer_message a.answer) rest) (none_else : rest ≡ []) where
+  module _ (none_left : a.left ≡ []) (rest : List Message) (d : DeliversHead s w m (answer_message a.answer) rest)
+      (none_else : rest ≡ []) where
     abbrev c : Client
     c = a.asks.caller.at.state
 
@@ -305,6 +344,9 @@ module _ (laws : AskingLaws) (begins_work : BeginsToWork) (s : ReadyCall) (w : W
       grant = a.grant;
       granted = last_grant a.before a.grant s.client a.own a.client_is;
       others = within;
+      aside =
+          aside_still s w v (a.before ++ a.grant ∷ []) steps.others
+          (subst (OthersRest s w (a.before ++ a.grant ∷ [])) none_left a.aside);
       server = serves_stays s w v _ _ steps.server steps.clock steps.down a.asks.server;
       in_time = in_time;
       drives = steps.drives ∙ a.asks.drives;
@@ -315,20 +357,21 @@ module _ (laws : AskingLaws) (begins_work : BeginsToWork) (s : ReadyCall) (w : W
 
   -- ---- whichever comes
 
-  by_left : (left : List Grant) (taken_by : List Message) → AreTaken w left taken_by → (x : Message) (rest : List Message)
-      → DeliversHead s w m x rest → x ∷ rest ≡ taken_by ++ answer_message a.answer ∷ [] → GoesOn s v (lines_in w m)
-  by_left [] [] are x rest d is =
+  by_left : (left : List Grant) → a.left ≡ left → (taken_by : List Message) → AreTaken s w left taken_by → (x : Message)
+      (rest : List Message) → DeliversHead s w m x rest → x ∷ rest ≡ taken_by ++ answer_message a.answer ∷ []
+      → GoesOn s v (lines_in w m)
+  by_left [] left [] are x rest d is =
       let head : x ≡ answer_message a.answer = cc is in
       let tail : rest ≡ [] = cc is in
-      layout_goes_on rest (subst (λ (y : Message). DeliversHead s w m y rest) head d) tail
-  by_left [] (t ∷ ts) are x rest d is = absurd are
-  by_left (g ∷ gs) [] are x rest d is = absurd are
-  by_left (g ∷ gs) (t ∷ ts) are x rest d is =
+      layout_goes_on left rest (subst (λ (y : Message). DeliversHead s w m y rest) head d) tail
+  by_left [] left (t ∷ ts) are x rest d is = absurd are
+  by_left (g ∷ gs) left [] are x rest d is = absurd are
+  by_left (g ∷ gs) left (t ∷ ts) are x rest d is =
       let head : x ≡ t = cc is in
       let tail : rest ≡ ts ++ answer_message a.answer ∷ [] = cc is in
-      taken_goes_on g gs ts are.0 are.1.0 are.1.1 are.2 rest
-      (subst (λ (y : Message). DeliversHead s w m y rest) (head ∙ are.1.2) d) tail
+      taken_goes_on g gs left ts are.0.0 are.0.1 are.1 rest
+      (subst (λ (y : Message). DeliversHead s w m y rest) (head ∙ are.0.2) d) tail
 
 pub getting_goes_on : AskingLaws → BeginsToWork → GoesOnBy Getting
 getting_goes_on laws begins_work s w h k m next a x rest queue d =
-    by_left laws begins_work s w h k m next a a.left a.taken_by a.are_taken x rest d (sym queue ∙ a.queue)
+    by_left laws begins_work s w h k m next a a.left refl a.taken_by a.are_taken x rest d (sym queue ∙ a.queue)

@@ -1,5 +1,5 @@
 -- What the server answers to a LAYOUTGET of the call: the grant, or that those are recalled that conflict.
-use Rattle.std.proofs.Common.{◌≡◌, ◌≤◌, ◌<◌, ◌+◌, ◌*◌, ℕ, zero, suc, min, Bool, true, false, true≢false, not, nat_lt, List, [], ◌∷◌, ◌++◌, length, slice_get, Some, None, is_some, Ok, inl, inr, refl, sym, ap, subst, ◌∙◌, eq-eqb, ne_eqb, arith, if◌then◌else◌}
+use Rattle.std.proofs.Common.{◌≡◌, ◌≤◌, ◌<◌, ◌+◌, ◌*◌, ℕ, zero, suc, min, Bool, true, false, true≢false, not, nat_lt, List, [], ◌∷◌, ◌++◌, length, slice_get, Some, None, is_some, Ok, inl, inr, refl, sym, ap, subst, ◌∙◌, eq-eqb, ne_eqb, arith, if◌then◌else◌, ◌≢◌}
 use Rattle.std.proofs.lemmas.Bool.{cases_eq, le-ltb}
 use Rattle.scenario_text.specs.declared.names.TheConstants.{CLIENTS}
 use Rattle.scenario_text.specs.declared.event.Event.{Event}
@@ -35,12 +35,12 @@ use Rattle.cause_law.proofs.Files.{few_there}
 use Rattle.cause_law.proofs.Queue.{queue_is_due}
 use Rattle.ready_law.specs.Ready.{stands}
 use Rattle.ready_law.proofs.Calls.{ReadyCall, op_at, file_at_call, kept_at, wanted_at, opposed_at, queue_at, IsIn, DeliversHead, request_message, answer_message}
-use Rattle.ready_law.proofs.Stages.{Asks, IsAsked, ListsFile, Serves, AreRecalls, AreTaken, WereLive, HasSent, Gets, GoesOn, Further}
+use Rattle.ready_law.proofs.Stages.{Asks, IsAsked, ListsFile, Serves, AreRecalls, AreTaken, WereLive, HasSent, Gets, GoesOn, Further, HaveOwnClients, OthersRest}
 use Rattle.ready_law.proofs.ServingForms.{recall_messages}
 use Rattle.ready_law.proofs.ServingGets.{with_grant, given, held_off}
 use Rattle.ready_law.proofs.AskingForms.{AskingLaws}
-use Rattle.ready_law.proofs.AskingFrames.{not_covered, caller_stays, quiet_stays, taken_stay, sent_more}
-use Rattle.ready_law.proofs.AskingServed.{Arrives, IsSent, IsDone, IsGet, own_sent, file_now, wanted_now, get_given, get_refused, lacks_now, served_silent, served_queue, served_client, served_answer, served_file}
+use Rattle.ready_law.proofs.AskingFrames.{not_covered, caller_stays, taken_stay, sent_more, aside_stays, one_more}
+use Rattle.ready_law.proofs.AskingServed.{Arrives, IsSent, IsDone, IsGet, own_sent, file_now, wanted_now, get_given, get_refused, lacks_now, served_silent, served_queue, served_client, served_answer, served_file, served_others}
 
 -- ---- the call's client has a number that lines can name
 
@@ -149,8 +149,10 @@ module _ (laws : AskingLaws) (s : ReadyCall) (w : World) (h : List Line) (k : Is
   -- ---- the grant is given
 
   module _ (others : WereLive s grants) (none : against grants (wanted_at s) ≡ []) (left : List Grant)
-      (taken_by : List Message) (are_taken : AreTaken w left taken_by) (queue : rest ≡ taken_by) (n : ℕ)
-      (few : HasSent s w n) (low : n + 1 ≤ 6 + 4 * length (opposed_at s)) where
+      (taken_by : List Message) (own_left : HaveOwnClients left) (are_taken : AreTaken s w left taken_by)
+      (queue : rest ≡ taken_by) (n : ℕ) (few : HasSent s w n) (low : n + 1 ≤ 6 + 4 * length (opposed_at s))
+      (apart : (g : Grant) → In g left → g.client ≢ s.client)
+      (gone : (g : Grant) → In g left → grant_of grants g.client ≡ None) (aside : OthersRest s w grants left) where
     done : IsDone laws its_arrival q (given w q.client q file wanted)
     done = get_given laws its_arrival q its_get none
 
@@ -233,10 +235,17 @@ module _ (laws : AskingLaws) (s : ReadyCall) (w : World) (h : List Line) (k : Is
           served_answer laws its_arrival q _ sent done is.client_is refl refl;
       status = refl;
       taken_by = taken_by;
+      own_left = own_left;
       are_taken =
-          taken_stay w v left taken_by
-          (λ x i quiet. quiet_stays w v x.client
-          (served_client laws its_arrival q _ sent done x.client) quiet) are_taken;
+          taken_stay s w v left taken_by
+          (λ x i. served_others laws its_arrival q _ sent done x.client (λ e. apart x i (e ∙ is.client_is))) are_taken;
+      gone = λ x i. one_more grants wanted x.client (λ e. apart x i (sym e ∙ client_is)) ∙ gone x i;
+      aside =
+          aside_stays s w v grants (grants ++ wanted ∷ []) left
+          (λ e other. inr (
+            served_client laws its_arrival q _ sent done e,
+            one_more grants wanted e (λ same. other (sym same ∙ client_is)),
+          )) aside;
       queue =
           served_queue laws its_arrival q _ sent done
           ∙ ap (λ (ms : List Message). ms ++ answer_message answer ∷ []) queue;

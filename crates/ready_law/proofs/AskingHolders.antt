@@ -1,5 +1,5 @@
 -- A client with a conflicting grant gives it back as it is recalled.
-use Rattle.std.proofs.Common.{◌≡◌, ◌≢◌, ℕ, false, List, [], ◌∷◌, filter, Some, refl, ap, ◌∙◌, arith}
+use Rattle.std.proofs.Common.{◌≡◌, ◌≢◌, ℕ, false, List, [], ◌∷◌, filter, Some, refl, ap, ◌∙◌, arith, None}
 use Rattle.std.specs.List.{list_any}
 use Rattle.osd_lists.specs.declared.node.Node.TheVariants as node
 use Rattle.layout_ops.specs.declared.statuses.TheConstants.{NFS4_OK}
@@ -10,7 +10,7 @@ use Rattle.server_rules.specs.Laws.{In}
 use Rattle.server_rules.specs.Slots.{admit, slot_of}
 use Rattle.server_rules.proofs.FileLaws.{number_at, file_in}
 use Rattle.server_rules.proofs.Members.{one_in}
-use Rattle.client_rules.specs.Grants.{held_of}
+use Rattle.client_rules.specs.Grants.{held_of, without_held}
 use Rattle.client_rules.specs.History.{Hears, step}
 use Rattle.client_rules.specs.Messages.{Recalls, Step as ClientStep, recall_answer}
 use Rattle.world_history.specs.ClientNames.{Client, Request}
@@ -36,6 +36,7 @@ use Rattle.ready_law.proofs.AskingClients.{recall_read, idle_client, is_idle_cli
 use Rattle.ready_law.proofs.AskingForms.{AskingLaws, Steps}
 use Rattle.ready_law.proofs.AskingFrames.{IsKept, opposed_yields}
 use Rattle.ready_law.proofs.AskingMoves.{delivered_steps}
+use Rattle.exchange_law.proofs.ClientKeeping.{none_left}
 
 -- The client of the grant answers the recall and sends the return, and no other party changes.
 pub record GivesBack (s : ReadyCall) (w : World) (m : Move) (g : Grant) : Type 0 where
@@ -53,7 +54,7 @@ pub record GivesBack (s : ReadyCall) (w : World) (m : Move) (g : Grant) : Type 0
 
 module _ (laws : AskingLaws) (s : ReadyCall) (w : World) (h : List Line) (k : IsIn s w h) (m : Move) (g : Grant)
     (i : In g (opposed_at s)) (grants : List Grant) (server : Serves s w grants (kept_at s).size) (live : In g grants)
-    (untouched : IsUntouched s w g) (count : ℕ) (rest : List Message)
+    (untouched : IsUntouched s w g.client) (count : ℕ) (rest : List Message)
     (d : DeliversHead s w m (recall_message (recall_of g count)) rest) where
   abbrev y : Yields (scene_at s) (file_at_call s) g
   y = opposed_yields s g i
@@ -136,6 +137,11 @@ module _ (laws : AskingLaws) (s : ReadyCall) (w : World) (h : List Line) (k : Is
           free = ap (λ (z : Client). z.call) after;
           outstanding = ap (λ (z : Client). z.outstanding) after;
           due = ap (λ (z : Client). z.due) after;
+          alive = steps.stopped ∙ y.idle.alive;
+          released =
+              ap (λ (z : Client). held_of z.held (file_at_call s)) after
+              ∙ ap (λ (n : ℕ). held_of (without_held x.held n) (file_at_call s)) its_file
+              ∙ none_left x.held (file_at_call s);
         };
         posts =
             ap posted steps.posts

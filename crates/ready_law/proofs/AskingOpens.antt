@@ -37,7 +37,7 @@ use Rattle.ready_law.specs.Ready.{is_listed}
 use Rattle.ready_law.specs.Stepping.{TakesCall}
 use Rattle.ready_law.proofs.Calls.{ReadyCall, op_at, file_at_call, kept_at, own_at, lost_at, IsIn}
 use Rattle.ready_law.proofs.Going.{OpensCall}
-use Rattle.ready_law.proofs.Stages.{Serves, Returns, AsksFirst, GoesOn, Further, Over}
+use Rattle.ready_law.proofs.Stages.{Serves, Returns, AsksFirst, GoesOn, Further, Over, OthersRest}
 use Rattle.ready_law.proofs.Stepping.{calls_step}
 use Rattle.ready_law.proofs.AskingAsks.{AsksNext, asks_next, in_step_there, has_number, new_idle}
 use Rattle.ready_law.proofs.AskingForms.{AskingLaws, Steps, BeginsToWork}
@@ -45,6 +45,7 @@ use Rattle.ready_law.proofs.AskingFrames.{opposed_in, serves_stays, sent_more}
 use Rattle.ready_law.proofs.AskingGood.{ListsCall, is_good}
 use Rattle.ready_law.proofs.AskingMoves.{called_steps}
 use Rattle.ready_law.proofs.AskingReturns.{has_grant}
+use Rattle.ready_law.proofs.Resting.{nothing_grows, same_some_of, drives_begin}
 
 -- ---- lists
 
@@ -140,20 +141,42 @@ module _ (laws : AskingLaws) (begins_work : BeginsToWork) (s : ReadyCall) (m : M
   behind : Serves s v (kept_at s).grants (kept_at s).size
   behind = serves_stays s s.world v _ _ steps.server steps.clock steps.down server
 
+  begins_aside : OthersRest s v (kept_at s).grants []
+  begins_aside e other = inr (inl (record { client = steps.others e other; grant = refl }))
+
   -- ---- nothing is to be written
 
   nothing_goes_on : writes_nothing (op_at s) ≡ true → GoesOn s v (lines_in s.world m)
   nothing_goes_on nothing =
       let is = calls_step.nothing c (op_at s) takes nothing in
+      let after : steps.after.state ≡ c = steps.state ∙ ap (λ (t : ClientStep). t.client) is in
       let none = ap posted steps.posts
       ∙ ap (λ (t : ClientStep). posted (filter is_addressed (client_posts s.client steps.wrote steps.logged t.sends))) is in
       Over (record {
         at = steps.after;
         there = steps.there;
         free =
-            ap (λ (x : Client). x.call) (steps.state ∙ ap (λ (t : ClientStep). t.client) is) ∙ s.ready.idle.free;
+            ap (λ (x : Client). x.call) after ∙ s.ready.idle.free;
         queue = o.queue_is ∙ none;
         sent = sent_more s s.world m 0 _ [] (omega arith) o.count_is none (omega arith);
+        rests = λ whole. record {
+          grants = (kept_at s).grants;
+          server =
+              subst (λ (n : ℕ). Serves s v (kept_at s).grants n) (sym (nothing_grows (kept_at s) (op_at s) nothing)) behind;
+          at = steps.after;
+          there = steps.there;
+          idle = record {
+            alive = steps.stopped ∙ s.ready.idle.alive;
+            free = ap (λ (x : Client). x.call) after ∙ s.ready.idle.free;
+            answered = ap (λ (x : Client). x.outstanding) after ∙ s.ready.idle.answered;
+          };
+          alike =
+              ap (λ (x : Client). is_some (held_of x.held (file_at_call s))) after
+              ∙ same_some_of (own_at s) (grant_of (kept_at s).grants s.client) s.ready.same;
+          others = λ g i. inr i;
+          aside = begins_aside;
+          drives = drives_begin s v steps.drives;
+        };
       }) (record {
         front = steps.front;
         outcome = outcome.WriteOk 0;
@@ -207,7 +230,7 @@ module _ (laws : AskingLaws) (begins_work : BeginsToWork) (s : ReadyCall) (m : M
             ∙ ap (λ (n : ℕ). admit (slot_of s.world.server.slots s.client) n) asks.sequence
             ∙ new_idle laws s.world s.history k.fair s.client caller there s.ready.idle.answered;
       };
-      untouched = λ g i. steps.others g.client (opposed_in s g i).1;
+      untouched = steps.others;
       queue = o.queue_is ∙ asks.posts;
       sent = sent_more s s.world m 0 _ _ (omega arith) o.count_is asks.posts (omega arith);
     })) asks.silent
@@ -240,7 +263,7 @@ module _ (laws : AskingLaws) (begins_work : BeginsToWork) (s : ReadyCall) (m : M
             ap (λ (hs : List Held). held_of hs (file_at_call s)) returns.held ∙ none_left c.held (file_at_call s);
         server = behind;
         drives = steps.drives;
-        untouched = λ g i. steps.others g.client (opposed_in s g i).1;
+        untouched = steps.others;
         queue = o.queue_is ∙ returns.posts;
         uncovered = λ h is.
             let same : held ≡ h = cc (sym owned ∙ is) in ap (λ (x : Held). covers x (op_at s)) (sym same) ∙ covered;
@@ -336,6 +359,7 @@ module _ (laws : AskingLaws) (begins_work : BeginsToWork) (s : ReadyCall) (m : M
         grant = grant;
         granted = granted.1;
         others = λ g i. inr i;
+        aside = begins_aside;
         server = behind;
         in_time = λ j at x found up there. (s.ready.drives j at x found up there).own grant granted.1;
         drives = steps.drives;

@@ -6,7 +6,7 @@ use Rattle.server_rules.specs.Answers.{recall_of}
 use Rattle.server_rules.specs.Grants.{without}
 use Rattle.server_rules.specs.Laws.{In}
 use Rattle.server_rules.specs.Slots.{admit, slot_of}
-use Rattle.server_rules.proofs.Members.{in_behind, in_filter, in_filtered}
+use Rattle.server_rules.proofs.Members.{in_behind, in_filter, in_filtered, in_front}
 use Rattle.client_rules.specs.Grants.{held_of}
 use Rattle.client_rules.specs.Requests.{get_args}
 use Rattle.world_history.specs.ClientNames.{Client, Held, Get}
@@ -19,14 +19,15 @@ use Rattle.history_law.specs.BookMoments.{lines_in}
 use Rattle.ready_law.specs.Stepping.{unasked, IsAnsweredAt}
 use Rattle.ready_law.proofs.Calls.{ReadyCall, op_at, file_at_call, kept_at, opposed_at, IsIn, DeliversHead, request_message, answer_message}
 use Rattle.ready_law.proofs.Going.{GoesOnBy}
-use Rattle.ready_law.proofs.Stages.{Recalling, AreRecalls, AreReturns, Recalls, AsksAgain, GoesOn, Further}
+use Rattle.ready_law.proofs.Stages.{Recalling, AreRecalls, AreReturns, Recalls, AsksAgain, GoesOn, Further, IsUntouched, HaveOwnClients}
 use Rattle.ready_law.proofs.ServingForms.{recall_message}
-use Rattle.component_law.proofs.Without.{no_grant}
+use Rattle.component_law.proofs.Without.{no_grant, other_grant}
 use Rattle.ready_law.proofs.Stepping.{answers_step}
 use Rattle.ready_law.proofs.AskingAsks.{AsksNext, asks_next, in_step_there, its_answer, answer_steps, asks_new}
 use Rattle.ready_law.proofs.AskingForms.{AskingLaws}
-use Rattle.ready_law.proofs.AskingFrames.{HaveOwnClients, own_apart, own_behind, own_opposed, against_others, opposed_in, serves_stays, caller_stays, IsKept, answered_stays, returns_stay, returns_more, sent_more}
+use Rattle.ready_law.proofs.AskingFrames.{own_apart, own_behind, own_opposed, against_others, opposed_in, serves_stays, caller_stays, IsKept, answered_stays, returns_stay, returns_more, sent_more}
 use Rattle.ready_law.proofs.AskingHolders.{GivesBack, gives_back}
+use Rattle.std.proofs.lemmas.Bool.{cases_eq}
 
 module _ (laws : AskingLaws) (s : ReadyCall) (w : World) (h : List Line) (k : IsIn s w h) (m : Move) (a : Recalling s w) where
   abbrev v : World
@@ -54,10 +55,16 @@ module _ (laws : AskingLaws) (s : ReadyCall) (w : World) (h : List Line) (k : Is
         in_filter (λ (x : Grant). not (x.client == s.client)) g (kept_at s).grants (opposed_in s g opposed).0
         (ap not (ne_eqb g.client s.client other))
 
+    still : IsUntouched s w g.client
+    still = elim (a.untouched g.client other) [
+      | inl one ↦ absurd (own_apart a.done (g ∷ gs) own one.0 g one.1 (inl refl) (sym one.2))
+      | inr u ↦ u
+    ]
+
     gives : GivesBack s w m g
     gives =
         gives_back laws s w h k m g opposed (without (kept_at s).grants s.client) a.asks.server live
-        (a.untouched g (subst (In g) (sym left) (inl refl))) count rest d
+        still count rest d
 
     its_own : IsKept w v s.client
     its_own = gives.others s.client (λ e. other (sym e))
@@ -88,9 +95,13 @@ module _ (laws : AskingLaws) (s : ReadyCall) (w : World) (h : List Line) (k : Is
           (returns_stay s w v a.done a.returns
           (λ x i. gives.others x.client (λ e. own_apart a.done (g ∷ gs) own x g i (inl refl) (sym e))) a.are_returns)
           (gives.answers, (gives.request, gives.returning, refl), tt);
-      untouched =
-          λ x i. (gives.others x.client ((own_behind a.done (g ∷ gs) own).0 x i)).client
-          ∙ a.untouched x (subst (In x) (sym left) (inr i));
+      untouched = λ e apart. elim (cases_eq e g.client) [
+        | inl same ↦ inl (g, in_behind g a.done (g ∷ []) (inl refl), sym same)
+        | inr differs ↦ elim (a.untouched e apart) [
+          | inl one ↦ inl (one.0, in_front one.0 a.done (g ∷ []) one.1, one.2)
+          | inr u ↦ inr ((gives.others e differs).client ∙ u)
+        ]
+      ];
       queue =
           d.queue_is ∙ ap (λ (xs : List Message). rest ++ xs) gives.posts
           ∙ ap (λ (xs : List Message). xs ++ gives.answer ∷ request_message gives.request ∷ []) is
@@ -166,6 +177,15 @@ module _ (laws : AskingLaws) (s : ReadyCall) (w : World) (h : List Line) (k : Is
                 slot = ap (λ (z : Server). slot_of z.slots x.client) st.server;
               }) a.are_returns);
           are_taken = tt;
+          gone = λ g i. absurd i;
+          aside = λ e other. elim (a.untouched e other) [
+            | inl one ↦ inl (one.0, subst (In one.0) (sym all_done) one.1, one.2)
+            | inr u ↦
+                inr (inl (record {
+                  client = st.others e other ∙ u;
+                  grant = other_grant (kept_at s).grants e s.client other;
+                }))
+          ];
           queue =
               d.queue_is ∙ ap (λ (xs : List Message). rest ++ xs) asks.posts
               ∙ ap (λ (xs : List Message). xs ++ request_message asks.request ∷ []) is;

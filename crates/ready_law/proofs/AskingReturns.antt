@@ -20,7 +20,7 @@ use Rattle.ready_law.proofs.ServingReturns.{given_back}
 use Rattle.ready_law.proofs.Stepping.{answers_step}
 use Rattle.ready_law.proofs.AskingAsks.{AsksNext, asks_next, in_step_there, its_answer, answer_steps, asks_new}
 use Rattle.ready_law.proofs.AskingForms.{AskingLaws}
-use Rattle.ready_law.proofs.AskingFrames.{opposed_in, serves_stays, caller_stays, sent_more}
+use Rattle.ready_law.proofs.AskingFrames.{serves_stays, caller_stays, sent_more}
 use Rattle.ready_law.proofs.AskingServed.{Arrives, IsSent, IsDone, own_sent, file_now, return_done, served_silent, served_queue, served_client, served_answer, served_file}
 
 -- the server has the grant that was held
@@ -71,7 +71,7 @@ module _ (laws : AskingLaws) (s : ReadyCall) (w : World) (h : List Line) (k : Is
             kept = record (kept_at s) { grants = without (kept_at s).grants c; high = a.server.high };
           }) a.asked.client_is);
       drives = done.drives ∙ a.drives;
-      untouched = λ g i. served_client laws its_arrival a.request _ sent done g.client ∙ a.untouched g i;
+      untouched = λ e other. served_client laws its_arrival a.request _ sent done e ∙ a.untouched e other;
       queue =
           served_queue laws its_arrival a.request _ sent done
           ∙ ap (λ (ms : List Message). ms
@@ -124,7 +124,7 @@ module _ (laws : AskingLaws) (s : ReadyCall) (w : World) (h : List Line) (k : Is
                 ∙ ap (λ (n : ℕ). admit (slot_of w.server.slots s.client) n) asks.sequence
                 ∙ asks_new laws s w h k a.request a.answer First a.caller a.answered;
           };
-          untouched = λ g i. st.others g.client (opposed_in s g i).1 ∙ a.untouched g i;
+          untouched = λ e other. st.others e other ∙ a.untouched e other;
           queue =
               d.queue_is ∙ ap (λ (xs : List Message). rest ++ xs) asks.posts
               ∙ ap (λ (xs : List Message). xs ++ request_message asks.request ∷ []) none_else;

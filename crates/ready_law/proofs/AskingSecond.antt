@@ -1,5 +1,5 @@
 -- The call's second LAYOUTGET is behind the returns of the conflicting grants.
-use Rattle.std.proofs.Common.{◌≡◌, ◌≢◌, ◌<◌, ◌==◌, ℕ, not, List, [], ◌∷◌, ◌++◌, length, Option, refl, sym, ap, subst, ◌∙◌, append_assoc, inl, arith}
+use Rattle.std.proofs.Common.{◌≡◌, ◌≢◌, ◌<◌, ◌==◌, ℕ, not, List, [], ◌∷◌, ◌++◌, length, Option, refl, sym, ap, subst, ◌∙◌, append_assoc, inl, arith, None, inr}
 use Rattle.std.proofs.lemmas.List.{append-nil, length-append}
 use Rattle.scenario_text.specs.declared.names.TheConstants.{CLIENTS}
 use Rattle.scenario_text.specs.declared.line.Line.{Line}
@@ -7,7 +7,7 @@ use Rattle.server_rules.specs.Grants.{against, conflicts, grant_of, without}
 use Rattle.server_rules.specs.Laws.{In, Apart}
 use Rattle.server_rules.specs.Slots.{admit, slot_of}
 use Rattle.server_rules.proofs.FileLaws.{safe_at, file_in}
-use Rattle.server_rules.proofs.Members.{in_behind, in_filtered}
+use Rattle.server_rules.proofs.Members.{in_behind, in_filtered, in_either}
 use Rattle.world_history.specs.ClientNames.{Request}
 use Rattle.world_history.specs.ServerNames.{Server, File, Grant}
 use Rattle.world_history.specs.declared.messages.Message.{Message}
@@ -22,15 +22,16 @@ use Rattle.component_law.proofs.Server.{found_own}
 use Rattle.cause_law.proofs.Sends.{outstanding_of}
 use Rattle.ready_law.proofs.Calls.{ReadyCall, file_at_call, kept_at, wanted_at, opposed_at, IsIn, DeliversHead, request_message, answer_message}
 use Rattle.ready_law.proofs.Going.{GoesOnBy}
-use Rattle.ready_law.proofs.Stages.{IsReturning, IsRecallAnswer, AreHalves, AreReturns, AskingAgain, AsksAgain, GoesOn, Further}
+use Rattle.ready_law.proofs.Stages.{IsReturning, IsRecallAnswer, AreHalves, AreReturns, AskingAgain, AsksAgain, GoesOn, Further, IsTaking, HaveOwnClients, OthersRest}
 use Rattle.ready_law.proofs.ServingForms.{IsNothing}
-use Rattle.component_law.proofs.Without.{other_grant}
+use Rattle.component_law.proofs.Without.{other_grant, no_grant}
 use Rattle.ready_law.proofs.ServingGrants.{others_left}
 use Rattle.ready_law.proofs.ServingReturns.{given_back, recall_answer_is_nothing}
 use Rattle.ready_law.proofs.AskingForms.{AskingLaws}
-use Rattle.ready_law.proofs.AskingFrames.{HaveOwnClients, own_behind, own_opposed, opposed_in, serves_stays, caller_stays, IsKept, asked_stays, returning_stays, returns_stay, quiet_stays, taken_stay, taken_more, sent_more, delivery_silent}
+use Rattle.ready_law.proofs.AskingFrames.{own_behind, own_opposed, opposed_in, serves_stays, caller_stays, IsKept, asked_stays, returning_stays, returns_stay, taken_stay, taken_more, sent_more, delivery_silent, aside_stays, own_apart}
 use Rattle.ready_law.proofs.AskingGives.{caller_named, gives_goes_on}
 use Rattle.ready_law.proofs.AskingServed.{Arrives, IsSent, IsDone, return_done, served_silent, served_queue, served_others, served_client, served_file}
+use Rattle.std.proofs.lemmas.Bool.{cases_eq}
 
 module _ (laws : AskingLaws) (s : ReadyCall) (w : World) (h : List Line) (k : IsIn s w h) (m : Move)
     (next : IsIn s (move w m).world (h ++ lines_in w m)) (a : AskingAgain s w) where
@@ -93,6 +94,28 @@ module _ (laws : AskingLaws) (s : ReadyCall) (w : World) (h : List Line) (k : Is
     later : (x : Grant) → In x a.left → x.client ≢ q.client
     later x i same = (own_behind a.done (g ∷ a.left) own_here).0 x i (same ∙ it.client_is)
 
+    earlier : (x : Grant) → In x a.done → x.client ≢ q.client
+    earlier x i same = own_apart a.done (g ∷ a.left) own_here x g i (inl refl) (sym it.client_is ∙ sym same)
+
+    -- its client has the answer to come
+    taking : IsTaking s v g (given_back q.client q file_now).answer
+    taking = record {
+      at = it.at;
+      there = served_client laws its_arrival q _ sent done g.client ∙ it.there;
+      alive = it.alive;
+      free = it.free;
+      request = q;
+      outstanding = it.outstanding;
+      due = it.due;
+      released = it.released;
+      client_is = it.client_is;
+      sequence = refl;
+      status = refl;
+      slot = record { client = q.client; last = q.sequence; kept = (given_back q.client q file_now).answer };
+      slot_is = ap (slot_of v.server.slots) (sym it.client_is) ∙ done.slot;
+      kept = refl;
+    }
+
     pub return_goes_on : GoesOn s v (lines_in w m)
     return_goes_on = Further (AsksAgain (record {
       request = a.request;
@@ -126,18 +149,26 @@ module _ (laws : AskingLaws) (s : ReadyCall) (w : World) (h : List Line) (k : Is
           returns_stay s w v a.left a.returns
           (λ x i. served_others laws its_arrival q _ sent done x.client (later x i)) a.are_returns;
       are_taken =
-          taken_more v a.done g a.taken_by _
-          (taken_stay w v a.done a.taken_by
-          (λ x i quiet. quiet_stays w v x.client (served_client laws its_arrival q _ sent done x.client) quiet) a.are_taken) (
-            record {
-              at = it.at;
-              there = served_client laws its_arrival q _ sent done g.client ∙ it.there;
-              free = it.free;
-              due = it.due;
-            },
-            ((given_back q.client q file_now).answer, it.client_is, refl),
+          taken_more s v a.done g a.taken_by _
+          (taken_stay s w v a.done a.taken_by
+          (λ x i. served_others laws its_arrival q _ sent done x.client (earlier x i)) a.are_taken) (
+            ((given_back q.client q file_now).answer, taking, refl),
             tt,
           );
+      gone = λ x i. elim (in_either x a.done (g ∷ []) i) [
+        | inl old ↦ other_grant a.grants x.client q.client (earlier x old) ∙ a.gone x old
+        | inr (inl same) ↦
+            subst (λ (c : ℕ). grant_of (without a.grants q.client) c ≡ None)
+            (it.client_is ∙ sym (ap (λ (y : Grant). y.client) same)) (no_grant a.grants q.client)
+        | inr (inr none) ↦ absurd none
+      ];
+      aside =
+          aside_stays s w v a.grants (without a.grants q.client) (opposed_at s) (λ e apart. elim (cases_eq e q.client) [
+            | inl same ↦
+                inl (g, subst (In g) (sym all) (in_behind g a.done (g ∷ a.left) (inl refl)), sym it.client_is ∙ sym same)
+            | inr differs ↦
+                inr (served_client laws its_arrival q _ sent done e, other_grant a.grants e q.client differs)
+          ]) a.aside;
       queue =
           served_queue laws its_arrival q _ sent done
           ∙ ap (λ (ms : List Message). ms ++ answer_message (given_back q.client q file_now).answer ∷ []) is
@@ -190,8 +221,10 @@ module _ (laws : AskingLaws) (s : ReadyCall) (w : World) (h : List Line) (k : Is
       taken_by = a.taken_by;
       are_halves = (q, returning_stays s w v g q (kept g.client) it, message);
       are_returns = returns_stay s w v gs ms (λ z i. kept z.client) are;
-      are_taken =
-          taken_stay w v a.done a.taken_by (λ z i quiet. quiet_stays w v z.client (kept z.client).client quiet) a.are_taken;
+      are_taken = taken_stay s w v a.done a.taken_by (λ z i. kept z.client) a.are_taken;
+      gone = a.gone;
+      aside =
+          aside_stays s w v a.grants a.grants (opposed_at s) (λ e other. inr ((kept e).client, refl)) a.aside;
       queue =
           d.queue_is ∙ ap (λ (xs : List Message). rest ++ xs) nothing.posts ∙ append-nil rest ∙ is;
       sent = sent_more s w m _ _ [] a.sent d.count_is nothing.posts (omega arith);
@@ -210,8 +243,10 @@ module _ (laws : AskingLaws) (s : ReadyCall) (w : World) (h : List Line) (k : Is
         ∙ ap (λ (gs : List Grant). a.done ++ gs) left ∙ append-nil a.done in
         gives_goes_on laws s w h k m next a.request a.grants 1 a.asks a.asked rest
         (subst (λ (y : Message). DeliversHead s w m y rest) head d) a.own named a.others
-        (a.against_are ∙ ap (λ (gs : List Grant). gs ++ a.left) half ∙ left) a.done a.taken_by a.are_taken tail _ a.sent
-        (omega (arith, ap length all))
+        (a.against_are ∙ ap (λ (gs : List Grant). gs ++ a.left) half ∙ left) a.done a.taken_by
+        (subst HaveOwnClients all (own_opposed laws s)) a.are_taken tail _ a.sent (omega (arith, ap length all))
+        (λ g i. (opposed_in s g (subst (In g) (sym all) i)).1) a.gone
+        (subst (λ (gs : List Grant). OthersRest s w a.grants gs) all a.aside)
     by_left half [] (r ∷ rs) left are is = absurd are
     by_left half (g ∷ gs) [] left are is = absurd are
     by_left half (g ∷ gs) (y ∷ []) left are is = absurd are

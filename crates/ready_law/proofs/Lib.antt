@@ -7,6 +7,7 @@ pub mod Examples
 pub mod Worlds
 pub mod Calls
 pub mod Stages
+pub mod Resting
 pub mod Reacting
 pub mod Stepping
 pub mod WorkingForms
@@ -15,6 +16,7 @@ pub mod WorkingListed
 pub mod Going
 pub mod Walking
 pub mod Opening
+pub mod Leaving
 pub mod Answering
 pub mod ReactingAsks
 pub mod ReactingTimed

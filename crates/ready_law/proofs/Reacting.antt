@@ -1,5 +1,5 @@
 -- How a call goes on with the drives where it can leave out what is lost.
-use Rattle.std.proofs.Common.{◌≡◌, ◌≢◌, ℕ, ◌+◌, ◌/◌, ◌==◌, Bool, true, false, List, [], ◌∷◌, ◌++◌, Option, None, length, map, is_some, refl, sym, ap, subst, ◌∙◌, inl, inr, arith, if◌then◌else◌}
+use Rattle.std.proofs.Common.{◌≡◌, ◌≢◌, ℕ, ◌+◌, ◌/◌, ◌==◌, Bool, true, false, List, [], ◌∷◌, ◌++◌, Option, None, length, map, is_some, refl, sym, ap, subst, ◌∙◌, inl, inr, arith, if◌then◌else◌, true≢false}
 use Rattle.std.specs.List.{AllByRecursion}
 use Rattle.std.proofs.lemmas.Bool.{cases_Bool, eq-eqb}
 use Rattle.data_map.specs.Striping.{replicas}
@@ -70,7 +70,7 @@ module _ (h : Held) (op : CallOp) (lost : List ℕ) (good : IsGood h op lost) wh
   reads_on_well got timed rest sent [] reads some well s =
       let none = none_left rest sent s.is in
       IsDone (ReadOk (answered h.map range got (outs h timed))) (nothing_sent h sent _ none.1) none.0
-      (read_done op (answered h.map range got (outs h timed)) reads)
+      (read_done op (answered h.map range got (outs h timed)) reads) (λ writes. absurd (true≢false (sym writes ∙ reads)))
   reads_on_well got timed rest sent (a ∷ xs) reads some well s =
       WorksOn (Reads (record { awaited = a ∷ xs; got = got; timed = timed })) refl (record {
         held = refl;
@@ -111,6 +111,7 @@ module _ (h : Held) (op : CallOp) (lost : List ℕ) (good : IsGood h op lost) wh
   probes_on_well got timed rest sent [] reads none_ well s =
       let none = none_left rest sent s.is in
       IsDone (ReadOk []) (nothing_sent h sent _ none.1) none.0 (read_done op [] reads)
+      (λ writes. absurd (true≢false (sym writes ∙ reads)))
   probes_on_well got timed rest sent (a ∷ xs) reads none_ well s =
       WorksOn (Probes (record { awaited = a ∷ xs; got = got; timed = timed })) refl (record {
         held = refl;
@@ -150,7 +151,7 @@ module _ (h : Held) (op : CallOp) (lost : List ℕ) (good : IsGood h op lost) wh
 
   accounted_well : (timed : List TimedOut) → is_write op ≡ true → is_past_size h op ≡ false → AreTimedWell h op lost timed
       → TurnsWell h op lost [] (turned h (accounted op timed))
-  accounted_well [] writes low well = IsDone (WriteOk (span_of op).length) refl refl (write_done op writes)
+  accounted_well [] writes low well = IsDone (WriteOk (span_of op).length) refl refl (write_done op writes) (λ e. low)
   accounted_well (t ∷ ts) writes low well = Reports t ts refl low (record { writes = writes; done = refl; well = well })
 
   written_well : (timed : List TimedOut) → is_write op ≡ true → AreTimedWell h op lost timed

@@ -1,16 +1,25 @@
 -- The server takes the report of a ready call.
-use Rattle.std.proofs.Common.{◌∷◌, [], ◌+◌, refl, sym, ◌∙◌, arith}
-use Rattle.world_history.specs.ClientNames.{Request, Waits, Report}
+use Rattle.std.proofs.Common.{◌∷◌, [], ◌+◌, refl, sym, ◌∙◌, arith, ◌≡◌, ◌≢◌, List, true, subst, ℕ, inl}
+use Rattle.world_history.specs.ClientNames.{Request, Waits, Report, Held, TimedOut}
 use Rattle.world_history.specs.ServerNames.{File}
 use Rattle.exchange_law.proofs.HeldWorlds.{reached, readable_there}
-use Rattle.ready_law.proofs.Calls.{file_at_call}
+use Rattle.ready_law.proofs.Calls.{file_at_call, ReadyCall, lost_at}
 use Rattle.ready_law.proofs.Going.{GoesOnBy}
-use Rattle.ready_law.proofs.Stages.{Reporting, WasReported, Further, asking_at, work_at}
+use Rattle.ready_law.proofs.Stages.{Reporting, WasReported, Further, asking_at, work_at, AreSilent}
 use Rattle.ready_law.proofs.ServingForms.{Carried}
 use Rattle.ready_law.proofs.ServingReports.{components_of, lost_to, CanReport, report_taken, few_reported}
 use Rattle.ready_law.proofs.ReportingForms.{ReportingLaws, report_laws}
 use Rattle.ready_law.proofs.ReportingLosses.{silent_inside, silent_borne}
 use Rattle.ready_law.proofs.ReportingServed.{head_of, Awaits, file_now, request_comes, caller_then, answered_then, queue_then, sent_then, silent_then}
+use Rattle.stripe_plan.specs.Lost.{among}
+
+-- what timed out is lost
+silent_lost : (s : ReadyCall) (held : Held) (timed : List TimedOut) → timed ≢ [] → AreSilent s held timed → lost_at s ≢ []
+silent_lost s held [] some silent none = some refl
+silent_lost s held (t ∷ timed) some silent none =
+    let there : among t.ask.component [] ≡ true =
+    subst (λ (ks : List ℕ). among t.ask.component ks ≡ true) none (silent.lost t (inl refl)) in
+    absurd (cc there)
 
 pub reporting_goes_on : ReportingLaws → GoesOnBy Reporting
 reporting_goes_on laws s w h k m next a x rest queue d =
@@ -50,6 +59,7 @@ reporting_goes_on laws s w h k m next a x rest queue d =
       timed = a.timed;
       answered = answered_then s w m q e z c refl refl refl served;
       taken = refl;
+      some_lost = silent_lost s a.held a.timed a.some a.silent;
       caller = caller_then s w m q e z c refl refl refl served;
       writes = a.writes;
       queue = queue_then s w m q e z c refl refl refl served;

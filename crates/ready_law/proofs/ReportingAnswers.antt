@@ -1,5 +1,5 @@
 -- The client of a ready call takes the answer to its commit, or to its report.
-use Rattle.std.proofs.Common.{◌≡◌, ◌+◌, ◌==◌, ℕ, Bool, true, true≢false, List, [], ◌∷◌, ◌++◌, length, filter, Option, Some, option_map, if◌then◌else◌, refl, sym, ap, subst, ◌∙◌, inl, arith}
+use Rattle.std.proofs.Common.{◌≡◌, ◌+◌, ◌==◌, ℕ, Bool, true, true≢false, List, [], ◌∷◌, ◌++◌, length, filter, Option, Some, option_map, if◌then◌else◌, refl, sym, ap, subst, ◌∙◌, inl, arith, is_some}
 use Rattle.std.proofs.lemmas.Bool.{and_parts, eqb-true}
 use Rattle.osd_lists.specs.declared.node.Node.TheVariants as node
 use Rattle.layout_ops.specs.declared.statuses.TheConstants.{NFS4_OK}
@@ -10,14 +10,14 @@ use Rattle.server_rules.specs.Slots.{admit, slot_of}
 use Rattle.stripe_plan.specs.Touched.{stripes}
 use Rattle.client_rules.specs.declared.limits.TheConstants.{LOSS_TAKEN}
 use Rattle.client_rules.specs.Calls.{span_of, is_write}
-use Rattle.client_rules.specs.Grants.{clipped}
+use Rattle.client_rules.specs.Grants.{clipped, held_of}
 use Rattle.client_rules.specs.History.{Hears, step}
 use Rattle.client_rules.specs.Messages.{Step as ClientStep, Answers}
 use Rattle.client_rules.specs.Requests.{return_args, report_of, object_of, error_at}
 use Rattle.client_rules.specs.Results.{status_of}
-use Rattle.client_rules.proofs.HeldGrants.{held_file}
+use Rattle.client_rules.proofs.HeldGrants.{held_file, put_at}
 use Rattle.world_history.specs.ClientNames.{Client, Call, CallOp, Write, Read, Held, TimedOut, Need, Commit, Report, Waits, WriteOk, Request, Answer}
-use Rattle.world_history.specs.ServerNames.{Server, Drive}
+use Rattle.world_history.specs.ServerNames.{Server, Drive, Grant}
 use Rattle.world_history.specs.declared.messages.Message.{Message}
 use Rattle.world_history.specs.State.{World, ClientAt}
 use Rattle.world_history.specs.Handed.{Post, is_addressed, client_posts, ended_by}
@@ -29,19 +29,21 @@ use Rattle.component_law.specs.Listed.{ListsComponents}
 use Rattle.ready_law.specs.Answered.{IsOk}
 use Rattle.ready_law.specs.Enough.{IsEnough}
 use Rattle.ready_law.specs.Reacting.{IsGood, touched_under}
-use Rattle.ready_law.specs.Stepping.{holding, unasked, ends_step, asks_step, IsAnsweredAt}
+use Rattle.ready_law.specs.Stepping.{holding, unasked, ends_step, asks_step, IsAnsweredAt, without_call}
 use Rattle.ready_law.proofs.Calls.{ReadyCall, op_at, file_at_call, kept_at, lost_at, IsIn, DeliversHead, answer_message}
 use Rattle.ready_law.proofs.Going.{GoesOnBy}
-use Rattle.ready_law.proofs.Stages.{Caller, IsAnsweredBy, HasSent, AreSilent, Committed, Reported, asking_at, work_at, GoesOn, Over}
+use Rattle.ready_law.proofs.Stages.{Caller, IsAnsweredBy, HasSent, AreSilent, Committed, Reported, asking_at, work_at, GoesOn, Over, IsRested, Serves}
 use Rattle.ready_law.proofs.Stepping.{answers_step}
 use Rattle.ready_law.proofs.AskingForms.{Steps}
-use Rattle.ready_law.proofs.AskingFrames.{serves_stays}
+use Rattle.ready_law.proofs.AskingFrames.{serves_stays, aside_still}
 use Rattle.ready_law.proofs.AskingAsks.{in_step_there, its_answer, answer_steps, asks_new}
 use Rattle.ready_law.proofs.WorkingForms.{UnderGrant, TakesTurn}
 use Rattle.ready_law.proofs.WorkingReports.{turn_reports}
 use Rattle.ready_law.proofs.ReportingForms.{ReportingLaws}
-use Rattle.ready_law.proofs.ReportingGrants.{commit_under}
+use Rattle.ready_law.proofs.ReportingGrants.{commit_under, call_fine}
 use Rattle.ready_law.proofs.ReportingServed.{head_of}
+use Rattle.ready_law.proofs.WorkingTurns.{drives_on}
+use Rattle.ready_law.proofs.Resting.{write_grows}
 
 -- ---- a write ends
 
@@ -59,8 +61,8 @@ is_ok (Read file offset count) writes = absurd (cc writes)
 write_ends : (s : ReadyCall) (w : World) (m : Move) (before : ClientAt) (t : ClientStep)
     → Steps w m s.client before (Some (op_at s)) t → (c : Client) → t ≡ ends_step c (WriteOk (span_of (op_at s)).length)
     → is_write (op_at s) ≡ true → (x : Message) → DeliversHead s w m x [] → HasSent s w (asking_at s + work_at s + 4)
-    → GoesOn s (move w m).world (lines_in w m)
-write_ends s w m before t st c is writes x d sent =
+    → (lost_at s ≡ [] → IsRested s (move w m).world) → GoesOn s (move w m).world (lines_in w m)
+write_ends s w m before t st c is writes x d sent rests =
     let none : (acts w m.chosen m.action).posts ≡ [] =
     st.posts
     ∙ ap (λ (y : ClientStep). filter is_addressed (client_posts s.client st.wrote st.logged y.sends)) is in
@@ -71,6 +73,7 @@ write_ends s w m before t st c is writes x d sent =
       free = ap (λ (y : Client). y.call) (st.state ∙ ap (λ (y : ClientStep). y.client) is);
       queue = d.queue_is ∙ ap posted none;
       sent = omega (arith, sent, d.count_is, ap (λ (ps : List Post). length ps) none);
+      rests = rests;
     })
     (record {
       front = st.front;
@@ -121,7 +124,7 @@ reported_goes_on laws s w h k m next a x rest queue d =
     (answers_step.reported c (op_at s) a.timed a.answer
     (awaited_there laws s w h k a.request a.answer (Report a.timed) a.caller a.answered status m e (Report a.timed) refl)
     a.taken)
-    a.writes (answer_message a.answer) e a.sent
+    a.writes (answer_message a.answer) e a.sent (λ none. absurd (a.some_lost none))
 
 -- ---- the answer to a commit
 
@@ -145,14 +148,15 @@ good_sized h op lost n writes g =
     }
 
 -- What the call works under stays, where the size is told and a client takes a step.
-under_sized : (s : ReadyCall) (w : World) (m : Move) (c : ℕ) (before : ClientAt) (op : Option CallOp) (t : ClientStep)
-    → Steps w m c before op t → (held : Held) (size n : ℕ) → is_write (op_at s) ≡ true → UnderGrant s w held size
+under_sized : (s : ReadyCall) (w : World) (m : Move) (before : ClientAt) (op : Option CallOp) (t : ClientStep)
+    → Steps w m s.client before op t → (held : Held) (size n : ℕ) → is_write (op_at s) ≡ true → UnderGrant s w held size
     → UnderGrant s (move w m).world (sized held n) size
-under_sized s w m c before op t st held size n writes u = record {
+under_sized s w m before op t st held size n writes u = record {
   grants = u.grants;
   grant = u.grant;
   granted = u.granted;
   others = u.others;
+  aside = aside_still s w (move w m).world u.grants st.others u.aside;
   server = serves_stays s w (move w m).world u.grants size st.server st.clock st.down u.server;
   good = good_sized held (op_at s) (lost_at s) n writes u.good;
   listed = u.listed;
@@ -223,14 +227,46 @@ module _ (laws : ReportingLaws) (s : ReadyCall) (w : World) (h : List Line) (k :
       subst (AreSilent s held_then) is
       (record { lost = a.silent.lost; touched = a.silent.touched; listed = a.silent.listed })
 
+  -- the size is committed, and the client rests
+  rested_then : a.timed ≡ [] → IsRested s (move w m).world
+  rested_then is =
+      let after : steps_then.after.state ≡ without_call (holding (unasked c) held_then) =
+      steps_then.state
+      ∙ ap (λ (y : ClientStep). y.client)
+      (answers_step.committed c a.has.held (op_at s) a.answer (answered_at [] is) a.has.holds a.status) in
+      let some = (call_fine laws.asking s w h k (Waits (Commit a.timed)) (Some a.request) a.size a.has).0.some in
+      record {
+        grants = a.has.grants;
+        server =
+            subst (λ (n : ℕ). Serves s (move w m).world a.has.grants n)
+            (a.size_is ∙ sym (write_grows (kept_at s) (op_at s) a.writes some))
+            (serves_stays s w (move w m).world a.has.grants a.size steps_then.server steps_then.clock steps_then.down
+            a.has.server);
+        at = steps_then.after;
+        there = steps_then.there;
+        idle = record {
+          alive = steps_then.stopped ∙ a.has.caller.alive;
+          free = ap (λ (z : Client). z.call) after;
+          answered = ap (λ (z : Client). z.outstanding) after;
+        };
+        alike =
+            ap (λ (z : Client). is_some (held_of z.held (file_at_call s))) after
+            ∙ ap (λ (o : Option Held). is_some o)
+            (put_at c.held held_then (file_at_call s) (held_file c.held (file_at_call s) a.has.held a.has.holds))
+            ∙ sym (ap (λ (o : Option Grant). is_some o) a.has.granted);
+        others = a.has.others;
+        aside = aside_still s w (move w m).world a.has.grants steps_then.others a.has.aside;
+        drives = drives_on a.drives steps_then.drives;
+      }
+
   goes_by : (timed : List TimedOut) → a.timed ≡ timed → GoesOn s (move w m).world (lines_in w m)
   goes_by [] is =
       write_ends s w m a.has.caller.at step_then steps_then (holding (unasked c) held_then)
       (answers_step.committed c a.has.held (op_at s) a.answer (answered_at [] is) a.has.holds a.status)
-      a.writes (answer_message a.answer) d (omega (arith, a.sent))
+      a.writes (answer_message a.answer) d (omega (arith, a.sent)) (λ whole. rested_then is)
   goes_by (t ∷ timed) is =
       turn_reports laws.asking s w m held_then a.size t timed takes_turn (reports_then t timed is) (h ++ lines_in w m) next
-      (under_sized s w m s.client a.has.caller.at (Some (op_at s)) step_then steps_then a.has.held a.size a.answer.size
+      (under_sized s w m a.has.caller.at (Some (op_at s)) step_then steps_then a.has.held a.size a.answer.size
       a.writes (commit_under laws.asking s w h k a.timed a.request a.size a.has))
       a.writes (silent_then (t ∷ timed) is) a.sent
 

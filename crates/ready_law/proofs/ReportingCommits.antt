@@ -1,5 +1,5 @@
 -- The server takes a call's LAYOUTCOMMIT.
-use Rattle.std.proofs.Common.{◌+◌, ℕ, max, refl, sym, ◌∙◌, arith}
+use Rattle.std.proofs.Common.{◌+◌, ℕ, max, refl, sym, ◌∙◌, arith, List, ap}
 use Rattle.world_history.specs.ClientNames.{Request, Waits, Commit}
 use Rattle.ready_law.proofs.Calls.{op_at, kept_at}
 use Rattle.ready_law.proofs.Going.{GoesOnBy}
@@ -9,7 +9,11 @@ use Rattle.ready_law.proofs.ServingCommits.{end_of, committed, commit_sizes}
 use Rattle.ready_law.proofs.AskingServed.{request_laws}
 use Rattle.ready_law.proofs.ReportingForms.{ReportingLaws}
 use Rattle.ready_law.proofs.ReportingGrants.{commit_some, commit_may}
-use Rattle.ready_law.proofs.ReportingServed.{head_of, Awaits, file_now, request_comes, granted_to, caller_then, answered_then, queue_then, sent_then, silent_then, server_then}
+use Rattle.ready_law.proofs.ReportingServed.{head_of, Awaits, file_now, request_comes, granted_to, caller_then, answered_then, queue_then, sent_then, silent_then, server_then, is_served}
+use Rattle.ready_law.proofs.AskingFrames.{aside_still}
+use Rattle.ready_law.proofs.WorkingTurns.{drives_on}
+use Rattle.world_history.specs.State.{ClientAt, at_number}
+use Rattle.world_history.specs.Sending.{move}
 
 pub committing_goes_on : ReportingLaws → GoesOnBy Committing
 committing_goes_on laws s w h k m next a x rest queue d =
@@ -37,6 +41,8 @@ committing_goes_on laws s w h k m next a x rest queue d =
       answer = c.answer;
       timed = a.timed;
       size = max (kept_at s).size end;
+      size_is = refl;
+      drives = drives_on a.drives (is_served s w m q e z c refl refl refl served).drives;
       has = record {
         caller = caller_then s w m q e z c refl refl refl served;
         held = has.held;
@@ -45,6 +51,10 @@ committing_goes_on laws s w h k m next a x rest queue d =
         grant = has.grant;
         granted = has.granted;
         others = has.others;
+        aside =
+            aside_still s w (move w m).world has.grants 
+            (λ x other. ap (λ (xs : List (ℕ × ClientAt)). at_number xs x) (is_served s w m q e z c refl refl refl served).clients)
+            has.aside;
         server = server_then s w m q e z c refl refl refl served (max (kept_at s).size end) refl;
         good = has.good;
         listed = has.listed;

@@ -36,7 +36,7 @@ module _ (laws : AskingLaws) (s : ReadyCall) (w : World) (h : List Line) (k : Is
       has.granted
 
   -- what the client knows of its call
-  call_fine : CallFine (KeptGood w.server s.client) has.caller.at.state.held out (Some (record { op = op_at s; phase = p }))
+  pub call_fine : CallFine (KeptGood w.server s.client) has.caller.at.state.held out (Some (record { op = op_at s; phase = p }))
   call_fine =
       let met : IsMet w.server s.client has.caller.at.state =
       subst (IsMet w.server s.client) (ap (state_of s.client) has.caller.there)
@@ -55,6 +55,7 @@ module _ (laws : AskingLaws) (s : ReadyCall) (w : World) (h : List Line) (k : Is
     grant = has.grant;
     granted = has.granted;
     others = has.others;
+    aside = has.aside;
     server = has.server;
     good = has.good;
     listed = has.listed;

@@ -1,5 +1,5 @@
 -- The stages of a ready call: what is on its way, what its client waits for, and what the server has.
-use Rattle.std.proofs.Common.{◌≡◌, ◌≢◌, ◌⊎◌, ◌≤◌, ◌+◌, ◌*◌, ℕ, Bool, true, false, List, [], ◌∷◌, ◌++◌, length, filter, slice_get, Option, Some, None, is_some, Ok}
+use Rattle.std.proofs.Common.{◌≡◌, ◌≢◌, ◌⊎◌, ◌≤◌, ◌+◌, ◌*◌, max, ℕ, Bool, true, false, List, [], ◌∷◌, ◌++◌, length, filter, slice_get, Option, Some, None, is_some, Ok}
 use Rattle.osd_lists.specs.declared.node.Node.{Node}
 use Rattle.osd_lists.specs.declared.node.Node.TheVariants as node
 use Rattle.layout_ops.specs.declared.envelope.Envelope.TheVariants as envelope
@@ -12,7 +12,7 @@ use Rattle.server_rules.specs.Layouts.{object_of}
 use Rattle.server_rules.specs.Slots.{New, admit, slot_of}
 use Rattle.stripe_plan.specs.Lost.{among}
 use Rattle.client_rules.specs.Answers.{is_loss_taken}
-use Rattle.client_rules.specs.Calls.{is_write}
+use Rattle.client_rules.specs.Calls.{is_write, span_of}
 use Rattle.client_rules.specs.Commands.{credential_in}
 use Rattle.client_rules.specs.Grants.{held_of, covers}
 use Rattle.client_rules.specs.Io.{awaited_in}
@@ -31,7 +31,9 @@ use Rattle.ready_law.specs.Answered.{stripes_touched, ends_call, EndsOk}
 use Rattle.ready_law.specs.Carried.{TellsDone}
 use Rattle.ready_law.specs.Clear.{HasRoomTo}
 use Rattle.ready_law.specs.Load.{Runs}
-use Rattle.ready_law.specs.Ready.{IsTouched, stands, is_listed, is_lost, write_end}
+use Rattle.ready_law.specs.Ready.{IsIdle, IsTouched, held_by, stands, is_listed, is_lost, write_end}
+pub use Rattle.ready_law.specs.Rested.{IsAsBefore}
+use Rattle.ready_law.specs.Rested.{size_after}
 use Rattle.ready_law.specs.Reacting.{IsGood, WorksWell}
 use Rattle.ready_law.proofs.Calls.{ReadyCall, scene_at, op_at, file_at_call, kept_at, own_at, wanted_at, opposed_at, lost_at, first_at, queue_at, request_message, answer_message}
 
@@ -78,9 +80,9 @@ pub record IsAnsweredBy (s : ReadyCall) (w : World) (q : Request) (a : Answer) :
 
 -- ---- the holders of conflicting grants
 
--- the client of the grant is as it was when the event began
-abbrev pub IsUntouched : ReadyCall → World → Grant → Type 0
-IsUntouched s w g = at_number w.clients g.client ≡ at_number s.world.clients g.client
+-- client c is as it was when the event began
+abbrev pub IsUntouched : ReadyCall → World → (c : ℕ) → Type 0
+IsUntouched s w c = at_number w.clients c ≡ at_number s.world.clients c
 
 -- it has sent this return of the grant, does nothing, and owes nothing else
 pub record IsReturning (s : ReadyCall) (w : World) (g : Grant) (q : Request) : Type 0 where
@@ -93,13 +95,25 @@ pub record IsReturning (s : ReadyCall) (w : World) (g : Grant) (q : Request) : T
   pub free : at.state.call ≡ None
   pub outstanding : at.state.outstanding ≡ Some q
   pub due : at.state.due ≡ []
+  pub alive : at.stopped ≡ false
+  pub released : held_of at.state.held (file_at_call s) ≡ None
 
--- it has no call and owes nothing
-pub record IsQuiet (w : World) (client : ℕ) : Type 0 where
+-- its return was taken, and this answer is on its way to it; it does nothing, and owes nothing else
+pub record IsTaking (s : ReadyCall) (w : World) (g : Grant) (a : Answer) : Type 0 where
   pub at : ClientAt
-  pub there : at_number w.clients client ≡ Some at
+  pub there : at_number w.clients g.client ≡ Some at
+  pub alive : at.stopped ≡ false
   pub free : at.state.call ≡ None
+  pub request : Request
+  pub outstanding : at.state.outstanding ≡ Some request
   pub due : at.state.due ≡ []
+  pub released : held_of at.state.held (file_at_call s) ≡ None
+  pub client_is : a.client ≡ g.client
+  pub sequence : a.sequence ≡ request.sequence
+  pub status : status_of a.results ≡ NFS4_OK
+  pub slot : Slot
+  pub slot_is : slot_of w.server.slots g.client ≡ Some slot
+  pub kept : slot.kept ≡ a
 
 -- a recall of each of these grants, in order
 abbrev pub AreRecalls : List Grant → List Message → Type 0
@@ -124,12 +138,11 @@ AreReturns s w (g ∷ gs) (a ∷ m ∷ ms) =
     IsRecallAnswer g.client a × ((q : Request) × IsReturning s w g q × (m ≡ request_message q)) × AreReturns s w gs ms
 AreReturns s w gs ms = ⊥
 
--- an answer to each client of these grants, who is quiet
-abbrev pub AreTaken : World → List Grant → List Message → Type 0
-AreTaken w [] [] = Unit {0}
-AreTaken w (g ∷ gs) (m ∷ ms) =
-    IsQuiet w g.client × ((a : Answer) × (a.client ≡ g.client) × (m ≡ answer_message a)) × AreTaken w gs ms
-AreTaken w gs ms = ⊥
+-- the answer to each client of these grants, who gave them back
+abbrev pub AreTaken : ReadyCall → World → List Grant → List Message → Type 0
+AreTaken s w [] [] = Unit {0}
+AreTaken s w (g ∷ gs) (m ∷ ms) = ((a : Answer) × IsTaking s w g a × (m ≡ answer_message a)) × AreTaken s w gs ms
+AreTaken s w gs ms = ⊥
 
 -- the return of the one grant, if there is one: the answer to its recall is gone
 abbrev pub AreHalves : ReadyCall → World → List Grant → List Message → Type 0
@@ -140,6 +153,35 @@ AreHalves s w gs ms = ⊥
 -- each of these grants was live when the event began
 abbrev pub WereLive : ReadyCall → List Grant → Type 0
 WereLive s grants = (g : Grant) → In g grants → In g (kept_at s).grants
+
+-- ---- the other clients
+
+-- no client has two of these grants
+abbrev pub HaveOwnClients : List Grant → Type 0
+HaveOwnClients [] = Unit {0}
+HaveOwnClients (g ∷ gs) = ((x : Grant) → In x gs → x.client ≢ g.client) × HaveOwnClients gs
+
+-- client c is as it was when the event began, and so is its grant on the call's file
+pub record IsAside (s : ReadyCall) (w : World) (grants : List Grant) (c : ℕ) : Type 0 where
+  pub client : at_number w.clients c ≡ at_number s.world.clients c
+  pub grant : grant_of grants c ≡ grant_of (kept_at s).grants c
+
+-- client c gave its grant on the file back, and is idle
+pub record GaveBack (s : ReadyCall) (w : World) (grants : List Grant) (c : ℕ) : Type 0 where
+  pub at : ClientAt
+  pub there : at_number w.clients c ≡ Some at
+  pub idle : IsIdle at
+  pub released : held_by at (file_at_call s) ≡ None
+  pub none : grant_of grants c ≡ None
+
+-- one of these grants is client c's
+abbrev pub HasOneOf : List Grant → (c : ℕ) → Type 0
+HasOneOf gs c = (g : Grant) × In g gs × (g.client ≡ c)
+
+-- each other client is aside or gave its grant back, but for the clients of these grants
+abbrev pub OthersRest : ReadyCall → World → List Grant → (busy : List Grant) → Type 0
+OthersRest s w grants busy =
+    (c : ℕ) → c ≢ s.client → HasOneOf busy c ⊎ (IsAside s w grants c ⊎ GaveBack s w grants c)
 
 -- ---- the grant is asked for
 
@@ -157,7 +199,7 @@ pub record Returning (s : ReadyCall) (w : World) : Type 0 where
   pub released : holding caller ≡ None
   pub server : Serves s w (kept_at s).grants (kept_at s).size
   pub drives : w.drives ≡ s.world.drives
-  pub untouched : (g : Grant) → In g (opposed_at s) → IsUntouched s w g
+  pub untouched : (c : ℕ) → c ≢ s.client → IsUntouched s w c
   pub queue : queue_at s w ≡ request_message request ∷ []
   pub uncovered : (h : Held) → own_at s ≡ Some h → covers h (op_at s) ≡ false
   pub sent : HasSent s w 1
@@ -175,7 +217,7 @@ pub record Returned (s : ReadyCall) (w : World) : Type 0 where
   pub released : holding caller ≡ None
   pub server : Serves s w (without (kept_at s).grants s.client) (kept_at s).size
   pub drives : w.drives ≡ s.world.drives
-  pub untouched : (g : Grant) → In g (opposed_at s) → IsUntouched s w g
+  pub untouched : (c : ℕ) → c ≢ s.client → IsUntouched s w c
   pub queue : queue_at s w ≡ answer_message answer ∷ []
   pub uncovered : (h : Held) → own_at s ≡ Some h → covers h (op_at s) ≡ false
   pub sent : HasSent s w 2
@@ -195,7 +237,7 @@ pub record Asking (s : ReadyCall) (w : World) : Type 0 where
   pub request : Request
   pub asks : Asks s w 0 request (without (kept_at s).grants s.client)
   pub asked : IsAsked s w request
-  pub untouched : (g : Grant) → In g (opposed_at s) → IsUntouched s w g
+  pub untouched : (c : ℕ) → c ≢ s.client → IsUntouched s w c
   pub queue : queue_at s w ≡ request_message request ∷ []
   pub sent : HasSent s w 3
 
@@ -215,7 +257,7 @@ pub record Recalling (s : ReadyCall) (w : World) : Type 0 where
   pub returns : List Message
   pub are_recalls : AreRecalls left recalls
   pub are_returns : AreReturns s w done returns
-  pub untouched : (g : Grant) → In g left → IsUntouched s w g
+  pub untouched : (c : ℕ) → c ≢ s.client → HasOneOf done c ⊎ IsUntouched s w c
   pub queue : queue_at s w ≡ recalls ++ answer_message answer ∷ returns
   pub sent : HasSent s w (4 + length (opposed_at s) + 2 * length done)
 
@@ -238,7 +280,9 @@ pub record AskingAgain (s : ReadyCall) (w : World) : Type 0 where
   pub taken_by : List Message
   pub are_halves : AreHalves s w half halves
   pub are_returns : AreReturns s w left returns
-  pub are_taken : AreTaken w done taken_by
+  pub are_taken : AreTaken s w done taken_by
+  pub gone : (g : Grant) → In g done → grant_of grants g.client ≡ None
+  pub aside : OthersRest s w grants (opposed_at s)
   pub queue : queue_at s w ≡ halves ++ returns ++ request_message request ∷ taken_by
   pub sent : HasSent s w (5 + 3 * length (opposed_at s) + length done)
 
@@ -264,7 +308,10 @@ pub record Getting (s : ReadyCall) (w : World) : Type 0 where
   pub answered : IsAnsweredBy s w request answer
   pub status : status_of answer.results ≡ NFS4_OK
   pub taken_by : List Message
-  pub are_taken : AreTaken w left taken_by
+  pub own_left : HaveOwnClients left
+  pub are_taken : AreTaken s w left taken_by
+  pub gone : (g : Grant) → In g left → grant_of (before ++ grant ∷ []) g.client ≡ None
+  pub aside : OthersRest s w (before ++ grant ∷ []) left
   pub queue : queue_at s w ≡ taken_by ++ answer_message answer ∷ []
   pub sent : HasSent s w (6 + 4 * length (opposed_at s))
   -- the grant's end, and what the layout lists
@@ -273,16 +320,14 @@ pub record Getting (s : ReadyCall) (w : World) : Type 0 where
 
 -- ---- the call works on drives
 
--- a drive is as it was, but for its objects and lanes
-abbrev pub IsAsBefore : Option DriveAt → Option DriveAt → Type 0
-IsAsBefore None b = b ≡ None
-IsAsBefore (Some a) b =
-    (x : DriveAt) × (b ≡ Some x) × (x.failed ≡ a.failed) × (x.down ≡ a.down) × (x.clock ≡ a.clock)
-    × (x.state.least ≡ a.state.least)
-
--- so is each, and those of touched components that aren't lost have the room that is needed
+-- So is each. Where a component's object had room to become so long that the call's WRITEs end inside it, it still has. And those
+-- of touched components that aren't lost have the room that is needed.
 pub record DrivesGoOn (s : ReadyCall) (w : World) : Type 0 where
   pub each : (d : ℕ) → IsAsBefore (at_number s.world.drives d) (at_number w.drives d)
+  pub stays : (k : ℕ) (at : Component) (a b : DriveAt) (top : ℕ) → slice_get (kept_at s).components k ≡ Some at
+      → at_number s.world.drives at.drive ≡ Some a → at_number w.drives at.drive ≡ Some b
+      → (is_write (op_at s) ≡ true → write_end (kept_at s) (op_at s) k ≤ top)
+      → HasRoomTo top a.state.store at.object → HasRoomTo top b.state.store at.object
   pub room : is_write (op_at s) ≡ true → (k : ℕ) (at : Component) (a : DriveAt) → IsTouched (kept_at s) (op_at s) k
       → slice_get (kept_at s).components k ≡ Some at → is_lost (scene_at s) at ≡ false
       → at_number w.drives at.drive ≡ Some a → HasRoomTo (write_end (kept_at s) (op_at s) k) a.state.store at.object
@@ -337,6 +382,7 @@ pub record HasGrant (s : ReadyCall) (w : World) (p : Phase) (out : Option Reques
   pub grant : Grant
   pub granted : grant_of grants s.client ≡ Some grant
   pub others : (g : Grant) → In g grants → (g.client ≡ s.client) ⊎ In g (kept_at s).grants
+  pub aside : OthersRest s w grants []
   pub server : Serves s w grants size
   pub good : IsGood held (op_at s) (lost_at s)
   -- what it lists is what the call's readiness speaks of
@@ -396,6 +442,7 @@ pub record Committing (s : ReadyCall) (w : World) : Type 0 where
   pub args_are : request.args ≡ commit_args has.held (op_at s)
   pub past : is_past_size has.held (op_at s) ≡ true
   pub asked : IsAsked s w request
+  pub drives : DrivesGoOn s w
   pub queue : queue_at s w ≡ request_message request ∷ []
   pub sent : HasSent s w (asking_at s + work_at s + 1)
 
@@ -405,6 +452,8 @@ pub record Committed (s : ReadyCall) (w : World) : Type 0 where
   pub answer : Answer
   pub timed : List TimedOut
   pub size : ℕ
+  pub size_is : size ≡ max (kept_at s).size ((span_of (op_at s)).offset + (span_of (op_at s)).length)
+  pub drives : DrivesGoOn s w
   pub has : HasGrant s w (Waits (Commit timed)) (Some request) size
   pub writes : is_write (op_at s) ≡ true
   pub silent : AreSilent s has.held timed
@@ -441,6 +490,7 @@ pub record Reported (s : ReadyCall) (w : World) : Type 0 where
   pub timed : List TimedOut
   pub answered : IsAnsweredBy s w request answer
   pub taken : is_loss_taken answer ≡ true
+  pub some_lost : lost_at s ≢ []
   pub caller : Caller s w (Waits (Report timed)) (Some request)
   pub writes : is_write (op_at s) ≡ true
   pub queue : queue_at s w ≡ answer_message answer ∷ []
@@ -461,6 +511,20 @@ pub data Stage (s : ReadyCall) (w : World) : Type 0 where
   Reports : Reporting s w → Stage s w
   WasReported : Reported s w → Stage s w
 
+-- The call left its client idle, which holds a grant on the file exactly if the server has one of it there. The size is at least
+-- where a write ends. The other clients and the drives are as they were, but for the clients that gave their grants back, and for
+-- objects and lanes.
+pub record IsRested (s : ReadyCall) (w : World) : Type 0 where
+  pub grants : List Grant
+  pub server : Serves s w grants (size_after (kept_at s) (op_at s))
+  pub at : ClientAt
+  pub there : at_number w.clients s.client ≡ Some at
+  pub idle : IsIdle at
+  pub alike : is_some (held_by at (file_at_call s)) ≡ is_some (grant_of grants s.client)
+  pub others : (g : Grant) → In g grants → (g.client ≡ s.client) ⊎ In g (kept_at s).grants
+  pub aside : OthersRest s w grants []
+  pub drives : DrivesGoOn s w
+
 -- the call is over: the client has none, and nothing is on its way
 pub record IsDone (s : ReadyCall) (w : World) : Type 0 where
   pub at : ClientAt
@@ -468,6 +532,7 @@ pub record IsDone (s : ReadyCall) (w : World) : Type 0 where
   pub free : at.state.call ≡ None
   pub queue : queue_at s w ≡ []
   pub sent : HasSent s w (asking_at s + work_at s + 4)
+  pub rests : lost_at s ≡ [] → IsRested s w
 
 -- What a move leaves: a further stage, and no line tells that the call ended; or the call is over, and its lines tell that it
 -- ended in ok, once.

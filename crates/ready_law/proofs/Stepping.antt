@@ -85,8 +85,8 @@ module _ (c : Client) (o : Option Call) (h : Held) (op : CallOp) (lost : List �
       WorksOn p is goes
       (ap (λ (t : Turn). closed (progressed (by_turn (record (with_held start m.held) { commands = m.sent }) op t))) is
       ∙ ap closed (rests (record (with_held start m.held) { commands = m.sent }) m.held op p goes.works.kind free))
-  turn_well m (IsDoneSo u is done well) =
-      IsDone u done well
+  turn_well m (IsDoneSo u is done well low) =
+      IsDone u done well low
       (ap (λ (x : Moved). closed (progressed (moved start op x))) is ∙ ap closed (is_over (with_held start h) u free none))
   turn_well m (CommitsSo timed is past well) =
       Commits timed past well
@@ -112,7 +112,7 @@ unfolding begun
 begun_already d h op lost rest m (WorksOnSo p is goes) =
     let e : Done = record (with_held d m.held) { commands = m.sent } in
     ap (λ (t : Turn). begun (by_turn e op t)) is ∙ begun_phase e m.held op p goes.works.kind ∙ ap (by_turn e op) (sym is)
-begun_already d h op lost rest m (IsDoneSo u is done well) =
+begun_already d h op lost rest m (IsDoneSo u is done well low) =
     ap (λ (x : Moved). begun (moved d op x)) is ∙ ap (moved d op) (sym is)
 begun_already d h op lost rest m (CommitsSo timed is past well) =
     ap (λ (x : Moved). begun (moved d op x)) is ∙ ap (moved d op) (sym is)

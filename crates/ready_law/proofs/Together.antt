@@ -20,7 +20,8 @@ use Rattle.ready_law.specs.Events.{EventsStandApart}
 use Rattle.ready_law.specs.Fair.{IsFair}
 use Rattle.ready_law.specs.Worlds.{ScenesAreRead}
 use Rattle.ready_law.proofs.Going.{StagesGoOn}
-use Rattle.ready_law.proofs.Answering.{ready_is_answered}
+use Rattle.ready_law.specs.Rested.{ReadyCallsLeaveRest}
+use Rattle.ready_law.proofs.Answering.{ready_is_answered, ready_leaves_rest}
 use Rattle.ready_law.proofs.AskingForms.{AskingLaws, BeginsToWork}
 use Rattle.ready_law.proofs.AskingFirst.{asking_goes_on}
 use Rattle.ready_law.proofs.AskingGiven.{getting_goes_on}
@@ -121,6 +122,11 @@ module _ (laws : ReadyLaws) where
   }
 
   -- ---- all calls
+
+  pub ready_calls_leave_rest : ReadyCallsLeaveRest
+  ready_calls_leave_rest =
+      ready_leaves_rest laws.asking.more laws.events laws.scenes laws.messages laws.asking.counts laws.readable stages
+      laws.asking
 
   pub ready_calls_end_in_ok : ReadyIsAnswered
   ready_calls_end_in_ok =

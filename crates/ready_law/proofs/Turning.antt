@@ -69,9 +69,22 @@ module _ (laws : AskingLaws) (s : ReadyCall) (w : World) (m : Move) (held : Held
   pub turn_goes_on : StepsWell t.base held (op_at s) (lost_at s) awaited mv t.result → GoesOn s (move w m).world (lines_in w m)
   turn_goes_on (stepping.WorksOn p goes g is) =
       turn_works s w m held rest t mv h i u c begun commands awaited waiting o p goes g is
-  turn_goes_on (stepping.IsDone e none well is) = turn_ends s w m held e (at_end none) is well all_sent
+  turn_goes_on (stepping.IsDone e none well low is) =
+      turn_ends s w m held e (at_end none) is
+      (record {
+        grants = u.grants;
+        grant = u.grant;
+        granted = u.granted;
+        others = u.others;
+        aside = u.aside;
+        server = u.server;
+        drives = c.drives;
+        size = c.size;
+        low = low;
+      })
+      well all_sent
   turn_goes_on (stepping.Commits timed past it is) =
-      turn_commits s w m held timed (at_end it.done) is u it.writes past it.well all_sent
+      turn_commits s w m held timed (at_end it.done) is u c.drives it.writes past it.well all_sent
   turn_goes_on (stepping.Reports x timed turns low it is) =
       turn_reports laws s w m held (kept_at s).size x timed (at_end it.done) is h i u it.writes
       (are_silent s (move w m).world held (kept_at s).size u it.writes (x ∷ timed) it.well) (omega (arith, all_sent))

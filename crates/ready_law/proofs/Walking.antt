@@ -36,8 +36,8 @@ use Rattle.cause_law.proofs.Eventless.{NoEvent, first_plain, later_plain}
 use Rattle.cause_law.proofs.Queue.{queue_is_due, said_length}
 use Rattle.ready_law.specs.Answered.{EndsOk, ends_call}
 use Rattle.ready_law.specs.Fair.{IsFair}
-use Rattle.ready_law.proofs.Calls.{ReadyCall, op_at, first_at, queue_at, IsIn, DeliversHead, TellsTimeout, request_message, answer_message}
-use Rattle.ready_law.proofs.Stages.{Stage, Returning, Returned, Asking, Recalling, AskingAgain, Getting, Committing, Committed, Reporting, Reported, Returns, WasReturned, AsksFirst, Recalls, AsksAgain, Gets, Works, Commits, WasCommitted, Reports, WasReported, Working, IsDone, GoesOn, Further, Over, HasSent, asking_at, work_at}
+use Rattle.ready_law.proofs.Calls.{ReadyCall, op_at, first_at, queue_at, IsIn, DeliversHead, TellsTimeout, request_message, answer_message, lost_at}
+use Rattle.ready_law.proofs.Stages.{Stage, Returning, Returned, Asking, Recalling, AskingAgain, Getting, Committing, Committed, Reporting, Reported, Returns, WasReturned, AsksFirst, Recalls, AsksAgain, Gets, Works, Commits, WasCommitted, Reports, WasReported, Working, IsDone, GoesOn, Further, Over, HasSent, asking_at, work_at, IsRested}
 use Rattle.ready_law.proofs.Going.{StagesGoOn, GoesOnBy, AwaitsDrive}
 
 -- ---- the whole history
@@ -211,6 +211,10 @@ pub record IsAt (s : ReadyCall) (w : World) (h : List Line) : Type 0 where
 pub record EndsWithin (s : ReadyCall) (w : World) (ls : List Line) : Type 0 where
   pub ends : EndsOk s.client (op_at s) ls
   pub sent : HasSent s w (asking_at s + work_at s + 4)
+  pub rests : lost_at s ≡ [] → IsRested s w
+  -- the moment at its end
+  pub history : List Line
+  pub within : IsIn s w history
 
 module _ (readable : FilesAndAnswersAreReadable) (stages : StagesGoOn) (t : Whole) (s : ReadyCall) where
   -- ---- one move
@@ -381,6 +385,9 @@ module _ (readable : FilesAndAnswersAreReadable) (stages : StagesGoOn) (t : Whol
           record {
             ends = ends_behind s (move w n).lines (lines_of (move w n).world ns) (subst (IsSilent s) lines silence) rest.ends;
             sent = rest.sent;
+            rests = rest.rests;
+            history = rest.history;
+            within = rest.within;
           }
       by goes_further stays cut lines (Over done ends) = last ns refl
         where
@@ -391,6 +398,9 @@ module _ (readable : FilesAndAnswersAreReadable) (stages : StagesGoOn) (t : Whol
                 ends =
                     subst (EndsOk s.client (op_at s)) (lines ∙ sym (append-nil (move w n).lines)) ends;
                 sent = done.sent;
+                rests = done.rests;
+                history = h ++ lines_in w n;
+                within = next_in w h x n are.0 cut;
               })
           last (y ∷ ms) some =
               let are_due : AreDue (prompt_plan s) (move w n).world (y ∷ ms) =

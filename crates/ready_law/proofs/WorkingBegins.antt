@@ -32,6 +32,7 @@ use Rattle.ready_law.proofs.WorkingForms.{UnderGrant, TakesTurn}
 use Rattle.ready_law.proofs.WorkingTurns.{works_held, turn_works}
 use Rattle.ready_law.proofs.WorkingEnds.{asks_held, turn_ends, turn_commits}
 use Rattle.ready_law.proofs.WorkingStage.{grant_agrees, grant_lists, for_writing}
+use Rattle.ready_law.proofs.Resting.{drives_begin}
 
 -- ---- nothing is reported where nothing timed out
 
@@ -72,21 +73,6 @@ covers_for h op e = elim (cases_Bool (nat_lt MAX_COUNT h.count)) [
   | inl t ↦ absurd (cc (rw t at e))
   | inr f ↦ rw f at e
 ]
-
-as_it_was : (o : Option DriveAt) → IsAsBefore o o
-as_it_was None = refl
-as_it_was (Some a) = (a, refl, refl, refl, refl, refl)
-
--- the drives are as the call's readiness has them
-drives_begin : (s : ReadyCall) (v : World) → v.drives ≡ s.world.drives → DrivesGoOn s v
-drives_begin s v same = record {
-  each = λ d.
-      subst (λ (ds : List (ℕ × DriveAt)). IsAsBefore (at_number s.world.drives d) (at_number ds d)) (sym same)
-      (as_it_was (at_number s.world.drives d));
-  room = λ writes k at a touched place works stands.
-      (s.ready.writes writes).room k at a touched place works
-      (ap (λ (ds : List (ℕ × DriveAt)). at_number ds at.drive) (sym same) ∙ stands);
-}
 
 -- what a grant says it says with any count
 agrees_before : (m : RawMap) (g : _) (h : Held) (sent : List Awaited) → Agrees m g (counted h sent) → Agrees m g h
@@ -134,6 +120,7 @@ module _ (laws : AskingLaws) (s : ReadyCall) (w : World) (h : List Line) (m : Mo
     grant = b.grant;
     granted = b.granted;
     others = b.others;
+    aside = b.aside;
     server = b.server;
     good = b.good;
     listed = b.listed;
@@ -176,7 +163,20 @@ module _ (laws : AskingLaws) (s : ReadyCall) (w : World) (h : List Line) (m : Mo
         sent = omega (arith, b.sent);
       })
       p goes g is
-  by_turn_of (stepping.IsDone e none well is) = turn_ends s w m b.held e turn is well (omega (arith, b.sent))
+  by_turn_of (stepping.IsDone e none well low is) =
+      turn_ends s w m b.held e turn is
+      (record {
+        grants = b.grants;
+        grant = b.grant;
+        granted = b.granted;
+        others = b.others;
+        aside = b.aside;
+        server = b.server;
+        drives = drives_begin s v b.drives;
+        size = b.size;
+        low = low;
+      })
+      well (omega (arith, b.sent))
   by_turn_of (stepping.Commits timed past it is) =
       let held =
       asks_held s w m b.held (Commit timed) (commit_args b.held (op_at s)) turn is
@@ -187,7 +187,7 @@ module _ (laws : AskingLaws) (s : ReadyCall) (w : World) (h : List Line) (m : Mo
       b.server b.grant b.granted)
       (grant_lists laws s v (h ++ lines_in w m) i turn.step.after turn.step.there b.held held b.grants (kept_at s).size
       b.server b.grant b.granted))
-      it.writes past it.well (omega (arith, b.sent))
+      (drives_begin s v b.drives) it.writes past it.well (omega (arith, b.sent))
   by_turn_of (stepping.Reports x timed turns low it is) =
       absurd (begins_reports x timed b.held (op_at s) it.writes turns)
 

@@ -1,5 +1,5 @@
 -- A command of a working call comes to its drive: that of a lost component takes nothing, and any other one replies.
-use Rattle.std.proofs.Common.{◌≡◌, ◌≢◌, ◌⊎◌, ◌≤◌, ◌+◌, ◌||◌, ◌++◌, ℕ, suc, Bool, true, false, List, [], ◌∷◌, length, filter, slice_get, Some, refl, sym, ap, subst, ◌∙◌, inl, inr, arith, if◌then◌else◌}
+use Rattle.std.proofs.Common.{◌≡◌, ◌≢◌, ◌⊎◌, ◌≤◌, ◌+◌, ◌||◌, ◌++◌, ℕ, suc, Bool, true, false, List, [], ◌∷◌, length, filter, slice_get, Some, refl, sym, ap, subst, ◌∙◌, inl, inr, arith, if◌then◌else◌, le_trans}
 use Rattle.std.proofs.lemmas.Bool.{cases_Bool}
 use Rattle.std.proofs.lemmas.List.{append-nil}
 use Rattle.osd_lists.specs.declared.node.Node.{Node}
@@ -107,7 +107,7 @@ module _ (laws : WorkingLaws) (s : ReadyCall) (w : World) (h : List Line) (i : I
   k = y.ask.component
 
   abbrev under : UnderGrant s w held (kept_at s).size
-  under = under_at laws s w h i a w refl refl refl
+  under = under_at laws s w h i a w refl refl refl (λ c other. refl)
 
   mine : In y (awaited_in a.phase)
   mine = a.awaited y (subst (In y) (sym waiting_is) (inl refl))
@@ -286,23 +286,23 @@ module _ (laws : WorkingLaws) (s : ReadyCall) (w : World) (h : List Line) (i : I
     after_is = judged_state stands.now (reading (spelling y.command)) y.command served.read
 
     -- what is written there takes no room that is needed
-    room_left : is_write (op_at s) ≡ true → (n : ℕ) (b : Component) → slice_get (kept_at s).components n ≡ Some b
-        → b.drive ≡ y.drive → HasRoomTo (write_end (kept_at s) (op_at s) n) stands.now.state.store b.object
-        → HasRoomTo (write_end (kept_at s) (op_at s) n) after.state.store b.object
-    room_left writes n b place on old =
+    room_left : (n : ℕ) (b : Component) (top : ℕ) → slice_get (kept_at s).components n ≡ Some b → b.drive ≡ y.drive
+        → (is_write (op_at s) ≡ true → write_end (kept_at s) (op_at s) n ≤ top)
+        → HasRoomTo top stands.now.state.store b.object → HasRoomTo top after.state.store b.object
+    room_left n b top place on high old =
         let same : n ≡ k =
         laws.apart w h i.fair _ _ a.has.server.found n k b at place there.component.place (on ∙ there.drive) in
         let it : b ≡ at = cc (sym place ∙ ap (slice_get (kept_at s).components) same ∙ there.component.place) in
         let object : b.object ≡ y.command.object = ap (λ (z : Component). z.object) it ∙ sym there.object in
-        subst (λ (z : DriveAt). HasRoomTo (write_end (kept_at s) (op_at s) n) z.state.store b.object) (sym after_is)
-        (subst (λ (o : ℕ). HasRoomTo (write_end (kept_at s) (op_at s) n) (state_by
+        subst (λ (z : DriveAt). HasRoomTo top z.state.store b.object) (sym after_is)
+        (subst (λ (o : ℕ). HasRoomTo top (state_by
         (first_fault stands.now.state stands.now.clock y.command) stands.now.state y.command).store o) (sym object)
-        (laws.room stands.now.state (first_fault stands.now.state stands.now.clock y.command) y.command
-        (write_end (kept_at s) (op_at s) n) served.clear.placed.action
-        (λ e. subst (λ (j : ℕ). y.command.offset + length y.command.payload ≤ write_end (kept_at s) (op_at s) j) (sym same)
-        (subst (λ (l : ℕ). y.command.offset + l ≤ write_end (kept_at s) (op_at s) k)
-        (sym (payload_long held _ y (made_under w h s.client y works_under i.fair) e)) (ends_low e)))
-        (subst (HasRoomTo (write_end (kept_at s) (op_at s) n) stands.now.state.store) object old)))
+        (laws.room stands.now.state (first_fault stands.now.state stands.now.clock y.command) y.command top
+        served.clear.placed.action
+        (λ e. le_trans (subst (λ (j : ℕ). y.command.offset + length y.command.payload ≤ write_end (kept_at s) (op_at s) j)
+        (sym same) (subst (λ (l : ℕ). y.command.offset + l ≤ write_end (kept_at s) (op_at s) k)
+        (sym (payload_long held _ y (made_under w h s.client y works_under i.fair) e)) (ends_low e))) (high (writing e)))
+        (subst (HasRoomTo top stands.now.state.store) object old)))
 
     drives_then : DrivesGoOn s v
     drives_then =

@@ -1,5 +1,5 @@
 -- A command of a working call comes to its drive.
-use Rattle.std.proofs.Common.{◌≡◌, ◌⊎◌, ◌≤◌, ◌+◌, ℕ, true, false, List, length, slice_get, Option, Some, None, IsSome, refl, sym, ap, subst, ◌∙◌, inl, inr, arith}
+use Rattle.std.proofs.Common.{◌≡◌, ◌⊎◌, ◌≤◌, ◌+◌, ℕ, true, false, List, length, slice_get, Option, Some, None, IsSome, refl, sym, ap, subst, ◌∙◌, inl, inr, arith, []}
 use Rattle.std.proofs.lemmas.Bool.{cases_eq}
 use Rattle.osd_objects.proofs.Entries.{lookup_set, lookup_set_beside}
 use Rattle.server_rules.specs.Laws.{In}
@@ -13,7 +13,7 @@ use Rattle.ready_law.specs.Clear.{HasRoomTo}
 use Rattle.ready_law.specs.Ready.{is_lost, IsTouched, write_end}
 use Rattle.ready_law.proofs.Calls.{ReadyCall, scene_at, op_at, kept_at, lost_at, queue_at}
 use Rattle.ready_law.proofs.Stages.{IsAsBefore, DrivesGoOn, AreOf, HaveOwnNonces, commands_in, HasGrant, Working}
-use Rattle.ready_law.proofs.AskingFrames.{serves_stays, caller_stays}
+use Rattle.ready_law.proofs.AskingFrames.{serves_stays, caller_stays, aside_still}
 
 -- ---- the stage stays
 
@@ -28,6 +28,7 @@ grant_on {s} {w} {v} {p} {size} x clients server clock down = record {
   grant = x.grant;
   granted = x.granted;
   others = x.others;
+  aside = aside_still s w v x.grants (λ c other. ap (λ (xs : List (ℕ × ClientAt)). at_number xs c) clients) x.aside;
   server = serves_stays s w v x.grants size server clock down x.server;
   good = x.good;
   listed = x.listed;
@@ -93,12 +94,12 @@ pub record BecomesAlike (s : ReadyCall) (w v : World) (d : ℕ) : Type 0 where
   pub down : now.down ≡ was.down
   pub clock : now.clock ≡ was.clock
   pub least : now.state.least ≡ was.state.least
-  pub room : is_write (op_at s) ≡ true → (k : ℕ) (at : Component) → slice_get (kept_at s).components k ≡ Some at → at.drive ≡ d
-      → HasRoomTo (write_end (kept_at s) (op_at s) k) was.state.store at.object
-      → HasRoomTo (write_end (kept_at s) (op_at s) k) now.state.store at.object
+  pub room : (k : ℕ) (at : Component) (top : ℕ) → slice_get (kept_at s).components k ≡ Some at → at.drive ≡ d
+      → (is_write (op_at s) ≡ true → write_end (kept_at s) (op_at s) k ≤ top)
+      → HasRoomTo top was.state.store at.object → HasRoomTo top now.state.store at.object
 
 pub drives_alike : (s : ReadyCall) (w v : World) (d : ℕ) → DrivesGoOn s w → BecomesAlike s w v d → DrivesGoOn s v
-drives_alike s w v d go b = record { each = each; room = room }
+drives_alike s w v d go b = record { each = each; stays = stays; room = room }
   where
     here : at_number v.drives d ≡ Some b.now
     here =
@@ -119,6 +120,18 @@ drives_alike s w v d go b = record { each = each; room = room }
       | inr other ↦ subst (IsAsBefore (at_number s.world.drives n)) (sym (there n other)) (go.each n)
     ]
 
+    stays : (k : ℕ) (at : Component) (a c : DriveAt) (top : ℕ) → slice_get (kept_at s).components k ≡ Some at
+        → at_number s.world.drives at.drive ≡ Some a → at_number v.drives at.drive ≡ Some c
+        → (is_write (op_at s) ≡ true → write_end (kept_at s) (op_at s) k ≤ top)
+        → HasRoomTo top a.state.store at.object → HasRoomTo top c.state.store at.object
+    stays k at a c top place first now low old = elim (cases_eq at.drive d) [
+      | inl is ↦
+          let same : b.now ≡ c = cc (sym here ∙ ap (at_number v.drives) (sym is) ∙ now) in
+          subst (λ (x : DriveAt). HasRoomTo top x.state.store at.object) same
+          (b.room k at top place is low (go.stays k at a b.was top place first (ap (at_number w.drives) is ∙ b.stood) low old))
+      | inr other ↦ go.stays k at a c top place first (sym (there at.drive other) ∙ now) low old
+    ]
+
     room : is_write (op_at s) ≡ true → (k : ℕ) (at : Component) (a : DriveAt) → IsTouched (kept_at s) (op_at s) k
         → slice_get (kept_at s).components k ≡ Some at → is_lost (scene_at s) at ≡ false
         → at_number v.drives at.drive ≡ Some a → HasRoomTo (write_end (kept_at s) (op_at s) k) a.state.store at.object
@@ -127,6 +140,6 @@ drives_alike s w v d go b = record { each = each; room = room }
           let same : b.now ≡ a = cc (sym here ∙ ap (at_number v.drives) (sym is) ∙ stands) in
           let old = go.room writes k at b.was touched place works (ap (at_number w.drives) is ∙ b.stood) in
           subst (λ (x : DriveAt). HasRoomTo (write_end (kept_at s) (op_at s) k) x.state.store at.object) same
-          (b.room writes k at place is old)
+          (b.room k at (write_end (kept_at s) (op_at s) k) place is (λ e. omega arith) old)
       | inr other ↦ go.room writes k at a touched place works (sym (there at.drive other) ∙ stands)
     ]

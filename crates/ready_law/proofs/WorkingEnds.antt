@@ -1,12 +1,12 @@
 -- A step of the call's client that dealt with drives, where the call is over, or asks the server.
-use Rattle.std.proofs.Common.{◌≡◌, ◌+◌, ℕ, true, false, List, [], ◌∷◌, ◌++◌, length, Some, refl, sym, ap, ◌∙◌, arith}
+use Rattle.std.proofs.Common.{◌≡◌, ◌+◌, ℕ, true, false, List, [], ◌∷◌, ◌++◌, length, Some, refl, sym, ap, ◌∙◌, arith, Option, is_some, subst, nat_lt, inl, inr}
 use Rattle.std.specs.List.{list_any}
 use Rattle.osd_lists.specs.declared.node.Node.TheVariants as node
 use Rattle.layout_ops.specs.declared.args.Args.{Args}
 use Rattle.layout_ops.specs.declared.envelope.Envelope.TheVariants as envelope
 use Rattle.server_rules.specs.Laws.{In}
 use Rattle.server_rules.proofs.Members.{in_map, one_in}
-use Rattle.client_rules.specs.Calls.{is_write}
+use Rattle.client_rules.specs.Calls.{is_write, span_of}
 use Rattle.client_rules.specs.Going.{held_after, request_of}
 use Rattle.client_rules.specs.Grants.{held_of, put_held}
 use Rattle.client_rules.specs.Messages.{Step}
@@ -30,9 +30,14 @@ use Rattle.ready_law.specs.Reacting.{components_of, IsLostThere, AreTimedWell, E
 use Rattle.ready_law.specs.Stepping.{holding, asks_step, ends_step}
 use Rattle.ready_law.proofs.ReactingGood.{reached_there}
 use Rattle.ready_law.proofs.Calls.{ReadyCall, op_at, file_at_call, kept_at, lost_at, queue_at, request_message}
-use Rattle.ready_law.proofs.Stages.{Caller, IsAsked, HasSent, work_at, asking_at, AreSilent, Commits, GoesOn, Further, Over}
-use Rattle.ready_law.proofs.WorkingForms.{UnderGrant, TakesTurn}
+use Rattle.ready_law.proofs.Stages.{Caller, IsAsked, HasSent, work_at, asking_at, AreSilent, Commits, GoesOn, Further, Over, IsRested, Serves, DrivesGoOn}
+use Rattle.ready_law.proofs.WorkingForms.{UnderGrant, TakesTurn, EndsUnder}
 use Rattle.ready_law.proofs.WorkingTurns.{caller_of, posts_are, no_end}
+use Rattle.ready_law.proofs.Resting.{read_keeps, inside_keeps}
+use Rattle.ready_law.specs.Rested.{size_after}
+use Rattle.std.proofs.lemmas.Bool.{cases_Bool}
+use Rattle.std.proofs.lemmas.Bool.Decides.{nat_tests}
+use Rattle.world_history.specs.ServerNames.{Grant}
 
 -- ---- it is over
 
@@ -52,8 +57,42 @@ module _ (s : ReadyCall) (w : World) (m : Move) (held : Held) (u : Outcome) (t :
   ends_posts : (acts w m.chosen m.action).posts ≡ []
   ends_posts = posts_are s w m held [] t _ is
 
-  pub turn_ends : EndsWell (op_at s) u → HasSent s w (asking_at s + work_at s) → GoesOn s (move w m).world (lines_in w m)
-  turn_ends well sent =
+  -- it is within the size
+  not_past : (e : EndsUnder s (move w m).world held) → size_after (kept_at s) (op_at s) ≡ (kept_at s).size
+  not_past e = elim (cases_Bool (is_write (op_at s))) [
+    | inl writes ↦
+        let low : nat_lt (kept_at s).size ((span_of (op_at s)).offset + (span_of (op_at s)).length) ≡ false =
+        subst (λ (n : ℕ). nat_lt n ((span_of (op_at s)).offset + (span_of (op_at s)).length) ≡ false) e.size
+        (e.low writes) in
+        inside_keeps (kept_at s) (op_at s) (grind (arith, nat_tests, low))
+    | inr reads ↦ read_keeps (kept_at s) (op_at s) reads
+  ]
+
+  ends_rested : EndsUnder s (move w m).world held → IsRested s (move w m).world
+  ends_rested e =
+      let after = t.step.state ∙ ap (λ (x : Step). x.client) is in
+      record {
+        grants = e.grants;
+        server = subst (λ (n : ℕ). Serves s (move w m).world e.grants n) (sym (not_past e)) e.server;
+        at = t.step.after;
+        there = t.step.there;
+        idle = record {
+          alive = t.step.stopped ∙ t.alive;
+          free = ap (λ (z : Client). z.call) after;
+          answered = ap (λ (z : Client). z.outstanding) after ∙ t.free;
+        };
+        alike =
+            ap (λ (z : Client). is_some (held_of z.held (file_at_call s))) after
+            ∙ ap (λ (o : Option Held). is_some o) (put_at t.base.held held (file_at_call s) t.file_is)
+            ∙ sym (ap (λ (o : Option Grant). is_some o) e.granted);
+        others = e.others;
+        aside = e.aside;
+        drives = e.drives;
+      }
+
+  pub turn_ends : EndsUnder s (move w m).world held → EndsWell (op_at s) u → HasSent s w (asking_at s + work_at s)
+      → GoesOn s (move w m).world (lines_in w m)
+  turn_ends under well sent =
       let tells = told_well s.client (op_at s) u well in
       Over
       (record {
@@ -62,6 +101,7 @@ module _ (s : ReadyCall) (w : World) (m : Move) (held : Held) (u : Outcome) (t :
         free = ap (λ (z : Client). z.call) (t.step.state ∙ ap (λ (x : Step). x.client) is);
         queue = t.queue ∙ ap posted ends_posts;
         sent = omega (arith, sent, t.count, ap (λ (ps : List Post). length ps) ends_posts);
+        rests = λ whole. ends_rested under;
       })
       (record {
         front = t.step.front;
@@ -131,10 +171,10 @@ are_silent s w held size u writes timed well = record {
 pub turn_commits : (s : ReadyCall) (w : World) (m : Move) (held : Held) (timed : List TimedOut)
     (t : TakesTurn s w m held [])
     → t.result ≡ asks_step (holding t.base held) (op_at s) (Commit timed) (commit_args held (op_at s))
-    → UnderGrant s (move w m).world held (kept_at s).size → is_write (op_at s) ≡ true
+    → UnderGrant s (move w m).world held (kept_at s).size → DrivesGoOn s (move w m).world → is_write (op_at s) ≡ true
     → is_past_size held (op_at s) ≡ true → AreTimedWell held (op_at s) (lost_at s) timed
     → HasSent s w (asking_at s + work_at s) → GoesOn s (move w m).world (lines_in w m)
-turn_commits s w m held timed t is u writes past well sent =
+turn_commits s w m held timed t is u drives writes past well sent =
     let n : Need = Commit timed in
     let a : Args = commit_args held (op_at s) in
     Further
@@ -149,6 +189,7 @@ turn_commits s w m held timed t is u writes past well sent =
         grant = u.grant;
         granted = u.granted;
         others = u.others;
+        aside = u.aside;
         server = u.server;
         good = u.good;
         listed = u.listed;
@@ -158,6 +199,7 @@ turn_commits s w m held timed t is u writes past well sent =
       args_are = refl;
       past = past;
       asked = asks_new s w m held n a t is;
+      drives = drives;
       queue = asks_queue s w m held n a t is;
       sent = asks_sent s w m held n a t is (asking_at s + work_at s) sent;
     }))

@@ -29,7 +29,8 @@ use Rattle.ready_law.specs.Ready.{is_listed, is_lost}
 use Rattle.ready_law.specs.Reacting.{IsGood}
 use Rattle.ready_law.proofs.AskingForms.{AskingLaws, Steps}
 use Rattle.ready_law.proofs.Calls.{ReadyCall, scene_at, op_at, file_at_call, kept_at, own_at, lost_at, first_at, queue_at}
-use Rattle.ready_law.proofs.Stages.{Serves, DrivesGoOn, AreOf, HaveOwnNonces, commands_in, asking_at, work_at}
+use Rattle.ready_law.proofs.Stages.{Serves, DrivesGoOn, AreOf, HaveOwnNonces, commands_in, asking_at, work_at, OthersRest}
+use Rattle.client_rules.specs.Writes.{is_past_size}
 
 -- ---- laws
 
@@ -59,6 +60,7 @@ pub record UnderGrant (s : ReadyCall) (w : World) (held : Held) (size : ℕ) : T
   pub grant : Grant
   pub granted : grant_of grants s.client ≡ Some grant
   pub others : (g : Grant) → In g grants → (g.client ≡ s.client) ⊎ In g (kept_at s).grants
+  pub aside : OthersRest s w grants []
   pub server : Serves s w grants size
   pub good : IsGood held (op_at s) (lost_at s)
   pub listed : (k : ℕ) → is_some (credential_in (slice_get held.components k)) ≡ true
@@ -75,6 +77,18 @@ pub record CanWork (s : ReadyCall) (w : World) (held : Held) (grant : Grant) : T
   pub in_time : (k : ℕ) (at : Component) (d : DriveAt) → slice_get (kept_at s).components k ≡ Some at
       → is_lost (scene_at s) at ≡ false → at_number s.world.drives at.drive ≡ Some d → d.clock ≤ grant.expiry
   pub drives : DrivesGoOn s w
+
+-- What a call that ends leaves: the server has its grant, and the client knew the size. A write that passes it commits first.
+pub record EndsUnder (s : ReadyCall) (w : World) (held : Held) : Type 0 where
+  pub grants : List Grant
+  pub grant : Grant
+  pub granted : grant_of grants s.client ≡ Some grant
+  pub others : (g : Grant) → In g grants → (g.client ≡ s.client) ⊎ In g (kept_at s).grants
+  pub aside : OthersRest s w grants []
+  pub server : Serves s w grants (kept_at s).size
+  pub drives : DrivesGoOn s w
+  pub size : held.size ≡ (kept_at s).size
+  pub low : is_write (op_at s) ≡ true → is_past_size held (op_at s) ≡ false
 
 -- ---- a turn
 

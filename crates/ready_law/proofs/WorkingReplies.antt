@@ -114,7 +114,7 @@ module _ (laws : WorkingLaws) (s : ReadyCall) (w : World) (h : List Line) (i : I
         queue = queue;
         count = count;
       })
-      (h ++ lines_in w m) after (under_at laws s w h i a (move w m).world st.server st.clock st.down)
+      (h ++ lines_in w m) after (under_at laws s w h i a (move w m).world st.server st.clock st.down st.others)
       (record { size = a.size; in_time = a.in_time; drives = drives_on a.drives st.drives })
       a.begun a.commands awaited waiting o well
 

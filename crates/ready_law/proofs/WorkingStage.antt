@@ -1,5 +1,5 @@
 -- What is known of a ready call that works on drives: its grant, its client's next request, and how much it sent.
-use Rattle.std.proofs.Common.{◌≡◌, ◌≤◌, ◌*◌, ℕ, Bool, true, max, List, length, Option, Some, if◌then◌else◌, true≢false, refl, sym, ap, subst, ◌∙◌, inl, inr, arith}
+use Rattle.std.proofs.Common.{◌≡◌, ◌≤◌, ◌*◌, ℕ, Bool, true, max, List, length, Option, Some, if◌then◌else◌, true≢false, refl, sym, ap, subst, ◌∙◌, inl, inr, arith, ◌≢◌}
 use Rattle.std.proofs.lemmas.Bool.{cases_Bool}
 use Rattle.data_map.specs.declared.check.RawMap.{RawMap}
 use Rattle.data_map.specs.Check.{IsChecked}
@@ -23,7 +23,7 @@ use Rattle.ready_law.specs.Load.{Runs}
 use Rattle.ready_law.specs.Reacting.{IsGood, IsPhaseOf}
 use Rattle.ready_law.specs.Stepping.{IsWorkingAt}
 use Rattle.ready_law.proofs.AskingForms.{AskingLaws}
-use Rattle.ready_law.proofs.AskingFrames.{serves_stays}
+use Rattle.ready_law.proofs.AskingFrames.{serves_stays, aside_still}
 use Rattle.ready_law.proofs.AskingAsks.{in_step_there, new_idle}
 use Rattle.ready_law.proofs.Calls.{ReadyCall, op_at, file_at_call, kept_at, lost_at, IsIn}
 use Rattle.ready_law.proofs.Stages.{Serves, Working, work_at}
@@ -137,12 +137,13 @@ module _ (laws : WorkingLaws) (s : ReadyCall) (w : World) (h : List Line) (i : I
 
   -- behind a move that leaves the server as it is
   abbrev pub under_at : (v : World) → v.server ≡ w.server → v.clock ≡ w.clock → v.down ≡ w.down
-      → UnderGrant s v held (kept_at s).size
-  under_at v server clock down = record {
+      → ((c : ℕ) → c ≢ s.client → at_number v.clients c ≡ at_number w.clients c) → UnderGrant s v held (kept_at s).size
+  under_at v server clock down beside = record {
     grants = a.has.grants;
     grant = a.has.grant;
     granted = a.has.granted;
     others = a.has.others;
+    aside = aside_still s w v a.has.grants beside a.has.aside;
     server = serves_stays s w v a.has.grants (kept_at s).size server clock down a.has.server;
     good = a.has.good;
     listed = a.has.listed;
@@ -175,4 +176,4 @@ module _ (laws : WorkingLaws) (s : ReadyCall) (w : World) (h : List Line) (i : I
 
   pub few_so_far : 2 * length a.commands ≤ work_at s
   few_so_far =
-      sends_few laws.few s a.begun held a.phase a.commands a.run a.has.good (under_at w refl refl refl).agrees.map a.size
+      sends_few laws.few s a.begun held a.phase a.commands a.run a.has.good (under_at w refl refl refl (λ c other. refl)).agrees.map a.size

@@ -41,6 +41,8 @@ pub drives_on : {s : ReadyCall} {w v : World} → DrivesGoOn s w → v.drives �
 drives_on {s} {w} {v} x same = record {
   each = λ d.
       subst (λ (ds : List (ℕ × DriveAt)). IsAsBefore (at_number s.world.drives d) (at_number ds d)) (sym same) (x.each d);
+  stays = λ k at a b top place first now low old.
+      x.stays k at a b top place first (ap (λ (ds : List (ℕ × DriveAt)). at_number ds at.drive) (sym same) ∙ now) low old;
   room = λ writes k at a touched place works stands.
       x.room writes k at a touched place works
       (ap (λ (ds : List (ℕ × DriveAt)). at_number ds at.drive) (sym same) ∙ stands);
@@ -63,6 +65,7 @@ under_counted s w held size sent u = record {
   grant = u.grant;
   granted = u.granted;
   others = u.others;
+  aside = u.aside;
   server = u.server;
   good = good_still held (op_at s) (lost_at s) sent u.good;
   listed = u.listed;
@@ -171,6 +174,7 @@ module _ (s : ReadyCall) (w : World) (m : Move) (held : Held) (rest : List Messa
       grant = u.grant;
       granted = u.granted;
       others = u.others;
+      aside = u.aside;
       server = u.server;
       good = works_under.good;
       listed = works_under.listed;

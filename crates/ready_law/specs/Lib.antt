@@ -3,6 +3,7 @@ pub mod Events
 pub mod Clear
 pub mod Enough
 pub mod Answered
+pub mod Rested
 pub mod Examples
 pub mod Worlds
 pub mod Fair

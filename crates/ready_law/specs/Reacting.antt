@@ -170,7 +170,8 @@ pub record IsWritten (h : Held) (op : CallOp) (lost : List ℕ) (rest : List Awa
 -- or it reports what timed out.
 pub data TurnsWell (h : Held) (op : CallOp) (lost : List ℕ) (rest : List Awaited) (m : Moved) : Type 0 where
   WorksOn : (p : Phase) → m.turn ≡ Goes p → GoesOn h op lost rest m.held p m.sent → TurnsWell h op lost rest m
-  IsDone : (o : Outcome) → m ≡ turned h (Ends o) → rest ≡ [] → EndsWell op o → TurnsWell h op lost rest m
+  IsDone : (o : Outcome) → m ≡ turned h (Ends o) → rest ≡ [] → EndsWell op o
+      → (is_write op ≡ true → is_past_size h op ≡ false) → TurnsWell h op lost rest m
   Commits : (timed : List TimedOut) → m ≡ turned h (needing (Commit timed)) → is_past_size h op ≡ true
       → IsWritten h op lost rest timed → TurnsWell h op lost rest m
   Reports : (t : TimedOut) (timed : List TimedOut) → m ≡ turned h (needing (Report (t ∷ timed)))

@@ -7,7 +7,7 @@ use Rattle.stripe_plan.specs.Lost.{among}
 use Rattle.server_rules.specs.Laws.{In}
 use Rattle.client_rules.specs.declared.limits.TheConstants.{PERFORMED, MAX_TRIES}
 use Rattle.client_rules.specs.Answers.{is_loss_taken}
-use Rattle.client_rules.specs.Calls.{file_of, span_of}
+use Rattle.client_rules.specs.Calls.{file_of, span_of, is_write}
 use Rattle.client_rules.specs.Commands.{others, of_component, not_of}
 use Rattle.client_rules.specs.Going.{begins, after_number, held_after, request_of}
 use Rattle.client_rules.specs.Grants.{covers, held_of, put_held}
@@ -70,7 +70,8 @@ pub data StepsWell (c : Client) (h : Held) (op : CallOp) (lost : List ℕ) (rest
     WorksOn : (p : Phase) → m.turn ≡ Goes p → GoesOn h op lost rest m.held p m.sent
         → s ≡ record { client = in_phase (holding c m.held) op p; sends = map to_drive m.sent; outcome = None }
         → StepsWell c h op lost rest m s
-    IsDone : (o : Outcome) → rest ≡ [] → EndsWell op o → s ≡ ends_step (holding c h) o → StepsWell c h op lost rest m s
+    IsDone : (o : Outcome) → rest ≡ [] → EndsWell op o → (is_write op ≡ true → is_past_size h op ≡ false)
+        → s ≡ ends_step (holding c h) o → StepsWell c h op lost rest m s
     Commits : (timed : List TimedOut) → is_past_size h op ≡ true → IsWritten h op lost rest timed
         → s ≡ asks_step (holding c h) op (Commit timed) (commit_args h op) → StepsWell c h op lost rest m s
     Reports : (t : TimedOut) (timed : List TimedOut) → m.turn ≡ needing (Report (t ∷ timed)) → is_past_size h op ≡ false

@@ -4,6 +4,7 @@ ghost use Rattle.ready_law.specs.Clear.{ClearCommandsAreCarriedOut, RoomStays};
 ghost use Rattle.ready_law.specs.Events.{EventsStandApart};
 ghost use Rattle.ready_law.specs.Enough.{EnoughIsLeft, LostAreListed, NoneIsLacked};
 ghost use Rattle.ready_law.specs.Examples.{ExamplesAreMet};
+ghost use Rattle.ready_law.specs.Rested.{ReadyCallsLeaveRest};
 ghost use Rattle.ready_law.specs.Worlds.{ScenesAreRead};
 ghost use Rattle.ready_law.specs.Losses.{BorneIsEnough, LossesAreBorne};
 
@@ -91,9 +92,12 @@ pub fn borne_is_enough()
 {}
 
 /// In a lawful history of a scenario's text with few messages, each `do` whose call is ready where its event begins, and
-/// whose event is over, tells once how the call ended, in ok, and within the call's bound of messages.
+/// whose event is over, tells once how the call ended, in ok, and within the call's bound of messages. Where no component of
+/// its file is lost, the call leaves its client idle, which holds on the file what the server has of it there, and so it leaves
+/// each other client that was so before.
 pub fn ready_calls_end_in_ok()
-    ensures { ReadyIsAnswered }
+    ensures ok { ReadyIsAnswered }
+    ensures rest { ReadyCallsLeaveRest }
 {
     one_event_more();
     grants_are_safe();

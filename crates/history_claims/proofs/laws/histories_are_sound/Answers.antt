@@ -18,7 +18,8 @@ returns c =
     c.awaited_were_sent.ensures c.crashes_bar.ensures c.grants_are_named_once.ensures c.objects_are_own.ensures
     c.ends_are_said.ensures
     c.calls_are_left.ensures c.pending_calls_are_unanswered.ensures
-    c.losses_are_borne.ensures c.ready_calls_end_in_ok.ensures c.ended_calls_are_logged.ensures
+    c.losses_are_borne.ensures c.ready_calls_end_in_ok.ensures.ok c.ready_calls_end_in_ok.ensures.rest
+    c.ended_calls_are_logged.ensures
     c.ready_reads_are_plain.ensures c.headline_holds.ensures
     c.audits_find_none.ensures c.repairs_leave_none.ensures c.messages_are_numbered.ensures c.writes_are_stored.ensures
     c.messages_are_received.ensures c.events_deliver.ensures c.components_time_out.ensures c.clients_refuse.ensures

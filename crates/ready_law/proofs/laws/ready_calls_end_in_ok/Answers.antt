@@ -1,9 +1,9 @@
-use Rattle.ready_law.proofs.Together.{ready_calls_end_in_ok}
+use Rattle.ready_law.proofs.Together.{ReadyLaws, ready_calls_end_in_ok, ready_calls_leave_rest}
 use Rattle.ready_law.proofs.laws.ready_calls_end_in_ok.Goals as goal
 
 pub returns : goal.returns
 returns c =
-    ready_calls_end_in_ok (record {
+    let laws : ReadyLaws = record {
       asking = record {
         more = c.one_event_more.ensures;
         safe = c.grants_are_safe.ensures;
@@ -46,4 +46,4 @@ returns c =
       carried = c.clear_commands_are_carried_out.ensures;
       events = c.events_stand_apart.ensures;
       scenes = c.scenes_are_read.ensures;
-    })
+    } in record { ok = ready_calls_end_in_ok laws; rest = ready_calls_leave_rest laws }

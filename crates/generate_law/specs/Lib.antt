@@ -1,0 +1,6 @@
+pub mod Scenario
+pub mod Plays
+pub mod Quiet
+pub mod Rests
+pub mod Counts
+pub mod Going

@@ -1,0 +1,65 @@
+// What holds of the scenario that is made from a seed, for the crates above.
+ghost use Rattle.generate_law.specs.Counts.{CallsAreOfEvents, ScenarioHasCounts};
+ghost use Rattle.generate_law.specs.Going.{CallsKeepRest};
+ghost use Rattle.generate_law.specs.Plays.{NoneIsRefused};
+ghost use Rattle.generate_law.specs.Quiet.{ScenarioIsUnguessed, UninjectedIsUnguessed};
+ghost use Rattle.generate_law.specs.Rests.{EachCallIsReady, FirstCallIsReady, FirstRestBegins, RestsGoOn};
+
+use cause_law::{clients_are_read, down_is_read};
+use history_law::{drives_are_read, grants_are_safe};
+use ready_law::{ready_calls_end_in_ok, scenes_are_read};
+use world_history::one_event_more;
+
+/// Behind each front of the scenario's events the next one isn't refused: the parties that it names are there, those that it
+/// makes are new, and the server is up.
+pub fn none_is_refused()
+    ensures { NoneIsRefused }
+{
+    drives_are_read();
+    clients_are_read();
+    down_is_read();
+}
+
+/// A history counts just the calls of its events, and of these the writes and the reads.
+pub fn calls_are_of_events()
+    ensures { CallsAreOfEvents }
+{}
+
+/// So the scenario is counted as one call more than are asked for: a write, and then each second one is a write.
+pub fn scenario_has_counts()
+    ensures { ScenarioHasCounts }
+{}
+
+/// A history without an injected message is unguessed.
+pub fn uninjected_is_unguessed()
+    ensures { UninjectedIsUnguessed }
+{}
+
+/// So nothing is guessed in the scenario.
+pub fn scenario_is_unguessed()
+    ensures { ScenarioIsUnguessed }
+{}
+
+/// Where the parties rest with the file, each call of the scenario is ready; and so is its first one, where the file is empty.
+pub fn calls_are_ready()
+    ensures calls { EachCallIsReady }
+    ensures first { FirstCallIsReady }
+{
+    grants_are_safe();
+}
+
+/// What a ready call leaves, where no component is lost, is such a rest again, also behind the first call.
+pub fn rests_go_on()
+    ensures calls { RestsGoOn }
+    ensures first { FirstRestBegins }
+{}
+
+/// So from a rest on each further call of the scenario leaves the parties at rest, however many there are.
+pub fn calls_keep_rest()
+    ensures { CallsKeepRest }
+{
+    one_event_more();
+    ready_calls_end_in_ok();
+    grants_are_safe();
+    scenes_are_read();
+}

@@ -1,0 +1,13 @@
+//! What the scenario comes to that is made from a seed, by laws of all histories.
+//!
+//! `specs/Scenario.antt` has its events, `Plays.antt` says which worlds stand behind them, and `Rests.antt` what the parties rest
+//! in between two calls. No event of it is refused, and nothing in it is guessed. A history counts the calls of its events. From
+//! where the parties rest on, each call is ready, and leaves them at rest again (`Going.antt`).
+#![tactic(auto)]
+
+mod laws;
+
+pub use laws::{
+    calls_are_of_events, calls_are_ready, calls_keep_rest, none_is_refused, rests_go_on,
+    scenario_has_counts, scenario_is_unguessed, uninjected_is_unguessed,
+};
