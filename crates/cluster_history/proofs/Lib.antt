@@ -1,0 +1,4 @@
+pub mod Lists
+pub mod Worlds
+pub mod Kept
+pub mod DriveSteps
