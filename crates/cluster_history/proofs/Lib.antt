@@ -4,3 +4,4 @@ pub mod Kept
 pub mod DriveSteps
 pub mod ClientSteps
 pub mod ServerSteps
+pub mod FileEvent

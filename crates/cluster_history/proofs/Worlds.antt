@@ -47,12 +47,12 @@ pub record IsDone (d : Deed) (e : Event) (a : Act) : Type 0 where
   pub gives : posted a.posts ≡ d.gives
   pub behind : d.behind ≡ []
 
-sent_same : (a : Act) → cluster_of (sends_all a).world
+pub sent_same : (a : Act) → cluster_of (sends_all a).world
     ≡ record (cluster_of a.world) { sent = said a.world.network.messages ++ posted a.posts }
 sent_same a =
     ap (λ (l : List Message). record (cluster_of a.world) { sent = l }) (said_more a.world.network.messages a.posts)
 
-lines_same : (a : Act) → (sends_all a).lines
+pub lines_same : (a : Act) → (sends_all a).lines
     ≡ a.told ++ message_lines (length (said a.world.network.messages)) (posted a.posts)
 lines_same a =
     ap (λ (l : List Line). a.told ++ l) (lines_posted (length a.world.network.messages) a.posts)
@@ -107,7 +107,7 @@ event_goes w h e chosen s allowed alone d i =
       like = record { same = sent_same a; stored = i.stored };
     })
 
-nothing_sent : (n : Network) → with_posts n [] ≡ n
+pub nothing_sent : (n : Network) → with_posts n [] ≡ n
 nothing_sent n =
     let same : n.kept + 0 ≡ n.kept = omega arith in
     ap (λ (ms : List Posted). record { messages = ms; kept = n.kept + 0 }) (append-nil n.messages)

@@ -1,6 +1,6 @@
 -- What each step comes to, by the rules of its party: the cluster then, and the lines that tell of it.
 use Rattle.std.specs.Prelude.{ℕ, Bool, true, false, ◌+◌, ◌&&◌, not, List, [], ◌∷◌, ◌++◌, length, map, filter, slice_get, flat_map, Option, Some, None, is_some, Result, Ok, Err, if◌then◌else◌}
-use Rattle.std.specs.List.{filter_map}
+use Rattle.std.specs.List.{filter_map, range_with_len}
 use Rattle.osd_lists.specs.declared.node.Node.{Node}
 use Rattle.osd_lists.specs.declared.node.Node.TheVariants as node
 use Rattle.osd_commands.specs.declared.commands.Command.{Command}
@@ -29,6 +29,7 @@ use Rattle.scenario_text.specs.declared.event.Sender.TheVariants as sender
 use Rattle.scenario_text.specs.declared.line.Delivery.TheVariants as delivery
 use Rattle.scenario_text.specs.declared.line.Line.{Line}
 use Rattle.scenario_text.specs.declared.line.Line.TheVariants as line
+use Rattle.scenario_text.specs.declared.names.TheConstants.{DRIVES}
 use Rattle.world_history.specs.ServerNames.{Server, RawMap, Order, OrderKind, ToRecall, ToRevoke, ToDeclare, ToRebuild, ToAudit, Outgoing as ServerSends, Refusal}
 use Rattle.world_history.specs.ClientNames.{CallOp, CallErr, Outgoing as ClientSends}
 use Rattle.world_history.specs.ClientNames as client_rules
@@ -118,18 +119,22 @@ map_of m = record {
   algorithm = m.algorithm;
 }
 
--- the drives whose processes are up, and that aren't lost
-abbrev pub up_of : ℕ × DriveHere → List ℕ
-up_of d = if d.1.up && not d.1.lost then d.0 ∷ [] else []
+-- a drive whose process is up, and that isn't lost
+abbrev pub is_up_here : Option DriveHere → Bool
+is_up_here None = false
+is_up_here (Some h) = h.up && not h.lost
 
-abbrev pub up_drives : Cluster → List ℕ
-up_drives k = flat_map up_of k.drives
+-- the numbers of those that are, rising
+unfoldable pub up_drives : Cluster → List ℕ
+up_drives k = filter (λ d. is_up_here (at_number k.drives d)) (range_with_len 0 DRIVES)
 
 abbrev pub falls : (drive : ℕ) → Line
 falls d = line.Event (event.Crash (machine.Drive d))
 
-abbrev pub rises : (drive : ℕ) → Line
-rises d = line.Event (event.Reopen (machine.Drive d))
+-- and in the opposite order each is opened again
+abbrev pub all_rise : (drives : List ℕ) → List Line
+all_rise [] = []
+all_rise (d ∷ ds) = all_rise ds ++ line.Event (event.Reopen (machine.Drive d)) ∷ []
 
 -- nobody hears these messages
 unfoldable pub unheard : (number : ℕ) → List Message → List Line
@@ -144,7 +149,7 @@ makes k f m (Ok s) = record {
   cluster = record k { server = s.state };
   lines = map falls (up_drives k) ++ line.Event (event.File f (map_of m) 1) ∷ filter_map known_note_line s.notes;
   gives = for_somebody (map server_message s.sends);
-  behind = unheard (length k.sent) (for_somebody (map server_message s.sends)) ++ map rises (up_drives k);
+  behind = unheard (length k.sent) (for_somebody (map server_message s.sends)) ++ all_rise (up_drives k);
 }
 
 -- ---- a drive
