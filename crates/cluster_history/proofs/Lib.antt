@@ -5,3 +5,5 @@ pub mod DriveSteps
 pub mod ClientSteps
 pub mod ServerSteps
 pub mod FileEvent
+pub mod FileSteps
+pub mod Runs
