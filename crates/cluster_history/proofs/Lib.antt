@@ -1,0 +1,9 @@
+pub mod Lists
+pub mod Worlds
+pub mod Kept
+pub mod DriveSteps
+pub mod ClientSteps
+pub mod ServerSteps
+pub mod FileEvent
+pub mod FileSteps
+pub mod Runs

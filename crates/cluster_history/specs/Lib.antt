@@ -1,0 +1,6 @@
+pub mod State
+pub mod Steps
+pub mod Deeds
+pub mod History
+pub mod Like
+pub mod Laws

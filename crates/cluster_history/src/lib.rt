@@ -1,0 +1,6 @@
+//! What is so of every run of a cluster: drives, clients and the metadata server, each by its rules, one step after
+//! the other, over a network that may lose, delay, reorder and repeat messages.
+//!
+//! `specs/State.antt` says what a cluster is, `specs/Steps.antt` which steps there are and where each may be,
+//! `specs/Deeds.antt` and `specs/History.antt` what each comes to and which lines tell of it.
+#![tactic(auto)]
