@@ -32,3 +32,6 @@ pub mod Receiving
 pub mod Delivering
 pub mod Timing
 pub mod Refusing
+pub mod RecallSteps
+pub mod Recalling
+pub mod Carrying

@@ -10,3 +10,5 @@ pub mod Received
 pub mod Delivered
 pub mod TimedOut
 pub mod Refused
+pub mod Recalled
+pub mod Carried
