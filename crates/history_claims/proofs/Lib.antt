@@ -46,3 +46,6 @@ pub mod NoteCauses
 pub mod NoteRequests
 pub mod NoteSteps
 pub mod NoteLaw
+pub mod RecallSteps
+pub mod Recalling
+pub mod Carrying

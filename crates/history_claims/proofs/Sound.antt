@@ -26,6 +26,8 @@ use Rattle.history_claims.specs.Received.{MessagesAreReceived}
 use Rattle.history_claims.specs.Delivered.{EachEventDelivers}
 use Rattle.history_claims.specs.TimedOut.{EachIsTimedOut}
 use Rattle.history_claims.specs.Refused.{EachIsRefused}
+use Rattle.history_claims.specs.Recalled.{EachRecallIsCaused}
+use Rattle.history_claims.specs.Carried.{RepliesCarryBytes}
 use Rattle.history_claims.specs.Plain.{ReadyReadsArePlain}
 use Rattle.component_law.specs.Given.{GrantsAreOlder}
 use Rattle.component_law.specs.Live.{EachAnswerIsLive}
@@ -89,12 +91,12 @@ pub histories_are_sound : HistoriesAreSafe → VerdictsAreAnswered → CommandsA
     → ReadyReadsArePlain
     → HeadlineHolds
     → AuditsFindNone → EachRepairLeavesNone → MessagesAreNumbered → WritesAreStored → MessagesAreReceived → EachEventDelivers
-    → EachIsTimedOut → EachIsRefused → EachNoteHasItsCause → WithinTheLimitAreFew
+    → EachIsTimedOut → EachIsRefused → EachRecallIsCaused → RepliesCarryBytes → EachNoteHasItsCause → WithinTheLimitAreFew
     → HistoriesAreSound
 histories_are_sound safe answered issued listed fair ranges fronts apart spread created own fenced live given older barred exact
     allowed lanes lanes_own judged awaited low ends outcomes read bytes tags caused told changed gone lost raised waits until sent
     barred_by named objects said left unanswered borne ready leaves logged plain right audits mended numbered stored
-    received delivers silent refuses noted few = record {
+    received delivers silent refuses recalled carried noted few = record {
       sound = λ h l. record {
         safe = safe h l;
         answered = λ w s. answered w h s;
@@ -142,6 +144,8 @@ histories_are_sound safe answered issued listed fair ranges fronts apart spread 
         silent = silent h l;
         refuses = refuses h l;
         noted = λ w s a. noted w h s a;
+        recalls = λ w g k m rest d is a. recalled w g k m d a;
+        carried = carried h;
         logged = λ written text few. logged h l written text few;
         said = λ w g k m rest d is. said w g k m d;
         left = λ w g k m rest d is. left w g k m d;

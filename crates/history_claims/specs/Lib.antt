@@ -12,3 +12,5 @@ pub mod Delivered
 pub mod TimedOut
 pub mod Refused
 pub mod Notes
+pub mod Recalled
+pub mod Carried

@@ -23,6 +23,8 @@ use Rattle.history_claims.specs.Received.{ReceivedAt}
 use Rattle.history_claims.specs.Delivered.{EventsDeliver}
 use Rattle.history_claims.specs.TimedOut.{AreTimedOut}
 use Rattle.history_claims.specs.Refused.{AreRefused}
+use Rattle.history_claims.specs.Recalled.{RecallsAreCaused}
+use Rattle.history_claims.specs.Carried.{AreCarried, MetBytesAt}
 use Rattle.component_law.specs.Given.{GivenBefore}
 use Rattle.component_law.specs.Live.{AnswersAreLive}
 use Rattle.component_law.specs.Barred.{FencesBar}
@@ -131,6 +133,9 @@ pub record IsSound (h : List Line) : Type 0 where
   -- and each message of the server to a client tells a recall, or an answer to a request that the same move hands the server:
   -- a new one, so that the answer is caused as before; the last one again, with the answer that was sent; or a misordered one
   pub answers : MessagesAreCaused h
+  -- a recall is of a grant of its client, with a count that none had before; an order `recall` comes for a file of which the
+  -- grant is live, or the grant is opposed to what a new request asks that is told to try later
+  pub recalls : RecallsAreCaused h
   -- nothing else makes a grant of a file live or ends one, or changes the file's size, but a fence that an order to revoke,
   -- rebuild or audit the file begins, or an opening, and that ends all; and each of these does, while no job runs
   pub changes : (w : World) → StandsFor w h → AreWritten h → GrantsHaveCauses h
@@ -173,6 +178,8 @@ pub record IsSound (h : List Line) : Type 0 where
   -- in a whole history each note of the server has its cause in what the books have of the file before and behind its step, and
   -- in what comes
   pub noted : (w : World) → StandsFor w h → AreWritten h → NotesHaveCauses h
+  -- what the replies carry that such a call met are bytes, as `bytes` asks, if the messages of the history are of bytes
+  pub carried : AreCarried h → AtEachLine MetBytesAt h
   -- the line of each message has the number of messages before it
   pub numbered : AtEachLine NumberedAt h
   -- what is delivered was sent. Its receiver is deaf to it exactly if it has failed, is down, was stopped, or isn't there; else a

@@ -1,9 +1,11 @@
 // What holds of every history, for the crates above.
+ghost use Rattle.history_claims.specs.Carried.{RepliesCarryBytes};
 ghost use Rattle.history_claims.specs.Created.{EachFileIsCreated};
 ghost use Rattle.history_claims.specs.Logged.{EndedAreLogged};
 ghost use Rattle.history_claims.specs.Numbered.{MessagesAreNumbered};
 ghost use Rattle.history_claims.specs.Delivered.{EachEventDelivers};
 ghost use Rattle.history_claims.specs.Plain.{ReadyReadsArePlain};
+ghost use Rattle.history_claims.specs.Recalled.{EachRecallIsCaused};
 ghost use Rattle.history_claims.specs.Received.{MessagesAreReceived};
 ghost use Rattle.history_claims.specs.Refused.{EachIsRefused};
 ghost use Rattle.history_claims.specs.TimedOut.{EachIsTimedOut};
@@ -33,14 +35,15 @@ use exchange_law::{
 use file_log::{plain, range_found};
 use headline_law::{audits_find_none, headline_holds, histories_are_lawful, repairs_leave_none};
 use history_law::{
-    commands_are_issued, histories_are_safe, holders_are_own, ranges_are_apart,
-    unforged_are_fenced, unforged_are_issued, unguessed_are_unforged, verdicts_are_answered,
+    book_is_read, commands_are_issued, grants_are_safe, histories_are_safe, holders_are_own,
+    ranges_are_apart, unforged_are_fenced, unforged_are_issued, unguessed_are_unforged,
+    verdicts_are_answered,
 };
 use ready_law::{
     clear_commands_are_carried_out, events_stand_apart, losses_are_borne, lost_are_listed,
     ready_calls_end_in_ok, room_stays, scenes_are_read,
 };
-use server_rules::files_are_put;
+use server_rules::{conflicts_are_exact, files_are_put};
 use world_history::{fronts_are_lawful, messages_are_read, one_event_more, reading_goes_on};
 
 /// At each moment of a lawful history whose events lines can name, the components of each zoned file are spread over
@@ -115,6 +118,23 @@ pub fn clients_refuse()
     one_event_more();
     events_stand_apart();
 }
+
+/// In each move of a history whose events lines can name, each message of the server to a client is an answer, or the
+/// recall of a grant of this client. The grant is live in the file's book then, and an order to recall the file's grants
+/// comes, or a new LAYOUTGET that asks for a grant which is opposed to it, and that is told to try later.
+pub fn recalls_are_caused()
+    ensures { EachRecallIsCaused }
+{
+    conflicts_are_exact();
+    files_are_put();
+    grants_are_safe();
+    book_is_read();
+}
+
+/// If the messages of some lines are of bytes, what replies carry that the call of an answered read met are bytes.
+pub fn replies_carry_bytes()
+    ensures { RepliesCarryBytes }
+{}
 
 /// In a lawful history of a scenario's text with few messages, where a line tells that a read was answered, or that some
 /// bytes were written, the log of the file has an entry of this call, with its range, or its bytes.
@@ -241,5 +261,7 @@ pub fn histories_are_sound()
     components_time_out();
     clients_refuse();
     notes_have_causes();
+    recalls_are_caused();
+    replies_carry_bytes();
     within_the_limit_are_few();
 }
