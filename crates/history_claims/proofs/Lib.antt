@@ -24,3 +24,9 @@ pub mod NoteCauses
 pub mod NoteRequests
 pub mod NoteSteps
 pub mod NoteLaw
+pub mod StageJobs
+pub mod StageSteps
+pub mod StageLaw
+pub mod Reaching
+pub mod ReachLaw
+pub mod RefusalLaw

@@ -22,6 +22,9 @@ use Rattle.history_claims.specs.Logged.{EndedAreLogged}
 use Rattle.history_claims.specs.Notes.{EachNoteHasItsCause}
 use Rattle.history_claims.specs.Numbered.{MessagesAreNumbered}
 use Rattle.history_claims.specs.Plain.{ReadyReadsArePlain}
+use Rattle.history_claims.specs.Reach.{EachReachHasItsCause}
+use Rattle.history_claims.specs.Refusals.{EachRefusalIsTold}
+use Rattle.history_claims.specs.Stages.{EachStageHasItsEnd}
 use Rattle.component_law.specs.Given.{GrantsAreOlder}
 use Rattle.component_law.specs.Live.{EachAnswerIsLive}
 use Rattle.component_law.specs.Barred.{GivenIsBarred}
@@ -81,11 +84,12 @@ pub histories_are_sound : HistoriesAreSafe → VerdictsAreAnswered → CommandsA
     → EachAwaitedWasSent → EachCrashBars → EachGrantIsNamedOnce → EachObjectIsOwn → EachEndIsSaid
     → EachCallIsLeftSo → PendingCallsAreUnanswered → LossesAreBorne → ReadyIsAnswered → EndedAreLogged → ReadyReadsArePlain
     → HeadlineHolds
-    → AuditsFindNone → EachRepairLeavesNone → MessagesAreNumbered → EachNoteHasItsCause → WithinTheLimitAreFew
+    → AuditsFindNone → EachRepairLeavesNone → MessagesAreNumbered → EachNoteHasItsCause → EachStageHasItsEnd
+    → EachRefusalIsTold → EachReachHasItsCause → WithinTheLimitAreFew
     → HistoriesAreSound
 histories_are_sound safe answered issued listed fair ranges fronts apart spread created own fenced live given older barred exact
     allowed lanes lanes_own judged awaited low ends outcomes read bytes tags caused told changed gone lost raised waits until sent
-    barred_by named objects said left unanswered borne ready logged plain right audits mended numbered noted few = record {
+    barred_by named objects said left unanswered borne ready logged plain right audits mended numbered noted stages refusals reached few = record {
       sound = λ h l. record {
         safe = safe h l;
         answered = λ w s. answered w h s;
@@ -128,6 +132,9 @@ histories_are_sound safe answered issued listed fair ranges fronts apart spread 
         bytes = bytes h l;
         numbered = numbered h l;
         noted = λ w s a. noted w h s a;
+        stages = λ w s a. stages w h s a;
+        refusals = λ w s a. refusals w h s a;
+        reached = λ w s a. reached w h s a;
         logged = λ written text few. logged h l written text few;
         said = λ w g k m rest d is. said w g k m d;
         left = λ w g k m rest d is. left w g k m d;

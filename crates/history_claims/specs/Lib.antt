@@ -7,3 +7,6 @@ pub mod Plain
 pub mod Logged
 pub mod Numbered
 pub mod Notes
+pub mod Stages
+pub mod Reach
+pub mod Refusals

@@ -49,6 +49,9 @@ use Rattle.cause_law.specs.Reopened.{CrashesBarAt}
 use Rattle.component_law.specs.TagTags.{HaveTagsAt}
 use Rattle.headline_law.specs.Claim.{HasNoBadAudit, IsRightIfCalm, RepairedAt}
 use Rattle.history_claims.specs.Notes.{NotesHaveCauses}
+use Rattle.history_claims.specs.Reach.{ReachesHaveCauses}
+use Rattle.history_claims.specs.Refusals.{RefusalsAreTold}
+use Rattle.history_claims.specs.Stages.{StagesHaveEnds}
 use Rattle.history_claims.specs.Texts.{EventsMakeText, CutsGoOn}
 
 -- What the lines of a sound history say.
@@ -163,6 +166,14 @@ pub record IsSound (h : List Line) : Type 0 where
   -- in a whole history each note of the server has its cause in what the books have of the file before and behind its step, and
   -- in what comes
   pub noted : (w : World) → StandsFor w h → AreWritten h → NotesHaveCauses h
+  -- and what the job of a file is at, its CREATEs, its fence, its repair, a component or its audit, ends with its note alone,
+  -- unless the server crashes or is opened
+  pub stages : (w : World) → StandsFor w h → AreWritten h → StagesHaveEnds h
+  -- an order that is refused since a job of the file waits, or since there is no further tag, is told
+  pub refusals : (w : World) → StandsFor w h → AreWritten h → RefusalsAreTold h
+  -- `high` of a file stays, or rises to the end of a grant for writing that is live behind the step, and it reaches the end of
+  -- each such grant that wasn't live before
+  pub reached : (w : World) → StandsFor w h → AreWritten h → ReachesHaveCauses h
   -- the line of each message has the number of messages before it
   pub numbered : AtEachLine NumberedAt h
   -- in a history of a scenario's text with few messages, where a line tells that a read was answered, or that some bytes were

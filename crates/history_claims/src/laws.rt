@@ -6,7 +6,9 @@ ghost use Rattle.history_claims.specs.Plain.{ReadyReadsArePlain};
 ghost use Rattle.history_claims.specs.Sound.{HistoriesAreSound};
 ghost use Rattle.history_claims.specs.Spread.{ComponentsStandSpread};
 
-use crate::note_laws::notes_have_causes;
+use crate::note_laws::{
+    notes_have_causes, reaches_have_causes, refusals_are_told, stages_have_ends,
+};
 use cause_law::{
     answers_are_of_replies, awaited_have_causes, awaited_have_ends, awaited_were_sent,
     calls_are_left, calls_end_so, components_have_causes, crashes_bar, each_byte_has_its_cause,
@@ -189,5 +191,8 @@ pub fn histories_are_sound()
     repairs_leave_none();
     messages_are_numbered();
     notes_have_causes();
+    stages_have_ends();
+    refusals_are_told();
+    reaches_have_causes();
     within_the_limit_are_few();
 }
