@@ -49,3 +49,9 @@ pub mod NoteLaw
 pub mod RecallSteps
 pub mod Recalling
 pub mod Carrying
+pub mod StageJobs
+pub mod StageSteps
+pub mod StageLaw
+pub mod Reaching
+pub mod ReachLaw
+pub mod RefusalLaw

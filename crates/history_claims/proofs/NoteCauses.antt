@@ -1,11 +1,10 @@
 -- What each handler notes of its file has its cause.
-use Rattle.std.proofs.Common.{◌≡◌, ◌≢◌, ◌⊎◌, ◌==◌, ◌&&◌, ◌||◌, ◌<◌, ℕ, ◌+◌, Bool, true, false, not, nat_lt, List, [], ◌∷◌, ◌++◌, length, filter, slice_get, Option, Some, None, refl, sym, ap, subst, ◌∙◌, arith, inl, inr, if◌then◌else◌}
-use Rattle.std.proofs.lemmas.Bool.{cases_Bool, eq-eqb, eqb-true, ne_eqb, true≢false, false≢true}
+use Rattle.std.proofs.Common.{◌≡◌, ◌≢◌, ◌==◌, ◌&&◌, ◌||◌, ℕ, Bool, true, false, not, nat_lt, List, [], ◌∷◌, length, Option, Some, None, refl, sym, ap, subst, ◌∙◌, arith, inl, inr, if◌then◌else◌}
+use Rattle.std.proofs.lemmas.Bool.{eqb-true, ne_eqb}
 use Rattle.std.proofs.lemmas.Bool.Decides.{nat_tests}
-use Rattle.server_rules.specs.Commands.{All, Creating}
-use Rattle.server_rules.specs.Going.{Going, keeping, with_components, noting}
+use Rattle.server_rules.specs.Going.{Going, with_components, noting}
 use Rattle.server_rules.specs.History.{Input, Opens}
-use Rattle.server_rules.specs.Jobs.{making, fence_begins, loses, others_than, is_target, targets, declared_in, declares}
+use Rattle.server_rules.specs.Jobs.{fence_begins, loses, others_than, is_target, targets, declared_in, declares}
 use Rattle.server_rules.specs.Laws.{In}
 use Rattle.server_rules.specs.Messages.{awaited_by, counters_have_room}
 use Rattle.server_rules.specs.Openings.{is_still, is_unsettled, opens_made, opens_spent, opens_fenced, opens}
@@ -15,12 +14,12 @@ use Rattle.server_rules.specs.Standing.{stood_on, free_drives, lose_on, lose_fro
 use Rattle.server_rules.specs.Zoning.{takers_by, takers}
 use Rattle.server_rules.specs.declared.limits.TheConstants.{GREATEST_TAG}
 use Rattle.server_rules.proofs.Members.{in_filter}
-use Rattle.world_history.specs.ServerNames.{Server, Drive, File, Kept, Phase, Still, Fencing, Repairing, FencingAgain, Component, Awaited, Heard, Piece, Target, Job, JobKind, Making, Revoking, Rebuilding, Auditing, Work, Creates, Fences, Fetches, Stores, Targets, Gathers, Fills, Lengths, Checks, Tally, Grant, Note, NoteKind, Ready, Fenced, Repaired, Rebuilt, NoDrive, Lost, NoSpace, Audit, Spent, Reply}
+use Rattle.world_history.specs.ServerNames.{Server, Drive, File, Kept, Phase, Still, Fencing, Repairing, FencingAgain, Component, Awaited, Heard, Piece, Target, Job, JobKind, Revoking, Rebuilding, Auditing, Work, Creates, Fences, Fetches, Stores, Targets, Gathers, Fills, Lengths, Checks, Tally, Grant, NoteKind, NoDrive, NoSpace, Spent, Reply}
 use Rattle.world_history.specs.Told.{told_note}
 use Rattle.component_law.specs.Going.{taken_out}
 use Rattle.component_law.specs.Objects.{target_in, target_of}
 use Rattle.cause_law.specs.Awaiting.{Answers}
-use Rattle.history_claims.specs.Notes.{are_creates, awaits_creates, IsLeftOpen, AllMissing, WithLast, AtOpening, IsRefused, NeedsOne, ByOpening, IsRebuilt, Runs, Aims, MayTake, NoneMay, ItsIsGone, fills_at, IsFull, IsAudited, RunsAudit, LosesOne, ByDrive, BySpace, HasHeard, WithReply, WithLoss, found_first, all_pieces, GoesOnWith, AtOnce, Measured, Checked, Ended, Again, Through, CausedOf}
+use Rattle.history_claims.specs.Notes.{are_creates, awaits_creates, IsLeftOpen, WithLast, AtOpening, NeedsOne, ByOpening, IsRebuilt, Runs, Aims, MayTake, NoneMay, ItsIsGone, fills_at, IsFull, IsAudited, RunsAudit, LosesOne, ByDrive, BySpace, HasHeard, WithReply, WithLoss, found_first, all_pieces, GoesOnWith, AtOnce, Measured, Checked, Ended, Again, Through, CausedOf}
 use Rattle.history_claims.proofs.NoteWords.{beyond}
 use Rattle.history_claims.proofs.NoteWalk.{New, none_new, then_new, one_new, audit_note, AuditOn, OnLengths, OnRows, OnNone, Own, MayNote, MayGoOn, MayLose, adds_waits, adds_loses, adds_full, adds_fence, adds_making}
 
@@ -97,9 +96,9 @@ module _ (s : Server) (ds : List Drive) (i : Input) (f z : File) where
     repaired = λ stripes short. tt;
     rebuilt = λ k d. tt;
     passed = λ r k at there missing none. (
-        r,
-        NoneMay at there missing (λ d j m. subst (In d) none (takes_in ds z.kept k d j m)),
-      );
+      r,
+      NoneMay at there missing (λ d j m. subst (In d) none (takes_in ds z.kept k d j m)),
+    );
     lost = λ r t p nonce none. (r, beyond z.kept t p nonce none);
     audits = λ a none found x job.
         record {

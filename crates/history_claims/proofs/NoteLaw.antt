@@ -1,5 +1,5 @@
 -- In each whole history each note of the server has its cause.
-use Rattle.std.proofs.Common.{◌≡◌, ℕ, Bool, true, false, true≢false, List, [], ◌∷◌, ◌++◌, filter, Option, Some, None, refl, sym, ap, subst, ◌∙◌, append_assoc, inl, inr}
+use Rattle.std.proofs.Common.{◌≡◌, ℕ, Bool, true, false, List, [], ◌∷◌, ◌++◌, Option, Some, None, refl, sym, ap, subst, ◌∙◌, inl, inr}
 use Rattle.std.proofs.lemmas.Bool.{cases_Bool}
 use Rattle.std.specs.List.{filter_map, cons_option}
 use Rattle.server_rules.specs.Files.{Step, file_at}
@@ -10,20 +10,19 @@ use Rattle.scenario_text.specs.declared.line.Note.{Note as ToldNote}
 use Rattle.scenario_text.specs.declared.line.Note.TheVariants as note
 use Rattle.scenario_text.specs.declared.line.Line.{Line}
 use Rattle.scenario_text.specs.declared.line.Line.TheVariants as line
-use Rattle.world_history.specs.ServerNames.{Server, Drive, File, Note}
+use Rattle.world_history.specs.ServerNames.{Server, Note}
 use Rattle.world_history.specs.State.{World}
 use Rattle.world_history.specs.Told.{told_note}
 use Rattle.world_history.specs.Names.{where_known, note_line, known_note_line}
 use Rattle.world_history.specs.Sending.{Move, move}
 use Rattle.world_history.specs.Book.{placed_in, server_after}
-use Rattle.world_history.specs.Plans.{due}
 use Rattle.world_history.specs.History.{OneEventMore}
 use Rattle.world_history.specs.Laws.{ServerGoesOn}
 use Rattle.history_law.specs.Moves.{IsFileRefusal}
-use Rattle.history_law.specs.BookMoments.{IsMoment, plan_at, lines_in}
+use Rattle.history_law.specs.BookMoments.{lines_in}
 use Rattle.history_law.specs.Doing.{ServerMoves}
 use Rattle.history_law.specs.Grants.{GrantsAreSafe}
-use Rattle.history_law.specs.Read.{AreWritten, BookIsRead, StepIsRead}
+use Rattle.history_law.specs.Read.{BookIsRead, StepIsRead}
 use Rattle.history_law.proofs.Staying.{written_front}
 use Rattle.history_law.proofs.Ending.{next_moment}
 use Rattle.component_law.specs.Distinct.{AreDistinct}

@@ -1,6 +1,5 @@
 -- What a request notes of its file has its cause.
-use Rattle.std.proofs.Common.{◌≡◌, ◌≢◌, ◌⊎◌, ◌==◌, ◌&&◌, ◌||◌, ◌<◌, ℕ, suc, ◌+◌, Bool, true, false, not, nat_lt, List, [], ◌∷◌, ◌++◌, length, slice_get, Option, Some, None, refl, sym, ap, subst, ◌∙◌, arith, inl, inr, if◌then◌else◌}
-use Rattle.std.proofs.Math.Numerals.{add-one}
+use Rattle.std.proofs.Common.{◌≡◌, ◌≢◌, ◌==◌, ◌||◌, ◌<◌, ℕ, suc, ◌+◌, Bool, true, false, not, nat_lt, List, [], ◌∷◌, slice_get, Option, Some, None, refl, sym, ap, subst, ◌∙◌, arith, inl, inr, if◌then◌else◌}
 use Rattle.std.proofs.lemmas.Bool.{cases_Bool, eqb-true, false≢true}
 use Rattle.std.proofs.lemmas.Bool.Decides.{nat_tests}
 use Rattle.data_map.specs.declared.ranges.TheConstants.{MAX_FILE_SIZE}
@@ -20,20 +19,20 @@ use Rattle.server_rules.specs.Messages.{awaited_by}
 use Rattle.server_rules.specs.Numbers.{among}
 use Rattle.server_rules.specs.Requests.{serves}
 use Rattle.server_rules.specs.Return as returning
-use Rattle.server_rules.specs.Return.{named, none_beyond, is_sole, bearable, loss, by_loss, by_report, by_grant, return_row, ends_grant, reports_from, takes_loss, by_return, returns_on}
+use Rattle.server_rules.specs.Return.{named, none_beyond, is_sole, bearable, loss, by_loss, by_grant, return_row, reports_from, takes_loss, by_return, returns_on}
 use Rattle.server_rules.specs.Served.{Served}
 use Rattle.server_rules.specs.Standing.{lose_from}
-use Rattle.world_history.specs.ServerNames.{Server, Drive, File, Kept, Component, Job, Grant, Note, NoteKind, Revoking, Rebuilding, Auditing, Spent, Reported, ClientRequest, RequestArgs, Get, Commit, Return, IoErr}
+use Rattle.world_history.specs.ServerNames.{Server, File, Kept, Component, Job, Grant, Revoking, Spent, Reported, ClientRequest, RequestArgs, Get, Commit, Return, IoErr}
 use Rattle.cause_law.specs.Answers.{asking, IsNew}
 use Rattle.cause_law.specs.Changes.{IsAskedOf}
 use Rattle.cause_law.specs.Commits.{HasGrant}
 use Rattle.cause_law.specs.Gets.{IsLowest, NeedsFence, Asking, Row, BadMode, BadRange, LeftOpen, Waits, TagSpent, place, Applies, IsFirst}
 use Rattle.cause_law.specs.Returns as return_rows
-use Rattle.cause_law.specs.Returns.{IsLoss, LosesSome, Returns}
+use Rattle.cause_law.specs.Returns.{LosesSome, Returns}
 use Rattle.cause_law.proofs.Returning.{return_comes}
 use Rattle.cause_law.proofs.Words.{needs}
-use Rattle.history_claims.specs.Notes.{IsRebuilt, IsAudited, ByGet, ByReturn, IsReported, CausedOf}
-use Rattle.history_claims.proofs.NoteWalk.{New, none_new, then_new, one_new, Own, MayNote, adds_fence}
+use Rattle.history_claims.specs.Notes.{ByGet, ByReturn, IsReported}
+use Rattle.history_claims.proofs.NoteWalk.{New, none_new, then_new, one_new, Own, adds_fence}
 use Rattle.history_claims.proofs.NoteCauses.{Caused, Says, says_spent}
 
 -- ---- the row for a spent tag

@@ -20,7 +20,7 @@ use Rattle.server_rules.specs.Requests.{serves, on_request}
 use Rattle.server_rules.specs.Rounds.{step_round}
 use Rattle.server_rules.specs.Slots.{New as IsNewRequest, slot_of, admit}
 use Rattle.server_rules.proofs.FileLaws.{number_at, not_there}
-use Rattle.world_history.specs.ServerNames.{Server, Drive, File, Job, JobKind, Revoking, Rebuilding, Auditing, Awaited, Effects, Note, NoteKind, Ready, Busy, Spent, Reply, ClientRequest, OrderKind, ToRecall, ToRevoke, ToDeclare, ToRebuild, ToAudit, RawMap, Refusal}
+use Rattle.world_history.specs.ServerNames.{Server, Drive, File, Job, JobKind, Revoking, Rebuilding, Auditing, Awaited, Effects, Note, Busy, Spent, Reply, ClientRequest, OrderKind, ToRecall, ToRevoke, ToDeclare, ToRebuild, ToAudit, RawMap, Refusal}
 use Rattle.world_history.specs.Told.{told_note}
 use Rattle.history_law.specs.Steps.{IsOrder, Here, Sent}
 use Rattle.history_law.proofs.Steps.{each_request}
@@ -36,9 +36,9 @@ use Rattle.cause_law.specs.Changes.{IsFencing, TakesOrder}
 use Rattle.cause_law.specs.Gets.{IsLowest}
 use Rattle.cause_law.proofs.TagSteps.{R}
 use Rattle.cause_law.proofs.Words.{job_waits}
-use Rattle.history_claims.specs.Notes.{AtMaking, IsBusy, NeedsOne, ByOrder, IsRebuilt, IsTold, IsAudited, OrdersAudit, CausedOf, CausedAtFirst}
+use Rattle.history_claims.specs.Notes.{AtMaking, ByOrder, IsTold, OrdersAudit, CausedOf, CausedAtFirst}
 use Rattle.history_claims.proofs.NoteWalk.{New, one_new, Own, adds_making}
-use Rattle.history_claims.proofs.NoteCauses.{Caused, Says, says_hears, says_declares, says_fence, says_spent, says_opens}
+use Rattle.history_claims.proofs.NoteCauses.{Caused, says_hears, says_declares, says_fence, says_spent, says_opens}
 use Rattle.history_claims.proofs.NoteRequests.{serves_tell}
 
 -- a file is among those to which it is added

@@ -1,26 +1,24 @@
 -- Which notes each part of a job adds to those of its step.
-use Rattle.std.proofs.Common.{◌≡◌, ◌⊎◌, ◌==◌, ◌&&◌, ℕ, zero, suc, ◌+◌, Bool, true, false, not, nat_lt, List, [], ◌∷◌, ◌++◌, length, filter, drop, replicate, slice_get, slice_set, Option, Some, None, refl, sym, ap, subst, ◌∙◌, inl, inr, if◌then◌else◌}
+use Rattle.std.proofs.Common.{◌≡◌, ◌⊎◌, ℕ, zero, suc, ◌+◌, Bool, true, false, not, nat_lt, List, [], ◌∷◌, ◌++◌, length, filter, drop, replicate, slice_get, slice_set, Option, Some, None, refl, sym, ap, subst, ◌∙◌, inl, inr, if◌then◌else◌}
 use Rattle.std.proofs.Math.Numerals.{add-one}
-use Rattle.std.proofs.lemmas.Bool.{cases_Bool}
-use Rattle.data_map.specs.Striping.{group_of}
-use Rattle.server_rules.specs.Audit.{audits, audits_all, audit_begins, audited, tallied, checked, lengths_of, present_lengths}
+use Rattle.server_rules.specs.Audit.{audits, audits_all, audit_begins, audited, tallied, checked, present_lengths}
 use Rattle.server_rules.specs.Columns.{end_of}
 use Rattle.server_rules.specs.Commands.{Creating, Raising, Measuring, All, to_all}
-use Rattle.server_rules.specs.Going.{Going, over, keeping, noting, noting_if, with_components, rests, rests_or}
+use Rattle.server_rules.specs.Going.{Going, keeping, noting, noting_if, with_components, rests, rests_or}
 use Rattle.server_rules.specs.Grants.{merged}
-use Rattle.server_rules.specs.Jobs.{making, is_made, ending, fenced, fences, fence_begins, goes_on, fetched, written, gathered, filled_in, audited_on, waits_or_on, loses, refills, remakes}
+use Rattle.server_rules.specs.Jobs.{making, is_made, ending, fenced, fence_begins, goes_on, fetched, written, waits_or_on, loses, refills, remakes}
 use Rattle.server_rules.specs.Laws.{In}
-use Rattle.server_rules.specs.Maps.{pieces, pieces_along, pieces_in}
+use Rattle.server_rules.specs.Maps.{pieces, pieces_in}
 use Rattle.server_rules.specs.Numbers.{among}
 use Rattle.server_rules.specs.Pieces.{reads, stores, short_with}
-use Rattle.server_rules.specs.Rebuild.{or_first, picked, target_on, target_for, makes_or, rebuilds, goes_past, group_for, stands_at, sources, fills, lost, made, to_fill, filling, target_gone, target_full}
+use Rattle.server_rules.specs.Rebuild.{picked, target_on, target_for, makes_or, rebuilds, goes_past, group_for, stands_at, sources, fills, lost, made, to_fill, filling, target_gone, target_full}
 use Rattle.server_rules.specs.Repair.{after_repair, mended, repair_reads, repairs, storing, stored, repair_begins}
 use Rattle.server_rules.specs.Standing.{lacking}
 use Rattle.server_rules.specs.Zoning.{takers}
-use Rattle.server_rules.proofs.Members.{in_either, in_front, in_behind}
+use Rattle.server_rules.proofs.Members.{in_either}
 use Rattle.world_history.specs.ServerNames.{Drive, File, Kept, Repairing, Component, Awaited, Heard, Piece, Target, Job, JobKind, Making, Revoking, Rebuilding, Auditing, Work, Creates, Fences, Fetches, Stores, Targets, Gathers, Fills, Lengths, Checks, Tally, Note, NoteKind, Ready, Fenced, Repaired, Rebuilt, NoDrive, Lost, NoSpace, Audit}
 use Rattle.component_law.specs.Objects.{target_in}
-use Rattle.history_claims.specs.Notes.{found_first, all_pieces, with_short, with_bad, Through, AllMissing}
+use Rattle.history_claims.specs.Notes.{found_first, all_pieces, with_bad, Through, AllMissing}
 use Rattle.history_claims.proofs.NoteWords.{reads_some, reads_none, all_missing}
 
 -- ---- notes that come
@@ -242,8 +240,9 @@ module _ (n : ℕ) (ds : List Drive) (z : File) (K : NoteKind → Type 0) (rebui
     adds_audit g auditing_it file drives number =
         adds_rests (to_all g.file.kept All Measuring g.effects.nonce) g Auditing Lengths (audits_all g [])
         (λ none. adds_audits g (all_pieces g.file.kept) (found_first []) (λ found x job.
-        may.audits auditing_it (subst (λ (f : Kept). AllMissing f.components) (kept none) (all_missing g.file.kept Measuring g.effects.nonce none))
-        found (subst (λ (f : Kept). Through z.kept (all_pieces f) (found_first []) [] found) (kept none) x) job)) file drives number
+        may.audits auditing_it
+        (subst (λ (f : Kept). AllMissing f.components) (kept none) (all_missing g.file.kept Measuring g.effects.nonce none)) found
+        (subst (λ (f : Kept). Through z.kept (all_pieces f) (found_first []) [] found) (kept none) x) job)) file drives number
       where
         kept : to_all g.file.kept All Measuring g.effects.nonce ≡ [] → g.file.kept ≡ z.kept
         kept none =
@@ -400,12 +399,15 @@ module _ (n : ℕ) (ds : List Drive) (z : File) (K : NoteKind → Type 0) (rebui
     unfolding goes_on checked
     adds_on kind Creates heard g m file drives number = adds_made g (m.ready refl) file drives number
     adds_on kind Fences heard g m file drives number = adds_fenced kind m.rebuilds m.audited g file drives number
-    adds_on kind (Fetches ps short) heard g m file drives number = adds_fetched kind m.rebuilds m.audited g ps short heard file drives number
-    adds_on kind (Stores ps short broken) heard g m file drives number = adds_written kind m.rebuilds m.audited g ps short broken file drives number
+    adds_on kind (Fetches ps short) heard g m file drives number =
+        adds_fetched kind m.rebuilds m.audited g ps short heard file drives number
+    adds_on kind (Stores ps short broken) heard g m file drives number =
+        adds_written kind m.rebuilds m.audited g ps short broken file drives number
     adds_on kind (Targets t) heard g m file drives number =
         adds_fills (m.aims t refl) g t (pieces_in g.file.kept.map (group_for g.file.kept t) g.file.kept.high) file drives number
     adds_on kind (Gathers t []) heard g m file drives number = adds_fills (m.aims t refl) g t [] file drives number
-    adds_on kind (Gathers t (p ∷ ps)) heard g m file drives number = adds_filling (m.aims t refl) g t p ps (made g.file.kept t p heard) file drives number
+    adds_on kind (Gathers t (p ∷ ps)) heard g m file drives number =
+        adds_filling (m.aims t refl) g t p ps (made g.file.kept t p heard) file drives number
     adds_on kind (Fills t []) heard g m file drives number = adds_fills (m.aims t refl) g t [] file drives number
     adds_on kind (Fills t (p ∷ ps)) heard g m file drives number = adds_fills (m.aims t refl) g t ps file drives number
     adds_on kind Lengths heard g m file drives number =

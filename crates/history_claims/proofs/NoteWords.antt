@@ -1,8 +1,8 @@
 -- What commands of a job go to components, and what it says of these that there are none.
-use Rattle.std.proofs.Common.{◌≡◌, ◌⊎◌, ◌==◌, ◌&&◌, ◌/◌, ℕ, zero, suc, ◌+◌, Bool, true, false, not, List, [], ◌∷◌, slice_get, Option, Some, None, refl, sym, ap, subst, ◌∙◌, arith, inl, inr, if◌then◌else◌}
+use Rattle.std.proofs.Common.{◌≡◌, ◌⊎◌, ◌&&◌, ◌/◌, ℕ, suc, ◌+◌, Bool, true, false, not, List, [], ◌∷◌, slice_get, Option, Some, None, refl, sym, ap, subst, ◌∙◌, arith, inl, inr, if◌then◌else◌}
 use Rattle.std.proofs.lemmas.Bool.{cases_Bool, eq-eqb, eqb-true, and_parts}
 use Rattle.data_map.specs.Striping.{group_of, replicas, group_width, offset_of}
-use Rattle.server_rules.specs.Commands.{Ask, Reading, Which, All, Only, OfGroup, FirstsOf, is_meant, is_first, sent_to, to_each, to_all}
+use Rattle.server_rules.specs.Commands.{Ask, Reading, Which, All, Only, OfGroup, FirstsOf, is_meant, sent_to, to_each, to_all}
 use Rattle.server_rules.specs.Laws.{In}
 use Rattle.server_rules.specs.Maps.{group_with}
 use Rattle.server_rules.specs.Pieces.{reads}
@@ -40,7 +40,8 @@ one_meant f which ask (x ∷ cs) k nonce a as_ e =
     }
 
     by : (b : Bool) → (not x.missing && is_meant f which k) ≡ b
-        → (if b then sent_to f ask k x.drive x.object nonce ∷ to_each f which ask cs (k + 1) (nonce + 1) else to_each f which ask cs (k + 1) nonce) ≡ a ∷ as_
+        → (if b then sent_to f ask k x.drive x.object nonce ∷ to_each f which ask cs (k + 1) (nonce + 1)
+        else to_each f which ask cs (k + 1) nonce) ≡ a ∷ as_
         → (to_each f which ask cs (k + 1) nonce ≡ a ∷ as_ → IsMeant f which cs (k + 1)) → IsMeant f which (x ∷ cs) k
     by false test e rest = more (rest e)
     by true test e rest =
@@ -75,7 +76,8 @@ all_present f ask [] k nonce e at i = absurd i
 all_present f ask (x ∷ cs) k nonce e at i = by x.missing refl e (all_present f ask cs (k + 1) nonce) i
   where
     by : (b : Bool) → x.missing ≡ b
-        → (if not b && true then sent_to f ask k x.drive x.object nonce ∷ to_each f All ask cs (k + 1) (nonce + 1) else to_each f All ask cs (k + 1) nonce) ≡ []
+        → (if not b && true then sent_to f ask k x.drive x.object nonce ∷ to_each f All ask cs (k + 1) (nonce + 1)
+        else to_each f All ask cs (k + 1) nonce) ≡ []
         → (to_each f All ask cs (k + 1) nonce ≡ [] → AllMissing cs) → In at (x ∷ cs) → at.missing ≡ true
     by false m e rest i = absurd (cc e)
     by true m e rest (inl same) = ap (λ (y : Component). y.missing) same ∙ m

@@ -29,6 +29,9 @@ use Rattle.history_claims.specs.Refused.{EachIsRefused}
 use Rattle.history_claims.specs.Recalled.{EachRecallIsCaused}
 use Rattle.history_claims.specs.Carried.{RepliesCarryBytes}
 use Rattle.history_claims.specs.Plain.{ReadyReadsArePlain}
+use Rattle.history_claims.specs.Reach.{EachReachHasItsCause}
+use Rattle.history_claims.specs.Refusals.{EachRefusalIsTold}
+use Rattle.history_claims.specs.Stages.{EachStageHasItsEnd}
 use Rattle.component_law.specs.Given.{GrantsAreOlder}
 use Rattle.component_law.specs.Live.{EachAnswerIsLive}
 use Rattle.component_law.specs.Barred.{GivenIsBarred}
@@ -91,12 +94,13 @@ pub histories_are_sound : HistoriesAreSafe → VerdictsAreAnswered → CommandsA
     → ReadyReadsArePlain
     → HeadlineHolds
     → AuditsFindNone → EachRepairLeavesNone → MessagesAreNumbered → WritesAreStored → MessagesAreReceived → EachEventDelivers
-    → EachIsTimedOut → EachIsRefused → EachRecallIsCaused → RepliesCarryBytes → EachNoteHasItsCause → WithinTheLimitAreFew
+    → EachIsTimedOut → EachIsRefused → EachRecallIsCaused → RepliesCarryBytes → EachNoteHasItsCause → EachStageHasItsEnd
+    → EachRefusalIsTold → EachReachHasItsCause → WithinTheLimitAreFew
     → HistoriesAreSound
 histories_are_sound safe answered issued listed fair ranges fronts apart spread created own fenced live given older barred exact
     allowed lanes lanes_own judged awaited low ends outcomes read bytes tags caused told changed gone lost raised waits until sent
     barred_by named objects said left unanswered borne ready leaves logged plain right audits mended numbered stored
-    received delivers silent refuses recalled carried noted few = record {
+    received delivers silent refuses recalled carried noted stages refusals reached few = record {
       sound = λ h l. record {
         safe = safe h l;
         answered = λ w s. answered w h s;
@@ -146,6 +150,9 @@ histories_are_sound safe answered issued listed fair ranges fronts apart spread 
         noted = λ w s a. noted w h s a;
         recalls = λ w g k m rest d is a. recalled w g k m d a;
         carried = carried h;
+        stages = λ w s a. stages w h s a;
+        refusals = λ w s a. refusals w h s a;
+        reached = λ w s a. reached w h s a;
         logged = λ written text few. logged h l written text few;
         said = λ w g k m rest d is. said w g k m d;
         left = λ w g k m rest d is. left w g k m d;

@@ -14,3 +14,6 @@ pub mod Refused
 pub mod Notes
 pub mod Recalled
 pub mod Carried
+pub mod Stages
+pub mod Reach
+pub mod Refusals

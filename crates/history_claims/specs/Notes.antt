@@ -1,7 +1,6 @@
 -- Why the server notes what it notes of a file, in the words of the file's book.
-use Rattle.std.specs.Prelude.{◌≡◌, ◌≢◌, ◌⊎◌, ◌<◌, ℕ, Bool, true, false, not, ◌&&◌, nat_lt, ◌/◌, List, [], ◌∷◌, ◌++◌, length, filter, slice_get, Option, Some, None, if◌then◌else◌}
+use Rattle.std.specs.Prelude.{◌≡◌, ◌≢◌, ◌⊎◌, ℕ, Bool, true, false, not, ◌&&◌, nat_lt, ◌/◌, List, [], ◌∷◌, ◌++◌, length, filter, slice_get, Option, Some, None, if◌then◌else◌}
 use Rattle.data_map.specs.Striping.{group_of, replicas}
-use Rattle.layout_ops.specs.declared.statuses.TheConstants.{LAYOUTIOMODE4_RW}
 use Rattle.server_rules.specs.declared.limits.TheConstants.{GREATEST_TAG}
 use Rattle.server_rules.specs.Audit.{lengths_of, present_lengths}
 use Rattle.server_rules.specs.Files.{file_at}
@@ -11,14 +10,14 @@ use Rattle.server_rules.specs.Maps.{group_with, pieces_along}
 use Rattle.server_rules.specs.Messages.{awaited_by, counters_have_room}
 use Rattle.server_rules.specs.Numbers.{among, marked}
 use Rattle.server_rules.specs.Pieces.{stores}
-use Rattle.server_rules.specs.Replies.{Full, Done, hearing, heard_with}
+use Rattle.server_rules.specs.Replies.{Full, Done, hearing}
 use Rattle.server_rules.specs.Standing.{is_short, is_beyond, lacking}
 use Rattle.server_rules.specs.Zoning.{zone_has_room}
 use Rattle.scenario_text.specs.declared.line.Note.{Note}
 use Rattle.scenario_text.specs.declared.line.Note.TheVariants as note
 use Rattle.scenario_text.specs.declared.line.Line.{Line}
 use Rattle.scenario_text.specs.declared.line.Line.TheVariants as line
-use Rattle.world_history.specs.ServerNames.{Server, Drive, File, Kept, Component, Phase, Still, Job, JobKind, Rebuilding, Auditing, Work, Creates, Lengths, Checks, Target, Awaited, Heard, Piece, Tally, OrderKind, ToRebuild, ToAudit, RequestArgs, Get, Return, IoErr}
+use Rattle.world_history.specs.ServerNames.{Server, Drive, File, Kept, Component, Still, Job, Rebuilding, Auditing, Work, Creates, Lengths, Checks, Target, Awaited, Heard, Piece, Tally, OrderKind, ToRebuild, ToAudit, Get, Return, IoErr}
 use Rattle.world_history.specs.Book.{server_after}
 use Rattle.world_history.specs.State.{World}
 use Rattle.world_history.specs.History.{StandsFor}

@@ -57,6 +57,9 @@ use Rattle.cause_law.specs.Reopened.{CrashesBarAt}
 use Rattle.component_law.specs.TagTags.{HaveTagsAt}
 use Rattle.headline_law.specs.Claim.{HasNoBadAudit, IsRightIfCalm, RepairedAt}
 use Rattle.history_claims.specs.Notes.{NotesHaveCauses}
+use Rattle.history_claims.specs.Reach.{ReachesHaveCauses}
+use Rattle.history_claims.specs.Refusals.{RefusalsAreTold}
+use Rattle.history_claims.specs.Stages.{StagesHaveEnds}
 use Rattle.history_claims.specs.Texts.{EventsMakeText, CutsGoOn}
 
 -- What the lines of a sound history say.
@@ -180,6 +183,14 @@ pub record IsSound (h : List Line) : Type 0 where
   pub noted : (w : World) → StandsFor w h → AreWritten h → NotesHaveCauses h
   -- what the replies carry that such a call met are bytes, as `bytes` asks, if the messages of the history are of bytes
   pub carried : AreCarried h → AtEachLine MetBytesAt h
+  -- and what the job of a file is at, its CREATEs, its fence, its repair, a component or its audit, ends with its note alone,
+  -- unless the server crashes or is opened
+  pub stages : (w : World) → StandsFor w h → AreWritten h → StagesHaveEnds h
+  -- an order that is refused since a job of the file waits, or since there is no further tag, is told
+  pub refusals : (w : World) → StandsFor w h → AreWritten h → RefusalsAreTold h
+  -- `high` of a file stays, or rises to the end of a grant for writing that is live behind the step, and it reaches the end of
+  -- each such grant that wasn't live before
+  pub reached : (w : World) → StandsFor w h → AreWritten h → ReachesHaveCauses h
   -- the line of each message has the number of messages before it
   pub numbered : AtEachLine NumberedAt h
   -- what is delivered was sent. Its receiver is deaf to it exactly if it has failed, is down, was stopped, or isn't there; else a

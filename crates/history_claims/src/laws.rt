@@ -13,7 +13,9 @@ ghost use Rattle.history_claims.specs.Sound.{HistoriesAreSound};
 ghost use Rattle.history_claims.specs.Spread.{ComponentsStandSpread};
 ghost use Rattle.history_claims.specs.Stored.{WritesAreStored};
 
-use crate::note_laws::notes_have_causes;
+use crate::note_laws::{
+    notes_have_causes, reaches_have_causes, refusals_are_told, stages_have_ends,
+};
 use cause_law::{
     answers_are_of_replies, awaited_have_causes, awaited_have_ends, awaited_were_sent,
     calls_are_left, calls_end_so, components_have_causes, crashes_bar, each_byte_has_its_cause,
@@ -263,5 +265,8 @@ pub fn histories_are_sound()
     notes_have_causes();
     recalls_are_caused();
     replies_carry_bytes();
+    stages_have_ends();
+    refusals_are_told();
+    reaches_have_causes();
     within_the_limit_are_few();
 }

@@ -1,7 +1,7 @@
 //! What holds of every lawful history, as one record in the words of its lines.
 //!
 //! The parts are laws of the crates below: `history_law`, `exchange_law`, `component_law`, `cause_law`, `ready_law`
-//! and `headline_law`. Here are eleven more: messages are numbered as they are sent, and are taken by who hears; an event
+//! and `headline_law`. Here are more: messages are numbered as they are sent, and are taken by who hears; an event
 //! delivers what it has to; a component times out, and a client refuses, where it has to; a recall has its cause; what
 //! replies carry are bytes, if messages are; at each moment the components of a zoned file are spread over zones; if a file
 //! is made, its CREATEs go to its components' drives; a call that ended in ok has its entry in the log; and a ready read of
@@ -17,4 +17,4 @@ pub use laws::{
     messages_are_received, ready_reads_are_plain, recalls_are_caused, replies_carry_bytes,
     writes_are_stored,
 };
-pub use note_laws::notes_have_causes;
+pub use note_laws::{notes_have_causes, reaches_have_causes, refusals_are_told, stages_have_ends};

@@ -1,7 +1,10 @@
-// Why the server notes what it notes of files.
+// What the server notes of files, and how far their grants for writing reached.
 ghost use Rattle.history_claims.specs.Notes.{EachNoteHasItsCause};
+ghost use Rattle.history_claims.specs.Reach.{EachReachHasItsCause};
+ghost use Rattle.history_claims.specs.Refusals.{EachRefusalIsTold};
+ghost use Rattle.history_claims.specs.Stages.{EachStageHasItsEnd};
 
-use component_law::seen_is_sound;
+use component_law::{each_step_raises_tags, seen_is_sound};
 use history_law::{book_is_read, grants_are_safe, server_moves, step_is_read};
 use server_rules::conflicts_are_exact;
 use world_history::{one_event_more, reading_goes_on};
@@ -20,6 +23,50 @@ pub fn notes_have_causes()
     seen_is_sound();
     book_is_read();
     step_is_read();
+    one_event_more();
+    reading_goes_on();
+}
+
+/// In such a history, where the job of a file is at its CREATEs, its fence, its repair, a component that it makes anew,
+/// or its audit, it is at the same behind the next step, or a line of the step tells that this is over, unless the
+/// server crashes or is opened.
+pub fn stages_have_ends()
+    ensures { EachStageHasItsEnd }
+{
+    grants_are_safe();
+    server_moves();
+    seen_is_sound();
+    book_is_read();
+    step_is_read();
+    one_event_more();
+    reading_goes_on();
+}
+
+/// In such a history an order to revoke, rebuild or audit a file that comes while a job of the file waits is told as
+/// `busy` with the lowest component that this waits for, and one that comes where there is no further tag as `spent`.
+pub fn refusals_are_told()
+    ensures { EachRefusalIsTold }
+{
+    grants_are_safe();
+    server_moves();
+    seen_is_sound();
+    book_is_read();
+    step_is_read();
+    one_event_more();
+    reading_goes_on();
+}
+
+/// In such a history `high` of a file stays in each step, or rises to the end of a grant for writing that is live behind
+/// it; it reaches the end of each such grant that wasn't live before; and a file that is made begins with 0.
+pub fn reaches_have_causes()
+    ensures { EachReachHasItsCause }
+{
+    each_step_raises_tags();
+    seen_is_sound();
+    grants_are_safe();
+    book_is_read();
+    step_is_read();
+    server_moves();
     one_event_more();
     reading_goes_on();
 }

@@ -24,4 +24,5 @@ returns c =
     c.audits_find_none.ensures c.repairs_leave_none.ensures c.messages_are_numbered.ensures c.writes_are_stored.ensures
     c.messages_are_received.ensures c.events_deliver.ensures c.components_time_out.ensures c.clients_refuse.ensures
     c.recalls_are_caused.ensures c.replies_carry_bytes.ensures
-    c.notes_have_causes.ensures c.within_the_limit_are_few.ensures
+    c.notes_have_causes.ensures c.stages_have_ends.ensures c.refusals_are_told.ensures c.reaches_have_causes.ensures
+    c.within_the_limit_are_few.ensures
