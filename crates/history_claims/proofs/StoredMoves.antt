@@ -1,27 +1,29 @@
 -- A scatter goes on: at its begin, behind a reply, and where a component times out each store of its plan was performed, is
 -- awaited or is queued, or its component timed out.
-use Rattle.std.proofs.Common.{◌≡◌, ◌⊎◌, ◌==◌, ℕ, ◌+◌, Bool, true, false, not, nat_lt, List, [], ◌∷◌, ◌++◌, length, refl, sym, ap, subst, ◌∙◌, inl, inr}
+use Rattle.std.proofs.Common.{◌≡◌, ◌⊎◌, ◌==◌, ℕ, ◌+◌, true, false, not, nat_lt, List, [], ◌∷◌, ◌++◌, refl, sym, ap, subst, ◌∙◌, inl, inr}
 use Rattle.std.proofs.lemmas.Bool.{cases_Bool, cases_eq, eq-eqb, ne_eqb, eqb-true}
 use Rattle.stripe_plan.specs.declared.plan.Ask.{Ask}
 use Rattle.stripe_plan.specs.Lost.{among}
 use Rattle.stripe_plan.specs.Plans.{stores}
 use Rattle.server_rules.specs.Laws.{In}
-use Rattle.server_rules.proofs.Members.{in_front, in_behind, in_filtered}
+use Rattle.server_rules.proofs.Members.{in_front, in_behind, in_either, in_filtered}
 use Rattle.client_rules.specs.declared.limits.TheConstants.{PERFORMED}
 use Rattle.client_rules.specs.Calls.{span_of, bytes_of}
-use Rattle.client_rules.specs.Commands.{awaited_for, command, sealed, nonce_at, numbered, others, not_of, of_component, write_commands, counted}
-use Rattle.client_rules.specs.Io.{outs}
+use Rattle.client_rules.specs.Commands.{awaited_for, command, sealed, nonce_at, numbered, others, not_of, of_component, write_commands}
+use Rattle.client_rules.specs.Io.{outs, got_of}
 use Rattle.client_rules.specs.Replies.{timed_after}
 use Rattle.client_rules.specs.Writes.{firsts, laters, next_to, without_next, without_component}
 use Rattle.world_history.specs.ClientNames.{CallOp, Held, Awaited, TimedOut, Store, Column, Reply}
 use Rattle.cause_law.specs.Met as met
 use Rattle.cause_law.specs.Met.{Met, Replied, rising_with, timed_in}
+use Rattle.cause_law.specs.Read.{read_in}
 use Rattle.cause_law.proofs.Trace.{comps, timed_more}
+use Rattle.plan_law.specs.Sending.{MayScatter}
 use Rattle.relation_law.specs.CallsTurns.{IsQueueBehind}
-use Rattle.relation_law.proofs.CallsDone.{in_others}
+use Rattle.relation_law.proofs.CallsDone.{in_others, from_others}
 use Rattle.relation_law.proofs.CallsOut.{in_passed}
 use Rattle.relation_law.proofs.MessagesBehind.{numbered_there}
-use Rattle.history_claims.proofs.StoredParts.{IsAlike, AreAlike, Carries, IsDone, IsAwaited, Stands, Under, Scattering, scattering_again, more_replied, under_more}
+use Rattle.history_claims.proofs.StoredParts.{AreAlike, Carries, IsAwaited, Stands, Under, Gathering, Scattering, under_replied}
 
 -- ---- components that timed out
 
@@ -58,8 +60,7 @@ numbered_carry : (h : Held) (count : ℕ) (ws : List Store) (w : Store) → In w
 unfolding numbered command sealed
 numbered_carry h count [] w i = absurd i
 numbered_carry h count (v ∷ ws) w (inl e) =
-    subst (IsAwaited h (numbered h true count (v ∷ ws))) (sym e)
-    (
+    subst (IsAwaited h (numbered h true count (v ∷ ws))) (sym e) (
       awaited_for h true v (nonce_at h (count + 1)),
       inl refl,
       record {
@@ -78,6 +79,16 @@ numbered_carry h count (v ∷ ws) w (inr i) = let r = numbered_carry h (count + 
 writes_carry : (h : Held) (ws : List Store) (w : Store) → In w ws → IsAwaited h (write_commands h ws) w
 unfolding write_commands
 writes_carry h ws w i = numbered_carry h h.count ws w i
+
+numbered_write : (h : Held) (count : ℕ) (ws : List Store) (a : Awaited) → In a (numbered h true count ws) → a.write ≡ true
+unfolding numbered
+numbered_write h count [] a i = absurd i
+numbered_write h count (w ∷ ws) a (inl e) = ap (λ (y : Awaited). y.write) e
+numbered_write h count (w ∷ ws) a (inr i) = numbered_write h (count + 1) ws a i
+
+all_write : (h : Held) (ws : List Store) (a : Awaited) → In a (write_commands h ws) → a.write ≡ true
+unfolding write_commands
+all_write h ws a i = numbered_write h h.count ws a i
 
 awaited_behind : (h : Held) (xs ys : List Awaited) (w : Store) → IsAwaited h ys w → IsAwaited h (xs ++ ys) w
 awaited_behind h xs ys w (a, i, c) = (a, in_behind a xs ys i, c)
@@ -99,15 +110,19 @@ first_or_later seen (v ∷ ws) w i = elim (cases_Bool (among v.ask.component see
   ])
 ]
 
-pub scatter_begins : (op : CallOp) (h : Held) (ms : List Met) (got : List Column) (timed : List TimedOut) → Under op h ms timed →
+pub scatter_begins : (op : CallOp) (h : Held) (ms : List Met) (got : List Column) (timed : List TimedOut) →
+    Gathering op h ms got timed → MayScatter h.map (span_of op) (bytes_of op) got (outs h timed) →
     Scattering op h ms timed
     (write_commands h (firsts [] (stores h.map (span_of op) (bytes_of op) got (outs h timed))))
     (laters [] (stores h.map (span_of op) (bytes_of op) got (outs h timed)))
-scatter_begins op h ms got timed under = record {
-  under = under;
+scatter_begins op h ms got timed x may = record {
+  under = x.under;
   got = got;
   first = timed;
   still = λ k i. i;
+  read = x.read;
+  may = may;
+  writes = λ a i. all_write h _ a i;
   each = λ w i. elim (first_or_later [] (stores h.map (span_of op) (bytes_of op) got (outs h timed)) w i) [
     | inl a ↦ inr (inr (inl (writes_carry h _ w a)))
     | inr b ↦ inr (inr (inr b))
@@ -127,18 +142,38 @@ next_or_later k (v ∷ ws) w i = elim (cases_Bool (v.ask.component == k)) [
   ])
 ]
 
+-- a reply to a WRITE gives no bytes
+writes_read_none : (a : Awaited) (r : Reply) (ms : List Met) → a.write ≡ true → read_in (Replied a r ∷ ms) ≡ read_in ms
+unfolding read_in
+writes_read_none a r ms is = elim (cases_Bool (r.verdict == PERFORMED)) [
+  | inl t ↦ rw (t, is) refl
+  | inr f ↦ rw f refl
+]
+
+-- one to a READ that was performed gives some
+pub reads_more : (a : Awaited) (r : Reply) (ms : List Met) → r.verdict ≡ PERFORMED → a.write ≡ false →
+    read_in (Replied a r ∷ ms) ≡ read_in ms ++ got_of a r ∷ []
+unfolding read_in
+reads_more a r ms performed is = rw (eq-eqb r.verdict PERFORMED performed, is) refl
+
 -- a WRITE was performed, and the next to its component is sent
 pub scatter_replied : (op : CallOp) (h : Held) (ms : List Met) (timed : List TimedOut) (awaited : List Awaited)
-    (queue : List Store) (a : Awaited) (r : Reply) → r.verdict ≡ PERFORMED → r.nonce ≡ a.command.nonce →
+    (queue : List Store) (a : Awaited) (r : Reply) → r.verdict ≡ PERFORMED → r.nonce ≡ a.command.nonce → In a awaited →
     ((b : Awaited) → In b awaited → b.command.nonce ≡ a.command.nonce → b ≡ a) → Scattering op h ms timed awaited queue →
     Scattering op h (Replied a r ∷ ms) timed
     (others awaited a.command.nonce ++ write_commands h (next_to a.ask.component queue))
     (without_next a.ask.component queue)
-scatter_replied op h ms timed awaited queue a r performed nonce differ x = record {
-  under = under_more op h ms (Replied a r ∷ ms) timed (more_replied a r ms) x.under;
+scatter_replied op h ms timed awaited queue a r performed nonce there differ x = record {
+  under = under_replied op h ms timed a r x.under;
   got = x.got;
   first = x.first;
   still = x.still;
+  read = x.read ∙ sym (writes_read_none a r ms (x.writes a there));
+  may = x.may;
+  writes = λ b i. elim (in_either b (others awaited a.command.nonce) _ i) [
+    | inl old ↦ x.writes b (from_others b awaited a.command.nonce old).0
+    | inr new ↦ all_write h _ b new
+  ];
   each = λ w i. by w (x.each w i);
 }
   where
@@ -209,7 +244,7 @@ next_behind h awaited queue a differ behind q i =
 -- ---- a timeout
 
 -- a component times out in a write
-pub under_timed : (op : CallOp) (h : Held) (ms : List Met) (timed : List TimedOut) (k : ℕ) (ys : List Awaited) (a : Awaited)
+under_timed : (op : CallOp) (h : Held) (ms : List Met) (timed : List TimedOut) (k : ℕ) (ys : List Awaited) (a : Awaited)
     (xs : List Awaited) → of_component k ys ≡ a ∷ xs → Under op h ms timed →
     Under op h (met.TimedOut h k ∷ ms) (timed_after timed a xs)
 unfolding timed_in
@@ -219,6 +254,13 @@ under_timed op h ms timed k ys a xs is x = record {
   silent = ap (rising_with k) x.silent ∙ sym (timed_more k ys a xs timed is);
 }
 
+pub gathering_timed : (op : CallOp) (h : Held) (ms : List Met) (got : List Column) (timed : List TimedOut) (k : ℕ)
+    (ys : List Awaited) (a : Awaited) (xs : List Awaited) → of_component k ys ≡ a ∷ xs → Gathering op h ms got timed →
+    Gathering op h (met.TimedOut h k ∷ ms) got (timed_after timed a xs)
+unfolding read_in
+gathering_timed op h ms got timed k ys a xs is x =
+    record { under = under_timed op h ms timed k ys a xs is x.under; read = x.read }
+
 others_of : (k n : ℕ) → (n ≡ k → ⊥) → not (n == k) ≡ true
 others_of k n ne = rw (ne_eqb n k ne) refl
 
@@ -227,12 +269,15 @@ pub scatter_silent : (op : CallOp) (h : Held) (ms : List Met) (timed : List Time
     (queue : List Store) (k : ℕ) (a : Awaited) (xs : List Awaited) → of_component k awaited ≡ a ∷ xs →
     Scattering op h ms timed awaited queue →
     Scattering op h (met.TimedOut h k ∷ ms) (timed_after timed a xs) (not_of k awaited) (without_component k queue)
-unfolding not_of without_component
+unfolding not_of without_component read_in
 scatter_silent op h ms timed awaited queue k a xs is x = record {
   under = under_timed op h ms timed k awaited a xs is x.under;
   got = x.got;
   first = x.first;
   still = λ j i. more j (x.still j i);
+  read = x.read;
+  may = x.may;
+  writes = λ b i. x.writes b (in_filtered (λ (y : Awaited). not (y.ask.component == k)) b awaited i).0;
   each = λ w i. by w (x.each w i);
 }
   where

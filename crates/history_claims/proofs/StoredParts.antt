@@ -1,8 +1,8 @@
 -- What a write has stored so far, and what it still has to store: each store of its plan was performed, is awaited or is queued,
 -- or its component timed out.
-use Rattle.std.proofs.Common.{◌≡◌, ◌⊎◌, ◌==◌, ◌||◌, ◌<◌, ◌≤◌, ℕ, ◌+◌, ◌-◌, Bool, true, false, nat_lt, List, [], ◌∷◌, ◌++◌, length, refl, sym, ap, subst, ◌∙◌, inl, inr, arith}
+use Rattle.std.proofs.Common.{◌≡◌, ◌⊎◌, ◌==◌, ◌<◌, ◌≤◌, ℕ, ◌+◌, ◌-◌, true, false, List, [], ◌∷◌, ◌++◌, length, refl, sym, subst, ◌∙◌, inl, inr, arith}
 use Rattle.std.specs.Prelude.{slice_index}
-use Rattle.std.proofs.lemmas.Bool.{cases_Bool, cases_eq, eq-eqb, ne_eqb}
+use Rattle.std.proofs.lemmas.Bool.{cases_eq, eq-eqb, ne_eqb}
 use Rattle.osd_lists.proofs.Tests.{first_false, second_false}
 use Rattle.stripe_plan.specs.Lost.{among}
 use Rattle.stripe_plan.specs.Plans.{stores}
@@ -17,11 +17,14 @@ use Rattle.client_rules.specs.Requests.{object_of}
 use Rattle.world_history.specs.ClientNames.{CallOp, Held, Awaited, TimedOut, Store, Column, Request, Answer, Reply}
 use Rattle.data_map.specs.Check.{IsChecked}
 use Rattle.gather_law.specs.Ready.{IsSome}
+use Rattle.plan_law.specs.Sending.{MayScatter}
+use Rattle.stripe_plan.specs.Laws.{Agrees}
 use Rattle.cause_law.specs.Met as met
-use Rattle.cause_law.specs.Met.{Met, Answered, Replied, rising_with, timed_in, out_in}
+use Rattle.cause_law.specs.Met.{Met, Answered, Replied, timed_in, out_in}
+use Rattle.cause_law.specs.Read.{read_in}
 use Rattle.cause_law.proofs.Trace.{comps}
-use Rattle.history_claims.specs.Stored.{Keeps, IsKept, AreStored}
-use Rattle.history_claims.proofs.StoredPlan.{IsStoreOf, own_stored, parity_stored}
+use Rattle.history_claims.specs.Stored.{IsKept, AreStored}
+use Rattle.history_claims.proofs.StoredPlan.{IsStoreOf, own_stored, parity_stored, parity_fits}
 use Rattle.stripe_plan.specs.Words.{word_at}
 use Rattle.data_map.specs.Striping.{stripe_of, column_of}
 
@@ -101,6 +104,11 @@ pub record Under (op : CallOp) (h : Held) (ms : List Met) (timed : List TimedOut
   pub alike : AreAlike h ms
   pub silent : timed_in ms ≡ comps timed
 
+-- it gathers, and has got what drives told
+pub record Gathering (op : CallOp) (h : Held) (ms : List Met) (got : List Column) (timed : List TimedOut) : Type 0 where
+  pub under : Under op h ms timed
+  pub read : got ≡ read_in ms
+
 -- it scatters, by what was got and had timed out when its scatter began
 pub record Scattering (op : CallOp) (h : Held) (ms : List Met) (timed : List TimedOut) (awaited : List Awaited)
     (queue : List Store) : Type 0
@@ -109,6 +117,9 @@ pub record Scattering (op : CallOp) (h : Held) (ms : List Met) (timed : List Tim
     pub got : List Column
     pub first : List TimedOut
     pub still : (k : ℕ) → In k (comps first) → In k (comps timed)
+    pub read : got ≡ read_in ms
+    pub may : MayScatter h.map (span_of op) (bytes_of op) got (outs h first)
+    pub writes : (a : Awaited) → In a awaited → a.write ≡ true
     pub each : (w : Store) → In w (stores h.map (span_of op) (bytes_of op) got (outs h first)) →
         Stands h ms timed awaited queue w
 
@@ -118,10 +129,14 @@ Scattered op h ms timed = Scattering op h ms timed [] []
 
 -- ---- the grant goes on
 
-pub under_again : (op : CallOp) (h : Held) (n s : ℕ) (ms : List Met) (timed : List TimedOut) → Under op h ms timed →
+under_again : (op : CallOp) (h : Held) (n s : ℕ) (ms : List Met) (timed : List TimedOut) → Under op h ms timed →
     Under op (record h { count = n; size = s }) ms timed
 under_again op h n s ms timed x =
     record { write = x.write; alike = alike_again h n s ms x.alike; silent = x.silent }
+
+pub gathering_again : (op : CallOp) (h : Held) (n s : ℕ) (ms : List Met) (got : List Column) (timed : List TimedOut) →
+    Gathering op h ms got timed → Gathering op (record h { count = n; size = s }) ms got timed
+gathering_again op h n s ms got timed x = record { under = under_again op h n s ms timed x.under; read = x.read }
 
 stands_again : (h : Held) (n s : ℕ) (ms : List Met) (timed : List TimedOut) (awaited : List Awaited) (queue : List Store)
     (w : Store) → Stands h ms timed awaited queue w → Stands (record h { count = n; size = s }) ms timed awaited queue w
@@ -140,34 +155,44 @@ scattering_again op h n s ms timed awaited queue x = record {
   got = x.got;
   first = x.first;
   still = x.still;
+  read = x.read;
+  may = x.may;
+  writes = x.writes;
   each = λ w i. stands_again h n s ms timed awaited queue w (x.each w i);
 }
 
 -- ---- more is met
 
--- what was done is done, and no component timed out
+-- what was done is done, no component timed out, and nothing was read
 pub record IsMore (ms later : List Met) : Type 0 where
   pub done : (h : Held) (w : Store) → IsDone h ms w → IsDone h later w
   pub alike : (h : Held) → AreAlike h ms → AreAlike h later
   pub silent : timed_in later ≡ timed_in ms
+  pub read : read_in later ≡ read_in ms
 
 pub more_none : (ms : List Met) → IsMore ms ms
-more_none ms = record { done = λ h w x. x; alike = λ h x. x; silent = refl }
+more_none ms = record { done = λ h w x. x; alike = λ h x. x; silent = refl; read = refl }
 
 pub more_answered : (r : Request) (a : Answer) (ms : List Met) → IsMore ms (Answered r a ∷ ms)
-unfolding timed_in
-more_answered r a ms = record { done = λ h w x. x; alike = λ h x. x; silent = refl }
+unfolding timed_in read_in
+more_answered r a ms = record { done = λ h w x. x; alike = λ h x. x; silent = refl; read = refl }
 
-pub more_replied : (a : Awaited) (r : Reply) (ms : List Met) → IsMore ms (Replied a r ∷ ms)
+pub under_replied : (op : CallOp) (h : Held) (ms : List Met) (timed : List TimedOut) (a : Awaited) (r : Reply) →
+    Under op h ms timed → Under op h (Replied a r ∷ ms) timed
 unfolding timed_in
-more_replied a r ms = record { done = λ h w x. inr x; alike = λ h x. x; silent = refl }
+under_replied op h ms timed a r x = record { write = x.write; alike = x.alike; silent = x.silent }
 
-pub under_more : (op : CallOp) (h : Held) (ms later : List Met) (timed : List TimedOut) → IsMore ms later →
+under_more : (op : CallOp) (h : Held) (ms later : List Met) (timed : List TimedOut) → IsMore ms later →
     Under op h ms timed → Under op h later timed
 under_more op h ms later timed m x =
     record { write = x.write; alike = m.alike h x.alike; silent = m.silent ∙ x.silent }
 
-pub stands_more : (h : Held) (ms later : List Met) (timed : List TimedOut) (awaited : List Awaited) (queue : List Store)
+pub gathering_more : (op : CallOp) (h : Held) (ms later : List Met) (got : List Column) (timed : List TimedOut) →
+    IsMore ms later → Gathering op h ms got timed → Gathering op h later got timed
+gathering_more op h ms later got timed m x =
+    record { under = under_more op h ms later timed m x.under; read = x.read ∙ sym m.read }
+
+stands_more : (h : Held) (ms later : List Met) (timed : List TimedOut) (awaited : List Awaited) (queue : List Store)
     (w : Store) → ((y : Store) → IsDone h ms y → IsDone h later y) → Stands h ms timed awaited queue w →
     Stands h later timed awaited queue w
 stands_more h ms later timed awaited queue w m (inl done) = inl (m w done)
@@ -181,6 +206,9 @@ scattering_more op h ms later timed awaited queue m x = record {
   got = x.got;
   first = x.first;
   still = x.still;
+  read = x.read ∙ sym m.read;
+  may = x.may;
+  writes = x.writes;
   each = λ w i. stands_more h ms later timed awaited queue w (m.done h) (x.each w i);
 }
 
@@ -267,5 +295,9 @@ module _ (op : CallOp) (h : Held) (ms : List Met) (timed : List TimedOut) (ch : 
           is_kept k _ _ there
           (parity_stored h.map (span_of op) (bytes_of op) x.got (outs h x.first) ch has.some l (omega (arith, is))
           (omega (arith, is, lt, has.long)) u high wide k at_ (there_before k there)),
+      λ d bytes agrees.
+          parity_fits h.map (span_of op) (bytes_of op) x.got (outs h x.first) ch has.some l (omega (arith, is))
+          (omega (arith, is, lt, has.long)) u high wide x.may.can x.may.fetched d bytes
+          (subst (λ (cs : List Column). Agrees h.map cs d) (sym x.read) agrees),
     );
   }

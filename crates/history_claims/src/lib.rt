@@ -1,9 +1,9 @@
 //! What holds of every lawful history, as one record in the words of its lines.
 //!
 //! The parts are laws of the crates below: `history_law`, `exchange_law`, `component_law`, `cause_law`, `ready_law`
-//! and `headline_law`. Here are five more: messages are numbered as they are sent; at each moment the components of a zoned file are spread over zones; if a
-//! file is made, its CREATEs go to its components' drives; a call that ended in ok has its entry in the log; and a
-//! ready read of a calm event gives what the writes before it leave.
+//! and `headline_law`. Here are six more: messages are numbered as they are sent; at each moment the components of a zoned file are spread over zones; if a
+//! file is made, its CREATEs go to its components' drives; a call that ended in ok has its entry in the log; an
+//! acknowledged write has stored its bytes; and a ready read of a calm event gives what the writes before it leave.
 #![tactic(auto)]
 
 mod laws;
