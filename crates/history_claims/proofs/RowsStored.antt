@@ -12,7 +12,7 @@ use Rattle.cause_law.specs.Met as met
 use Rattle.cause_law.specs.Met.{Met, Replied, rising_with, timed_in}
 use Rattle.cause_law.specs.Read.{read_in}
 use Rattle.cause_law.specs.ReadCalls.{LastStep}
-use Rattle.history_claims.specs.Stored.{Keeps, IsKept, IsStored, FitsReplies, AreStored, HasStored}
+use Rattle.history_claims.specs.Stored.{Keeps, IsKept, IsAlone, IsStored, FitsReplies, AreStored, HasStored}
 
 -- RAID 4 of two components, with units of a byte
 abbrev two : RawMap
@@ -68,6 +68,13 @@ kept k = record {
   byte = refl;
 }
 
+abbrev Both : (k : ℕ) → Type 0
+Both k = IsKept grant (carried 1 ∷ carried 0 ∷ []) k 0 7 × IsAlone (carried 1 ∷ carried 0 ∷ []) k 0 7
+
+alone : (k : ℕ) → IsAlone (carried 1 ∷ carried 0 ∷ []) k 0 7
+unfolding command sealed
+alone k = (λ f. refl, (λ f. refl, tt))
+
 -- so is byte l's parity in unit u
 abbrev ParityAt : (l u : ℕ) → Type 0
 ParityAt l u =
@@ -110,14 +117,14 @@ stored = record {
   reported = inl refl;
 }
   where
-    own : (k : ℕ) → k < 2 → k / 1 ≡ 0 → IsKept grant (carried 1 ∷ carried 0 ∷ []) k 0 7
-    own zero lt e = inr (inl (kept 0))
+    own : (k : ℕ) → k < 2 → k / 1 ≡ 0 → Both k
+    own zero lt e = (inr (inl (kept 0)), alone 0)
     own (suc zero) lt e = absurd (cc e)
     own (suc (suc k)) lt e = absurd (omega (arith, lt))
 
-    second : (k : ℕ) → k < 2 → k / 1 ≡ 1 → IsKept grant (carried 1 ∷ carried 0 ∷ []) k 0 7
+    second : (k : ℕ) → k < 2 → k / 1 ≡ 1 → Both k
     second zero lt e = absurd (cc e)
-    second (suc zero) lt e = inl (kept 1)
+    second (suc zero) lt e = (inl (kept 1), alone 1)
     second (suc (suc k)) lt e = absurd (omega (arith, lt))
 
     parity : ParityAt 0 1
@@ -146,7 +153,7 @@ unfolding missing_from timed_in credential_of
 parity_wants h =
     let s = its_stored (carried 0 ∷ []) none h in
     let p = s.parity 0 0 1 (omega arith) refl (omega arith) (omega arith) in
-    elim (p.1 1 (omega arith) refl refl) [
+    elim (p.1 1 (omega arith) refl refl).0 [
       | inl k ↦ absurd (cc k.drive)
       | inr none ↦ none
     ]
@@ -165,7 +172,7 @@ value_wants h =
     let s = its_stored (wrong ∷ carried 0 ∷ []) none h in
     let p = s.parity 0 0 1 (omega arith) refl (omega arith) (omega arith) in
     let seven : p.0 ≡ 7 = p.2 (λ l. 0) (λ l. omega arith) (λ s b c lt g. absurd g) in
-    elim (p.1 1 (omega arith) refl refl) [
+    elim (p.1 1 (omega arith) refl refl).0 [
       | inl k ↦ absurd (cc (sym k.byte ∙ seven))
       | inr (inl k) ↦ absurd (cc k.drive)
       | inr (inr none) ↦ none
@@ -175,6 +182,23 @@ value_wants h =
     none g k (inl same) = absurd (cc same)
     none g k (inr (inl same)) = absurd (cc same)
     none g k (inr (inr i)) = i
+
+-- nor are they where the byte was written over in the call
+abbrev over_it : Met
+over_it = Replied (to_component 0 9) (done 0)
+
+pub alone_wants : HasStored (after_all (over_it ∷ carried 1 ∷ carried 0 ∷ [])) → ⊥
+unfolding missing_from timed_in command sealed
+alone_wants h =
+    let s = its_stored (over_it ∷ carried 1 ∷ carried 0 ∷ []) none h in
+    let p = s.own 0 0 (omega arith) refl 0 (omega arith) refl refl in
+    absurd (cc (p.1.0 (record { component = refl; write = refl; first = omega arith; end = omega arith })))
+  where
+    none : (g : Held) (k : ℕ) → In (met.TimedOut g k) (over_it ∷ carried 1 ∷ carried 0 ∷ []) → ⊥
+    none g k (inl same) = absurd (cc same)
+    none g k (inr (inl same)) = absurd (cc same)
+    none g k (inr (inr (inl same))) = absurd (cc same)
+    none g k (inr (inr (inr i))) = i
 
 -- nor has the write stored them where the parity timed out and nothing was reported
 pub report_wants : HasStored (after_all (met.TimedOut grant 1 ∷ carried 0 ∷ [])) → ⊥

@@ -66,7 +66,7 @@ module _ (hs : List Held) (op : CallOp) (ms later : List Met) (m : IsMore ms lat
   }
 
   pub quiet_more : IsQuiet ms → IsQuiet later
-  quiet_more x = (m.silent ∙ x.0, m.read ∙ x.1)
+  quiet_more x = (m.silent ∙ x.0, m.read ∙ x.1, m.none x.2)
 
   need_more : (n : Need) → NeedStored hs op ms n → NeedStored hs op later n
   need_more First x = quiet_more x

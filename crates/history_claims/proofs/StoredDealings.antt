@@ -7,7 +7,7 @@ use Rattle.server_rules.specs.Laws.{In}
 use Rattle.stripe_plan.specs.Plans.{stores}
 use Rattle.client_rules.specs.declared.limits.TheConstants.{PERFORMED, OTHER_TAG}
 use Rattle.client_rules.specs.Calls.{file_of, span_of, bytes_of, is_write}
-use Rattle.client_rules.specs.Commands.{nonce_at, write_commands, not_of, of_component}
+use Rattle.client_rules.specs.Commands.{command, sealed, nonce_at, write_commands, not_of, of_component}
 use Rattle.client_rules.specs.Going.{begins}
 use Rattle.client_rules.specs.Grants.{clipped, covers, held_of}
 use Rattle.client_rules.specs.Io.{awaited_in, got_of, outs}
@@ -35,7 +35,7 @@ use Rattle.relation_law.proofs.CallsMoved.{first_sent}
 use Rattle.relation_law.proofs.MessagesClients.{IsUsable, IsFit}
 use Rattle.relation_law.proofs.MessagesGathers.{HasBytes, begin_writable}
 use Rattle.history_claims.specs.Stored.{HasStored}
-use Rattle.history_claims.proofs.StoredParts.{Stands, Gathering, Scattering, Scattered, gathering_again, scattering_again, under_replied, are_stored}
+use Rattle.history_claims.proofs.StoredParts.{NoneWritten, Stands, Gathering, Scattering, Scattered, gathering_again, scattering_again, under_replied, are_stored}
 use Rattle.history_claims.proofs.StoredMoves.{quiet_alike, scatter_begins, reads_more, scatter_replied, next_behind, gathering_timed, scatter_silent, left_behind}
 use Rattle.history_claims.proofs.Wrote.{IsNoOk}
 
@@ -65,9 +65,9 @@ PhaseUnder op h ms (Probes io) = Unit {0}
 PhaseUnder op h ms (Gathers io) = Gathering op h ms io.got io.timed
 PhaseUnder op h ms (Scatters io queue) = Scattering op h ms io.timed io.awaited queue
 
--- no component timed out, and nothing was read
+-- no component timed out, nothing was read, and nothing was written
 abbrev pub IsQuiet : List Met → Type 0
-IsQuiet ms = (timed_in ms ≡ []) × (read_in ms ≡ [])
+IsQuiet ms = (timed_in ms ≡ []) × (read_in ms ≡ []) × NoneWritten ms
 
 -- ---- a step that began with these grants and is about this call, which has met all this
 
@@ -194,6 +194,7 @@ module _ (before : List Held) (mine : Option CallOp) where
               (record {
                 under = record { write = is; alike = quiet_alike h ms quiet.0; silent = quiet.0 };
                 read = sym quiet.1;
+                none = quiet.2;
               })
               (begin_writable h op usable is (covered h op cover)) (record { differ = tt; below = λ a i. absurd i }) (some is)
           by false true is = probes_stored [] [] []
@@ -245,7 +246,9 @@ module _ (before : List Held) (mine : Option CallOp) where
           still = x.still;
           read = x.read;
           may = x.may;
-          writes = λ a i. absurd i;
+          sent = λ a i. absurd i;
+          left = λ w i. absurd i;
+          alone = x.alone;
           each = λ w i. by w (x.each w i);
         }
           where
@@ -273,7 +276,7 @@ module _ (before : List Held) (mine : Option CallOp) where
 
       performed_stored : (p : Phase) → q.verdict ≡ PERFORMED → In a (awaited_in p) → PhaseUnder op h ms p →
           IsFit h op p → ReplyFits h op p a → MovedStored replied_to op (performed h op p a q)
-      unfolding scatters_next
+      unfolding scatters_next command sealed
       performed_stored Starts done i x fit fits = absurd i
       performed_stored (Needs n) done i x fit fits = absurd i
       performed_stored (Waits n) done i x fit fits = absurd i
@@ -285,6 +288,7 @@ module _ (before : List Held) (mine : Option CallOp) where
           (record {
             under = under_replied op h ms io.timed a q x.under;
             read = ap (λ (cs : List Column). cs ++ got_of a q ∷ []) x.read ∙ sym (reads_more a q ms done read);
+            none = (λ e. absurd (cc (sym e ∙ ap (λ (y : Awaited). y.command.action) (fit.reads a i).is)), x.none);
           })
           (ready_replied h.map (span_of op) (outs h io.timed) io.got io.awaited a q (nonce_at h h.count) i fit.ready) fits
       performed_stored (Scatters io queue) done i x fit fits =

@@ -59,7 +59,7 @@ first_awaited k all a xs e = (in_filtered (is_of k) a all (subst (In a) (sym e) 
 
 nothing_met : (ms : List Met) → ms ≡ [] → IsQuiet ms
 unfolding timed_in read_in
-nothing_met ms e = (rw e refl, rw e refl)
+nothing_met ms e = rw e (refl, refl, tt)
 
 module _ (x : Client) (ms : List Met) (s : IsSound x) (y : CallStored x.held x.outstanding (since x.call ms) x.call) where
   abbrev mine : Option CallOp

@@ -23,7 +23,7 @@ use Rattle.relation_law.specs.CallsTurns.{IsQueueBehind}
 use Rattle.relation_law.proofs.CallsDone.{in_others, from_others}
 use Rattle.relation_law.proofs.CallsOut.{in_passed}
 use Rattle.relation_law.proofs.MessagesBehind.{numbered_there}
-use Rattle.history_claims.proofs.StoredParts.{AreAlike, Carries, IsAwaited, Stands, Under, Gathering, Scattering, under_replied}
+use Rattle.history_claims.proofs.StoredParts.{AreAlike, Carries, IsPlanned, none_planned, IsAwaited, Stands, Under, Gathering, Scattering, under_replied}
 
 -- ---- components that timed out
 
@@ -65,6 +65,7 @@ numbered_carry h count (v ∷ ws) w (inl e) =
       inl refl,
       record {
         ask = refl;
+        writes = refl;
         write = refl;
         drive = refl;
         capability = refl;
@@ -80,15 +81,32 @@ writes_carry : (h : Held) (ws : List Store) (w : Store) → In w ws → IsAwaite
 unfolding write_commands
 writes_carry h ws w i = numbered_carry h h.count ws w i
 
-numbered_write : (h : Held) (count : ℕ) (ws : List Store) (a : Awaited) → In a (numbered h true count ws) → a.write ≡ true
-unfolding numbered
-numbered_write h count [] a i = absurd i
-numbered_write h count (w ∷ ws) a (inl e) = ap (λ (y : Awaited). y.write) e
-numbered_write h count (w ∷ ws) a (inr i) = numbered_write h (count + 1) ws a i
+-- and each is for one of the stores
+numbered_back : (h : Held) (count : ℕ) (ws : List Store) (a : Awaited) → In a (numbered h true count ws) → IsPlanned h ws a
+unfolding numbered command sealed
+numbered_back h count [] a i = absurd i
+numbered_back h count (w ∷ ws) a (inl e) =
+    subst (IsPlanned h (w ∷ ws)) (sym e) (
+      w,
+      inl refl,
+      record {
+        ask = refl;
+        writes = refl;
+        write = refl;
+        drive = refl;
+        capability = refl;
+        partition = refl;
+        object = refl;
+        offset = refl;
+        payload = refl;
+      },
+    )
+numbered_back h count (w ∷ ws) a (inr i) = let r = numbered_back h (count + 1) ws a i in (r.0, inr r.1, r.2)
 
-all_write : (h : Held) (ws : List Store) (a : Awaited) → In a (write_commands h ws) → a.write ≡ true
+writes_back : (h : Held) (ws plan : List Store) → ((w : Store) → In w ws → In w plan) → (a : Awaited) →
+    In a (write_commands h ws) → IsPlanned h plan a
 unfolding write_commands
-all_write h ws a i = numbered_write h h.count ws a i
+writes_back h ws plan sub a i = let r = numbered_back h h.count ws a i in (r.0, sub r.0 r.1, r.2)
 
 awaited_behind : (h : Held) (xs ys : List Awaited) (w : Store) → IsAwaited h ys w → IsAwaited h (xs ++ ys) w
 awaited_behind h xs ys w (a, i, c) = (a, in_behind a xs ys i, c)
@@ -110,6 +128,22 @@ first_or_later seen (v ∷ ws) w i = elim (cases_Bool (among v.ask.component see
   ])
 ]
 
+firsts_in : (seen : List ℕ) (all : List Store) (w : Store) → In w (firsts seen all) → In w all
+unfolding firsts
+firsts_in seen [] w i = absurd i
+firsts_in seen (v ∷ ws) w i = elim (cases_Bool (among v.ask.component seen)) [
+  | inl t ↦ inr (firsts_in seen ws w (rw t at i))
+  | inr f ↦ elim (rw f at i) [ inl e ↦ inl e | inr later ↦ inr (firsts_in (v.ask.component ∷ seen) ws w later) ]
+]
+
+laters_in : (seen : List ℕ) (all : List Store) (w : Store) → In w (laters seen all) → In w all
+unfolding laters
+laters_in seen [] w i = absurd i
+laters_in seen (v ∷ ws) w i = elim (cases_Bool (among v.ask.component seen)) [
+  | inl t ↦ elim (rw t at i) [ inl e ↦ inl e | inr later ↦ inr (laters_in seen ws w later) ]
+  | inr f ↦ inr (laters_in (v.ask.component ∷ seen) ws w (rw f at i))
+]
+
 pub scatter_begins : (op : CallOp) (h : Held) (ms : List Met) (got : List Column) (timed : List TimedOut) →
     Gathering op h ms got timed → MayScatter h.map (span_of op) (bytes_of op) got (outs h timed) →
     Scattering op h ms timed
@@ -122,7 +156,9 @@ scatter_begins op h ms got timed x may = record {
   still = λ k i. i;
   read = x.read;
   may = may;
-  writes = λ a i. all_write h _ a i;
+  sent = λ a i. writes_back h _ _ (firsts_in [] (stores h.map (span_of op) (bytes_of op) got (outs h timed))) a i;
+  left = laters_in [] (stores h.map (span_of op) (bytes_of op) got (outs h timed));
+  alone = none_planned h (stores h.map (span_of op) (bytes_of op) got (outs h timed)) ms x.none;
   each = λ w i. elim (first_or_later [] (stores h.map (span_of op) (bytes_of op) got (outs h timed)) w i) [
     | inl a ↦ inr (inr (inl (writes_carry h _ w a)))
     | inr b ↦ inr (inr (inr b))
@@ -140,6 +176,22 @@ next_or_later k (v ∷ ws) w i = elim (cases_Bool (v.ask.component == k)) [
     | inl same ↦ inr (inl same)
     | inr later ↦ elim (next_or_later k ws w later) [ inl a ↦ inl a | inr b ↦ inr (inr b) ]
   ])
+]
+
+next_in : (k : ℕ) (ws : List Store) (x : Store) → In x (next_to k ws) → In x ws
+unfolding next_to
+next_in k [] x j = absurd j
+next_in k (w ∷ ws) x j = elim (cases_Bool (w.ask.component == k)) [
+  | inl t ↦ elim (rw t at j) [ inl e ↦ inl e | inr none ↦ absurd none ]
+  | inr f ↦ inr (next_in k ws x (rw f at j))
+]
+
+left_in : (k : ℕ) (ws : List Store) (x : Store) → In x (without_next k ws) → In x ws
+unfolding without_next
+left_in k [] x j = absurd j
+left_in k (w ∷ ws) x j = elim (cases_Bool (w.ask.component == k)) [
+  | inl t ↦ inr (rw t at j)
+  | inr f ↦ elim (rw f at j) [ inl e ↦ inl e | inr later ↦ inr (left_in k ws x later) ]
 ]
 
 -- a reply to a WRITE gives no bytes
@@ -168,12 +220,14 @@ scatter_replied op h ms timed awaited queue a r performed nonce there differ x =
   got = x.got;
   first = x.first;
   still = x.still;
-  read = x.read ∙ sym (writes_read_none a r ms (x.writes a there));
+  read = x.read ∙ sym (writes_read_none a r ms (x.sent a there).2.writes);
   may = x.may;
-  writes = λ b i. elim (in_either b (others awaited a.command.nonce) _ i) [
-    | inl old ↦ x.writes b (from_others b awaited a.command.nonce old).0
-    | inr new ↦ all_write h _ b new
+  sent = λ b i. elim (in_either b (others awaited a.command.nonce) _ i) [
+    | inl old ↦ x.sent b (from_others b awaited a.command.nonce old).0
+    | inr new ↦ writes_back h _ _ (λ w j. x.left w (next_in a.ask.component queue w j)) b new
   ];
+  left = λ w i. x.left w (left_in a.ask.component queue w i);
+  alone = (λ e. x.sent a there, x.alone);
   each = λ w i. by w (x.each w i);
 }
   where
@@ -203,7 +257,7 @@ pub next_behind : (h : Held) (awaited : List Awaited) (queue : List Store) (a : 
     (without_next a.ask.component queue)
 unfolding write_commands without_next next_to
 next_behind h awaited queue a differ behind q i =
-    let old : In q queue = left_in queue q i in
+    let old : In q queue = left_in a.ask.component queue q i in
     let b = behind q old in
     elim (cases_eq b.0.command.nonce a.command.nonce) [
       | inr other ↦ (
@@ -222,13 +276,6 @@ next_behind h awaited queue a differ behind q i =
           )
     ]
   where
-    left_in : (ws : List Store) (x : Store) → In x (without_next a.ask.component ws) → In x ws
-    left_in [] x j = absurd j
-    left_in (w ∷ ws) x j = elim (cases_Bool (w.ask.component == a.ask.component)) [
-      | inl t ↦ inr (rw t at j)
-      | inr f ↦ elim (rw f at j) [ inl e ↦ inl e | inr later ↦ inr (left_in ws x later) ]
-    ]
-
     some_next : (ws : List Store) (x : Store) → In x ws → x.ask.component ≡ a.ask.component →
         (w : Store) × In w (next_to a.ask.component ws) × (w.ask.component ≡ a.ask.component)
     some_next [] x j e = absurd j
@@ -259,7 +306,7 @@ pub gathering_timed : (op : CallOp) (h : Held) (ms : List Met) (got : List Colum
     Gathering op h (met.TimedOut h k ∷ ms) got (timed_after timed a xs)
 unfolding read_in
 gathering_timed op h ms got timed k ys a xs is x =
-    record { under = under_timed op h ms timed k ys a xs is x.under; read = x.read }
+    record { under = under_timed op h ms timed k ys a xs is x.under; read = x.read; none = x.none }
 
 others_of : (k n : ℕ) → (n ≡ k → ⊥) → not (n == k) ≡ true
 others_of k n ne = rw (ne_eqb n k ne) refl
@@ -277,7 +324,9 @@ scatter_silent op h ms timed awaited queue k a xs is x = record {
   still = λ j i. more j (x.still j i);
   read = x.read;
   may = x.may;
-  writes = λ b i. x.writes b (in_filtered (λ (y : Awaited). not (y.ask.component == k)) b awaited i).0;
+  sent = λ b i. x.sent b (in_filtered (λ (y : Awaited). not (y.ask.component == k)) b awaited i).0;
+  left = λ w i. x.left w (in_filtered (λ (y : Store). not (y.ask.component == k)) w queue i).0;
+  alone = x.alone;
   each = λ w i. by w (x.each w i);
 }
   where

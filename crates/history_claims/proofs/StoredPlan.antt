@@ -123,6 +123,22 @@ module _ (m : RawMap) (r : Span) (bytes : List ℕ) (got : List Column) (out : L
       slice_index y.bytes j ≡ word_for m r bytes got out (y.ask.component / replicas m) (y.ask.offset + j)) (sym x.2)
       (ask_word x.0 (every_in (IsForAsk m r out) (writes m r out) x.0 asks_are x.1))
 
+  -- each store for a place carries the same byte there
+  pub one_byte : (k z v : ℕ) → IsStoreOf m r bytes got out k z v → (w : Store) → In w (stores m r bytes got out) →
+      w.ask.component ≡ k → w.ask.offset ≤ z → z < w.ask.offset + length w.bytes →
+      v ≡ slice_index w.bytes (z - w.ask.offset)
+  one_byte k z v x w i is from to =
+      x.byte ∙ word x.store x.there x.component x.from x.to ∙ sym (word w i is from to)
+    where
+      word : (y : Store) → In y (stores m r bytes got out) → y.ask.component ≡ k → y.ask.offset ≤ z →
+          z < y.ask.offset + length y.bytes →
+          slice_index y.bytes (z - y.ask.offset) ≡ word_for m r bytes got out (k / replicas m) z
+      word y j e low high =
+          let on : y.ask.offset + (z - y.ask.offset) ≡ z = omega (arith, low) in
+          store_word y j (z - y.ask.offset) (omega (arith, low, high))
+          ∙ ap (λ c. word_for m r bytes got out (c / replicas m) (y.ask.offset + (z - y.ask.offset))) e
+          ∙ ap (word_for m r bytes got out (k / replicas m)) on
+
   -- ---- a changed byte of a unit
 
   module _ (s u b : ℕ) (wide : u < group_width m) (touched : IsTouchedStripe m r s) (within : IsWithin b (changed m r s u))

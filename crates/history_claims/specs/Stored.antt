@@ -45,11 +45,26 @@ IsKept h (Answered r a ∷ ms) k o v = IsKept h ms k o v
 IsKept h (Replied a r ∷ ms) k o v = Keeps h a r k o v ⊎ IsKept h ms k o v
 IsKept h (TimedOut g j ∷ ms) k o v = IsKept h ms k o v
 
--- byte v of unit u of stripe s, in column b, is kept by each replica of the unit's position that isn't out
+-- a WRITE for component k carries something at offset o
+pub record IsFor (a : Awaited) (k o : ℕ) : Type 0 where
+  pub component : a.ask.component ≡ k
+  pub write : a.command.action ≡ Write
+  pub first : a.command.offset ≤ o
+  pub end : o < a.command.offset + length a.command.payload
+
+-- no such WRITE of the call to which a reply was taken carries anything but v there
+abbrev pub IsAlone : List Met → (k o v : ℕ) → Type 0
+IsAlone [] k o v = Unit {0}
+IsAlone (Answered r a ∷ ms) k o v = IsAlone ms k o v
+IsAlone (Replied a r ∷ ms) k o v =
+    (IsFor a k o → v ≡ slice_index a.command.payload (o - a.command.offset)) × IsAlone ms k o v
+IsAlone (TimedOut g j ∷ ms) k o v = IsAlone ms k o v
+
+-- byte v of unit u of stripe s, in column b, is kept by each replica of the unit's position that isn't out, and nothing else
 abbrev pub IsStored : Held → List Met → (s u b v : ℕ) → Type 0
 IsStored h ms s u b v =
     (k : ℕ) → k < h.map.comps → k / replicas h.map ≡ position_of h.map s u → among k (out_in h ms) ≡ false →
-    IsKept h ms k (offset_of h.map s b) v
+    IsKept h ms k (offset_of h.map s b) v × IsAlone ms k (offset_of h.map s b) v
 
 -- and it is the byte there of each file that agrees with what the call read of the drives, with the call's bytes written over
 abbrev pub FitsReplies : Held → CallOp → List Met → (s u b v : ℕ) → Type 0
