@@ -220,7 +220,14 @@ more_none ms = record { done = λ h w x. x; alike = λ h x. x; silent = refl; re
 
 pub more_answered : (r : Request) (a : Answer) (ms : List Met) → IsMore ms (Answered r a ∷ ms)
 unfolding timed_in read_in
-more_answered r a ms = record { done = λ h w x. x; alike = λ h x. x; silent = refl; read = refl; none = λ x. x; planned = λ h p x. x }
+more_answered r a ms = record {
+  done = λ h w x. x;
+  alike = λ h x. x;
+  silent = refl;
+  read = refl;
+  none = λ x. x;
+  planned = λ h p x. x;
+}
 
 pub under_replied : (op : CallOp) (h : Held) (ms : List Met) (timed : List TimedOut) (a : Awaited) (r : Reply) →
     Under op h ms timed → Under op h (Replied a r ∷ ms) timed
