@@ -19,6 +19,7 @@ pub mod StoredCalls
 pub mod StoredSteps
 pub mod StoredInputs
 pub mod StoredLines
+mod RowsStored
 pub mod OwnEntries
 pub mod Numbers
 pub mod PlainLogged

@@ -1,5 +1,5 @@
 -- What a call has stored between the steps of its client; and a report that is taken ends a write that has stored its bytes.
-use Rattle.std.proofs.Common.{◌≡◌, ◌⊎◌, ◌==◌, nat_lt, ℕ, Bool, true, false, List, [], ◌∷◌, map, Option, Some, None, refl, sym, ap, subst, ◌∙◌, inl, inr}
+use Rattle.std.proofs.Common.{◌≡◌, ◌⊎◌, nat_lt, ℕ, true, List, [], ◌∷◌, map, Option, Some, None, refl, sym, ap, subst, ◌∙◌, inl, inr}
 use Rattle.std.proofs.lemmas.Bool.{cases_Bool}
 use Rattle.server_rules.specs.Laws.{In}
 use Rattle.client_rules.specs.Answers.{is_loss_taken}
@@ -13,8 +13,8 @@ use Rattle.cause_law.specs.Met as met
 use Rattle.cause_law.specs.Met.{Met, Answered, Replied, rising_with, timed_in}
 use Rattle.cause_law.proofs.Trace.{comps}
 use Rattle.history_claims.specs.Stored.{HasStored}
-use Rattle.history_claims.proofs.StoredParts.{AreAlike, Under, Scattering, Scattered, IsMore, more_answered, under_more, scattering_again, scattering_more, are_stored}
-use Rattle.history_claims.proofs.StoredDealings.{Reporting, Last}
+use Rattle.history_claims.proofs.StoredParts.{AreAlike, Gathering, Scattering, Scattered, IsMore, more_answered, gathering_more, scattering_again, scattering_more, are_stored}
+use Rattle.history_claims.proofs.StoredDealings.{Reporting, IsQuiet, Last}
 
 -- ---- a call between steps
 
@@ -28,26 +28,26 @@ AsksReport op h timed None = ⊥
 AsksReport op h timed (Some r) = (r.file ≡ file_of op) × (r.args ≡ return_args h.number (report_of h timed))
 
 abbrev pub NeedStored : List Held → CallOp → List Met → Need → Type 0
-NeedStored hs op ms First = timed_in ms ≡ []
-NeedStored hs op ms (Get tries) = timed_in ms ≡ []
+NeedStored hs op ms First = IsQuiet ms
+NeedStored hs op ms (Get tries) = IsQuiet ms
 NeedStored hs op ms (Commit timed) = HasGrant hs op (λ h. Scattered op h ms timed)
 NeedStored hs op ms (Report timed) = HasGrant hs op (λ h. Reporting op h ms timed)
 NeedStored hs op ms (Close outcome report) = Unit {0}
 
 abbrev pub WaitStored : List Held → Option Request → CallOp → List Met → Need → Type 0
-WaitStored hs out op ms First = timed_in ms ≡ []
-WaitStored hs out op ms (Get tries) = timed_in ms ≡ []
+WaitStored hs out op ms First = IsQuiet ms
+WaitStored hs out op ms (Get tries) = IsQuiet ms
 WaitStored hs out op ms (Commit timed) = HasGrant hs op (λ h. Scattered op h ms timed)
 WaitStored hs out op ms (Report timed) = (h : Held) × Reporting op h ms timed × AsksReport op h timed out
 WaitStored hs out op ms (Close outcome report) = Unit {0}
 
 abbrev pub PhaseStored : List Held → Option Request → CallOp → List Met → Phase → Type 0
-PhaseStored hs out op ms Starts = timed_in ms ≡ []
+PhaseStored hs out op ms Starts = IsQuiet ms
 PhaseStored hs out op ms (Needs need) = NeedStored hs op ms need
 PhaseStored hs out op ms (Waits need) = WaitStored hs out op ms need
 PhaseStored hs out op ms (Reads io) = Unit {0}
 PhaseStored hs out op ms (Probes io) = Unit {0}
-PhaseStored hs out op ms (Gathers io) = HasGrant hs op (λ h. Under op h ms io.timed)
+PhaseStored hs out op ms (Gathers io) = HasGrant hs op (λ h. Gathering op h ms io.got io.timed)
 PhaseStored hs out op ms (Scatters io queue) = HasGrant hs op (λ h. Scattering op h ms io.timed io.awaited queue)
 
 abbrev pub CallStored : List Held → Option Request → List Met → Option Call → Type 0
@@ -65,27 +65,30 @@ module _ (hs : List Held) (op : CallOp) (ms later : List Met) (m : IsMore ms lat
     there = x.there;
   }
 
+  pub quiet_more : IsQuiet ms → IsQuiet later
+  quiet_more x = (m.silent ∙ x.0, m.read ∙ x.1, m.none x.2)
+
   need_more : (n : Need) → NeedStored hs op ms n → NeedStored hs op later n
-  need_more First x = m.silent ∙ x
-  need_more (Get tries) x = m.silent ∙ x
+  need_more First x = quiet_more x
+  need_more (Get tries) x = quiet_more x
   need_more (Commit timed) x = (x.0, x.1, scattering_more op x.0 ms later timed [] [] m x.2)
   need_more (Report timed) x = (x.0, x.1, reporting_more x.0 timed x.2)
   need_more (Close o report) x = tt
 
   wait_more : (out : Option Request) (n : Need) → WaitStored hs out op ms n → WaitStored hs out op later n
-  wait_more out First x = m.silent ∙ x
-  wait_more out (Get tries) x = m.silent ∙ x
+  wait_more out First x = quiet_more x
+  wait_more out (Get tries) x = quiet_more x
   wait_more out (Commit timed) x = (x.0, x.1, scattering_more op x.0 ms later timed [] [] m x.2)
   wait_more out (Report timed) x = (x.0, reporting_more x.0 timed x.1, x.2)
   wait_more out (Close o report) x = tt
 
   phase_more : (out : Option Request) (p : Phase) → PhaseStored hs out op ms p → PhaseStored hs out op later p
-  phase_more out Starts x = m.silent ∙ x
+  phase_more out Starts x = quiet_more x
   phase_more out (Needs n) x = need_more n x
   phase_more out (Waits n) x = wait_more out n x
   phase_more out (Reads io) x = tt
   phase_more out (Probes io) x = tt
-  phase_more out (Gathers io) x = (x.0, x.1, under_more op x.0 ms later io.timed m x.2)
+  phase_more out (Gathers io) x = (x.0, x.1, gathering_more op x.0 ms later io.got io.timed m x.2)
   phase_more out (Scatters io queue) x = (x.0, x.1, scattering_more op x.0 ms later io.timed io.awaited queue m x.2)
 
 pub call_more : (hs : List Held) (out : Option Request) (ms later : List Met) → IsMore ms later → (o : Option Call) →
@@ -143,6 +146,7 @@ report_ends before mine op h ms timed r a is some x asks took =
       write = x.scattered.under.write;
       held = record h { count = t.0; size = t.1 };
       under = inr (x.component, inr t.2);
+      checked = x.checked;
       stored = are_stored op (record h { count = t.0; size = t.1 }) (Answered r a ∷ ms) timed x.checked
           (some x.scattered.under.write)
           (scattering_again op h t.0 t.1 (Answered r a ∷ ms) timed [] []

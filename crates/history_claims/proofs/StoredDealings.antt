@@ -1,34 +1,42 @@
 -- What a call's dealings with the drives keep of what it stores; and a write that they end with an acknowledgement has stored
 -- its bytes.
-use Rattle.std.proofs.Common.{◌≡◌, ◌⊎◌, ◌==◌, ◌+◌, ◌++◌, ℕ, Bool, true, false, List, [], ◌∷◌, length, Option, Some, None, refl, sym, ap, subst, ◌∙◌, inl, inr, if◌then◌else◌}
+use Rattle.std.proofs.Common.{◌≡◌, ◌⊎◌, ◌==◌, ◌+◌, ◌++◌, ℕ, Bool, true, false, List, [], ◌∷◌, length, Option, Some, None, refl, sym, ap, ◌∙◌, inl, inr, if◌then◌else◌}
 use Rattle.std.proofs.lemmas.Bool.{eqb-true}
 use Rattle.data_map.specs.Check.{IsChecked}
 use Rattle.server_rules.specs.Laws.{In}
 use Rattle.stripe_plan.specs.Plans.{stores}
 use Rattle.client_rules.specs.declared.limits.TheConstants.{PERFORMED, OTHER_TAG}
 use Rattle.client_rules.specs.Calls.{file_of, span_of, bytes_of, is_write}
-use Rattle.client_rules.specs.Commands.{write_commands, counted, others, not_of, of_component}
+use Rattle.client_rules.specs.Commands.{command, sealed, nonce_at, write_commands, not_of, of_component}
 use Rattle.client_rules.specs.Going.{begins}
-use Rattle.client_rules.specs.Grants.{clipped, held_of}
-use Rattle.client_rules.specs.Io.{awaited_in, outs}
+use Rattle.client_rules.specs.Grants.{clipped, covers, held_of}
+use Rattle.client_rules.specs.Io.{awaited_in, got_of, outs}
 use Rattle.client_rules.specs.Laws.{Awaiting}
 use Rattle.client_rules.specs.Reads.{reads_on, reads_unless, reads, probes_sent, probes_on, probes_by, probes, is_probe_lost}
 use Rattle.client_rules.specs.Replies.{performed, refusal, refused_report, refused, replied, timed_after, gather_timed, scatter_timed, timed_out}
 use Rattle.client_rules.specs.Requests.{report_of}
 use Rattle.client_rules.specs.Turns.{turned, ended, needing, closing}
 use Rattle.client_rules.specs.Writes.{accounted, is_past_size, written, firsts, laters, scatters_on, scatters, scatters_next, gathers_on, gathers, is_too_short, without_component}
-use Rattle.gather_law.specs.Ready.{IsSome}
+use Rattle.gather_law.specs.Ready.{AreBelow, IsReady, IsSome}
+use Rattle.gather_law.proofs.Gathered.{below_to, below_from, fetched, ready_sent, ready_replied, long_enough}
+use Rattle.exchange_law.proofs.Had.{rest_below}
+use Rattle.exchange_law.proofs.PlaceMoving.{covered}
+use Rattle.plan_law.specs.Sending.{MayScatter}
+use Rattle.stripe_plan.specs.Lost.{unwritable}
+use Rattle.stripe_plan.specs.Touched.{stripes}
 use Rattle.world_history.specs.ClientNames.{CallOp, Held, Awaited, TimedOut, Store, Column, Span, Moved, Reply, Need, First, Get, Commit, Report, Close, Phase, Starts, Needs, Waits, Reads, Probes, Gathers, Scatters, Outcome, WriteOk, Silent, Lost, Turn, Goes, Ends, Forgets}
 use Rattle.cause_law.specs.Met as met
 use Rattle.cause_law.specs.Met.{Met, Replied, timed_in}
+use Rattle.cause_law.specs.Read.{read_in}
 use Rattle.cause_law.specs.ReadCalls.{LastStep}
 use Rattle.cause_law.proofs.Trace.{comps}
 use Rattle.relation_law.specs.CallsTurns.{WritesSome, ReplyFits, TimeFits, IsQueueBehind}
 use Rattle.relation_law.proofs.CallsMoved.{first_sent}
-use Rattle.relation_law.proofs.Works.{first_behind}
+use Rattle.relation_law.proofs.MessagesClients.{IsUsable, IsFit}
+use Rattle.relation_law.proofs.MessagesGathers.{HasBytes, begin_writable}
 use Rattle.history_claims.specs.Stored.{HasStored}
-use Rattle.history_claims.proofs.StoredParts.{Stands, Under, Scattering, Scattered, under_again, scattering_again, more_replied, under_more, are_stored}
-use Rattle.history_claims.proofs.StoredMoves.{quiet_alike, scatter_begins, scatter_replied, next_behind, under_timed, scatter_silent, left_behind}
+use Rattle.history_claims.proofs.StoredParts.{NoneWritten, Stands, Gathering, Scattering, Scattered, gathering_again, scattering_again, under_replied, are_stored}
+use Rattle.history_claims.proofs.StoredMoves.{quiet_alike, scatter_begins, reads_more, scatter_replied, next_behind, gathering_timed, scatter_silent, left_behind}
 use Rattle.history_claims.proofs.Wrote.{IsNoOk}
 
 -- ---- a phase under the grant
@@ -54,8 +62,12 @@ PhaseUnder op h ms (Needs need) = NeedUnder op h ms need
 PhaseUnder op h ms (Waits need) = ⊥
 PhaseUnder op h ms (Reads io) = Unit {0}
 PhaseUnder op h ms (Probes io) = Unit {0}
-PhaseUnder op h ms (Gathers io) = Under op h ms io.timed
+PhaseUnder op h ms (Gathers io) = Gathering op h ms io.got io.timed
 PhaseUnder op h ms (Scatters io queue) = Scattering op h ms io.timed io.awaited queue
+
+-- no component timed out, nothing was read, and nothing was written
+abbrev pub IsQuiet : List Met → Type 0
+IsQuiet ms = (timed_in ms ≡ []) × (read_in ms ≡ []) × NoneWritten ms
 
 -- ---- a step that began with these grants and is about this call, which has met all this
 
@@ -128,13 +140,14 @@ module _ (before : List Held) (mine : Option CallOp) where
       abbrev left_to : List Column → List TimedOut → List Store
       left_to got timed = laters [] (stores h.map (span_of op) (bytes_of op) got (outs h timed))
 
-      scatters_stored : (got : List Column) (timed : List TimedOut) → Under op h ms timed → WritesSome h op timed →
+      scatters_stored : (got : List Column) (timed : List TimedOut) → Gathering op h ms got timed →
+          MayScatter h.map (span_of op) (bytes_of op) got (outs h timed) → WritesSome h op timed →
           MovedStored op (scatters h op got timed)
       unfolding scatters scatters_on
-      scatters_stored got timed under some =
+      scatters_stored got timed g may some =
           by_first (write_commands h (firsts [] (stores h.map (span_of op) (bytes_of op) got (outs h timed))))
           (first_sent h (stores h.map (span_of op) (bytes_of op) got (outs h timed)) (some got))
-          (scatter_begins op h ms got timed under)
+          (scatter_begins op h ms got timed g may)
         where
           by_first : (cs : List Awaited) → Awaiting cs → Scattering op h ms timed cs (left_to got timed) →
               MovedStored op (scatters_on h op timed (left_to got timed) cs cs)
@@ -142,28 +155,48 @@ module _ (before : List Held) (mine : Option CallOp) where
           by_first (a ∷ cs) z x =
               scattering_again op h (h.count + length (a ∷ cs)) h.size ms timed (a ∷ cs) (left_to got timed) x
 
-      gathers_on_stored : (got : List Column) (timed : List TimedOut) (sent awaited : List Awaited) → Under op h ms timed →
-          WritesSome h op timed → MovedStored op (gathers_on h op got timed sent awaited)
-      unfolding gathers_on
-      gathers_on_stored got timed sent [] under some = scatters_stored got timed under some
-      gathers_on_stored got timed sent (a ∷ xs) under some = under_again op h (h.count + length sent) h.size ms timed under
+      -- it has bytes, and a map that can be used
+      module _ (ch : IsChecked h.map) (has : IsSome op) where
+        gathers_on_stored : (got : List Column) (timed : List TimedOut) (sent awaited : List Awaited) (top : ℕ) →
+            Gathering op h ms got timed → IsReady h.map (span_of op) (outs h timed) got awaited top → WritesSome h op timed →
+            MovedStored op (gathers_on h op got timed sent awaited)
+        unfolding gathers_on
+        gathers_on_stored got timed sent [] top g ready some =
+            scatters_stored got timed g
+            (record {
+              checked = ch;
+              long = has.long;
+              can = ready.can;
+              fetched = fetched h.map (span_of op) (outs h timed) got top ready;
+            }) some
+        gathers_on_stored got timed sent (a ∷ xs) top g ready some =
+            gathering_again op h (h.count + length sent) h.size ms got timed g
 
-      gathers_stored : (got : List Column) (timed : List TimedOut) (awaited : List Awaited) → Under op h ms timed →
-          WritesSome h op timed → MovedStored op (gathers h op got timed awaited)
-      unfolding gathers
-      gathers_stored got timed awaited under some = gathers_on_stored got timed _ _ under some
+        gathers_stored : (got : List Column) (timed : List TimedOut) (awaited : List Awaited) → Gathering op h ms got timed →
+            unwritable h.map (outs h timed) (stripes h.map (span_of op)) ≡ None → AreBelow (nonce_at h h.count) awaited →
+            WritesSome h op timed → MovedStored op (gathers h op got timed awaited)
+        unfolding gathers
+        gathers_stored got timed awaited g can below some =
+            gathers_on_stored got timed _ _ _ g (ready_sent h (span_of op) got timed awaited has.some can below) some
 
       -- ---- a call begins, where nothing timed out yet
 
-      pub begins_stored : timed_in ms ≡ [] → (is_write op ≡ true → WritesSome h op []) → MovedStored op (begins h op)
+      pub begins_stored : IsQuiet ms → IsUsable h → HasBytes op → covers h op ≡ true →
+          (is_write op ≡ true → WritesSome h op []) → MovedStored op (begins h op)
       unfolding begins
-      begins_stored quiet some = by (is_write op) ((clipped h.size (span_of op)).length == 0) refl
+      begins_stored quiet usable has cover some = by (is_write op) ((clipped h.size (span_of op)).length == 0) refl
         where
           by : (b n : Bool) → is_write op ≡ b → MovedStored op
               (if b then gathers h op [] [] []
               else if n then probes h [] [] [] else reads h (clipped h.size (span_of op)) [] [] [])
           by true n is =
-              gathers_stored [] [] [] (record { write = is; alike = quiet_alike h ms quiet; silent = quiet }) (some is)
+              gathers_stored usable.checked (has.some is) [] [] []
+              (record {
+                under = record { write = is; alike = quiet_alike h ms quiet.0; silent = quiet.0 };
+                read = sym quiet.1;
+                none = quiet.2;
+              })
+              (begin_writable h op usable is (covered h op cover)) (record { differ = tt; below = λ a i. absurd i }) (some is)
           by false true is = probes_stored [] [] []
           by false false is = reads_stored (clipped h.size (span_of op)) [] [] []
 
@@ -178,6 +211,7 @@ module _ (before : List Held) (mine : Option CallOp) where
           write = x.under.write;
           held = h;
           under = inl own.held;
+          checked = own.checked;
           stored = are_stored op h ms [] own.checked (own.some x.under.write) x;
           reported = inl x.under.silent;
         }
@@ -210,6 +244,11 @@ module _ (before : List Held) (mine : Option CallOp) where
           got = x.got;
           first = x.first;
           still = x.still;
+          read = x.read;
+          may = x.may;
+          sent = λ a i. absurd i;
+          left = λ w i. absurd i;
+          alone = x.alone;
           each = λ w i. by w (x.each w i);
         }
           where
@@ -236,19 +275,25 @@ module _ (before : List Held) (mine : Option CallOp) where
       replied_to = Replied a q ∷ ms
 
       performed_stored : (p : Phase) → q.verdict ≡ PERFORMED → In a (awaited_in p) → PhaseUnder op h ms p →
-          ReplyFits h op p a → MovedStored replied_to op (performed h op p a q)
-      unfolding scatters_next
-      performed_stored Starts done i x fits = absurd i
-      performed_stored (Needs n) done i x fits = absurd i
-      performed_stored (Waits n) done i x fits = absurd i
-      performed_stored (Reads io) done i x fits = reads_on_stored replied_to op h _ _ _ _ _
-      performed_stored (Probes io) done i x fits = probes_on_stored replied_to op h _ _ _ _
-      performed_stored (Gathers io) done i x fits =
-          gathers_on_stored replied_to op h _ io.timed _ _
-          (under_more op h ms replied_to io.timed (more_replied a q ms) x) fits
-      performed_stored (Scatters io queue) done i x fits =
+          IsFit h op p → ReplyFits h op p a → MovedStored replied_to op (performed h op p a q)
+      unfolding scatters_next command sealed
+      performed_stored Starts done i x fit fits = absurd i
+      performed_stored (Needs n) done i x fit fits = absurd i
+      performed_stored (Waits n) done i x fit fits = absurd i
+      performed_stored (Reads io) done i x fit fits = reads_on_stored replied_to op h _ _ _ _ _
+      performed_stored (Probes io) done i x fit fits = probes_on_stored replied_to op h _ _ _ _
+      performed_stored (Gathers io) done i x fit fits =
+          let read : a.write ≡ false = ap (λ (y : Awaited). y.write) (fit.reads a i).is in
+          gathers_on_stored replied_to op h own.checked fit.some (io.got ++ got_of a q ∷ []) io.timed _ _ (nonce_at h h.count)
+          (record {
+            under = under_replied op h ms io.timed a q x.under;
+            read = ap (λ (cs : List Column). cs ++ got_of a q ∷ []) x.read ∙ sym (reads_more a q ms done read);
+            none = (λ e. absurd (cc (sym e ∙ ap (λ (y : Awaited). y.command.action) (fit.reads a i).is)), x.none);
+          })
+          (ready_replied h.map (span_of op) (outs h io.timed) io.got io.awaited a q (nonce_at h h.count) i fit.ready) fits
+      performed_stored (Scatters io queue) done i x fit fits =
           scatters_on_stored replied_to op h own io.timed _ _ _ (next_behind h io.awaited queue a fits.1 fits.2)
-          (scatter_replied op h ms io.timed io.awaited queue a q done nonce fits.1 x)
+          (scatter_replied op h ms io.timed io.awaited queue a q done nonce i fits.1 x)
 
       refused_stored : (p : Phase) → MovedStored replied_to op (refused h p a q)
       unfolding refused
@@ -259,14 +304,14 @@ module _ (before : List Held) (mine : Option CallOp) where
           by true = tt
           by false = tt
 
-      pub replied_stored : (p : Phase) → In a (awaited_in p) → PhaseUnder op h ms p → ReplyFits h op p a →
+      pub replied_stored : (p : Phase) → In a (awaited_in p) → PhaseUnder op h ms p → IsFit h op p → ReplyFits h op p a →
           MovedStored replied_to op (replied h op p a q)
       unfolding replied
-      replied_stored p i x fits = by (q.verdict == PERFORMED) refl
+      replied_stored p i x fit fits = by (q.verdict == PERFORMED) refl
         where
           by : (b : Bool) → (q.verdict == PERFORMED) ≡ b →
               MovedStored replied_to op (if b then performed h op p a q else refused h p a q)
-          by true e = performed_stored p (eqb-true q.verdict PERFORMED e) i x fits
+          by true e = performed_stored p (eqb-true q.verdict PERFORMED e) i x fit fits
           by false e = refused_stored p
 
     module _ (k : ℕ) (a : Awaited) (xs : List Awaited) where
@@ -274,21 +319,23 @@ module _ (before : List Held) (mine : Option CallOp) where
       silent = met.TimedOut h k ∷ ms
 
       pub timed_stored : (p : Phase) → of_component k (awaited_in p) ≡ a ∷ xs → PhaseUnder op h ms p →
-          TimeFits h op p a xs → MovedStored silent op (timed_out h op p k a xs)
+          IsFit h op p → TimeFits h op p a xs → MovedStored silent op (timed_out h op p k a xs)
       unfolding gather_timed scatter_timed of_component
-      timed_stored Starts is x fits = absurd (cc is)
-      timed_stored (Needs n) is x fits = absurd (cc is)
-      timed_stored (Waits n) is x fits = absurd (cc is)
-      timed_stored (Reads io) is x fits = reads_stored silent op h _ _ _ _
-      timed_stored (Probes io) is x fits = probes_stored silent op h _ _ _
-      timed_stored (Gathers io) is x fits = by (is_too_short h op (timed_after io.timed a xs)) fits
+      timed_stored Starts is x fit fits = absurd (cc is)
+      timed_stored (Needs n) is x fit fits = absurd (cc is)
+      timed_stored (Waits n) is x fit fits = absurd (cc is)
+      timed_stored (Reads io) is x fit fits = reads_stored silent op h _ _ _ _
+      timed_stored (Probes io) is x fit fits = probes_stored silent op h _ _ _
+      timed_stored (Gathers io) is x fit fits = by (is_too_short h op (timed_after io.timed a xs)) refl
         where
-          by : (b : Bool) → (b ≡ false → WritesSome h op (timed_after io.timed a xs)) → MovedStored silent op
+          by : (b : Bool) → is_too_short h op (timed_after io.timed a xs) ≡ b → MovedStored silent op
               (if b then ended h (Silent k) else gathers h op io.got (timed_after io.timed a xs) (not_of k io.awaited))
-          by true some = tt
-          by false some =
-              gathers_stored silent op h io.got _ _ (under_timed op h ms io.timed k io.awaited a xs is x) (some refl)
-      timed_stored (Scatters io queue) is x fits = by (is_too_short h op (timed_after io.timed a xs))
+          by true e = tt
+          by false e =
+              gathers_stored silent op h own.checked fit.some io.got (timed_after io.timed a xs) (not_of k io.awaited)
+              (gathering_timed op h ms io.got io.timed k io.awaited a xs is x) (long_enough h op (timed_after io.timed a xs) e)
+              (below_from _ _ (rest_below (nonce_at h h.count) k io.awaited (below_to _ io.awaited fit.ready.nonces))) (fits e)
+      timed_stored (Scatters io queue) is x fit fits = by (is_too_short h op (timed_after io.timed a xs))
         where
           by : (b : Bool) → MovedStored silent op
               (if b then turned h (closing (Silent k) (report_of h (timed_after io.timed a xs)))

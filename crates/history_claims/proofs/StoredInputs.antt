@@ -1,8 +1,9 @@
 -- So it is whatever comes to the client: an answer, a reply, a timeout, or anything else.
-use Rattle.std.proofs.Common.{◌≡◌, ◌⊎◌, ◌==◌, ◌+◌, nat_lt, ℕ, Bool, true, false, List, [], ◌∷◌, is_some, Option, Some, None, Result, Ok, Err, refl, sym, ap, subst, ◌∙◌, inl, inr, find, if◌then◌else◌}
+use Rattle.std.proofs.Common.{◌≡◌, ◌==◌, ℕ, Bool, true, false, List, [], ◌∷◌, is_some, Option, Some, None, Ok, Err, refl, sym, ap, subst, ◌∙◌, inl, inr, find, if◌then◌else◌}
 use Rattle.std.specs.Prelude.{option_map}
 use Rattle.std.proofs.lemmas.Bool.{cases_Bool}
-use Rattle.osd_lists.specs.declared.node.Node.TheVariants.{Drive as FromDrive}
+use Rattle.osd_lists.specs.declared.node.Node.{Node}
+use Rattle.osd_lists.specs.declared.node.Node.TheVariants.{Server as FromServer, Drive as FromDrive, Client as FromClient}
 use Rattle.layout_ops.specs.declared.statuses.TheConstants.{NFS4_OK, NFS4ERR_BADLAYOUT}
 use Rattle.server_rules.specs.Laws.{In}
 use Rattle.server_rules.proofs.Members.{in_filtered}
@@ -13,7 +14,7 @@ use Rattle.client_rules.specs.Going.{quiet, moved}
 use Rattle.client_rules.specs.Grants.{held_of}
 use Rattle.client_rules.specs.History.{Input, Calls, Hears, TimesOut, Leaves, Resends, unless_refused, step}
 use Rattle.client_rules.specs.Io.{awaited_in}
-use Rattle.client_rules.specs.Messages.{Replies, Taken, TakesAnswer, TakesReply, TakesRecall, Step, awaited_of, reply_taken, takes, still, finished, commit_under, on_need, on_phase, on_call, obeys, no_match}
+use Rattle.client_rules.specs.Messages.{Message, Replies, Answers, Recalls, Taken, TakesAnswer, TakesRecall, Step, is_awaited, awaited_of, answer_taken, reply_taken, reply_under, reply_call, takes, by_taken, hears, still, finished, commit_under, on_need, on_phase, on_call, obeys, no_match}
 use Rattle.client_rules.specs.Replies.{answers, replied, timed_out}
 use Rattle.client_rules.specs.Results.{status_of}
 use Rattle.client_rules.specs.Steps.{is_bad_range, is_spent, writes_nothing, calls, timeout_under, timeout_call, times_out, all_due}
@@ -21,20 +22,22 @@ use Rattle.client_rules.specs.Turns.{turned}
 use Rattle.client_rules.specs.Writes.{lowest}
 use Rattle.history_law.specs.Turns.{TurnCases, IsReplied, IsTimed, with_start}
 use Rattle.history_law.proofs.Turns.{each_turn}
-use Rattle.world_history.specs.ClientNames.{Client, Call, CallOp, Busy, BadRange, SlotSpent, Held, Awaited, TimedOut, Request, Answer, Reply, Need, First, Get, Commit, Report, Close, Phase, Starts, Needs, Waits, Reads, Probes, Gathers, Scatters, Outcome, WriteOk, Status, Silent, Turn, Ends, Forgets, Done}
+use Rattle.world_history.specs.ClientNames.{Client, Call, CallOp, Busy, BadRange, SlotSpent, Held, Awaited, TimedOut, Request, Answer, Recall, Reply, Need, First, Get, Commit, Report, Close, Phase, Starts, Needs, Waits, Reads, Probes, Gathers, Scatters, WriteOk, Status, Silent, Ends, Forgets, Done}
 use Rattle.cause_law.specs.Met as met
 use Rattle.cause_law.specs.Met.{Met, Answered, Replied, since, with_answer, with_taken, with_timeout, with_silence, met_after, timed_in}
 use Rattle.cause_law.specs.Caused.{call_in}
+use Rattle.cause_law.specs.Read.{read_in}
 use Rattle.cause_law.proofs.Fetching.{nonce_is}
 use Rattle.relation_law.proofs.MessagesAlways.{Any, found_one, on_call_fine, quiet_fine, has_bytes, replied_done, timed_done}
-use Rattle.relation_law.proofs.MessagesRun.{FineDone, call_bytes}
+use Rattle.relation_law.proofs.MessagesRun.{FineDone, CallFits, call_bytes}
+use Rattle.relation_law.proofs.MessagesClients.{IsFit}
 use Rattle.relation_law.proofs.OwnFacts.{replied_fits, timed_fits}
 use Rattle.relation_law.proofs.RequestsDealt.{file_of_moved, replied_file, timed_out_file}
-use Rattle.history_claims.proofs.StoredParts.{IsMore, more_none, more_answered, more_replied, scattering_more}
-use Rattle.history_claims.proofs.StoredDealings.{PhaseUnder, IsOwn, IsEnd, MovedStored, accounted_stored, replied_stored, timed_stored}
-use Rattle.history_claims.proofs.StoredCalls.{WaitStored, PhaseStored, CallStored, call_more, report_ends}
+use Rattle.history_claims.proofs.StoredParts.{IsMore, more_none, more_answered, scattering_more}
+use Rattle.history_claims.proofs.StoredDealings.{IsQuiet, PhaseUnder, IsOwn, IsEnd, MovedStored, accounted_stored, replied_stored, timed_stored}
+use Rattle.history_claims.proofs.StoredCalls.{WaitStored, PhaseStored, CallStored, quiet_more, call_more, report_ends}
 use Rattle.history_claims.proofs.StoredSteps.{EndsStored, Stored, StepStored, no_ok, moved_stored, finished_stored, get_stored}
-use Rattle.history_claims.proofs.Wrote.{IsNoOk, IsSound, PhaseSo, CallSo, HasScattered}
+use Rattle.history_claims.proofs.Wrote.{IsNoOk, IsSound, CallSo, HasScattered}
 
 -- a phase that awaits something works under the grant on its file
 held_phase : (hs : List Held) (out : Option Request) (op : CallOp) (h : Held) (ms : List Met) (a : Awaited) (p : Phase) →
@@ -49,21 +52,14 @@ held_phase hs out op h ms a (Gathers io) e i x =
 held_phase hs out op h ms a (Scatters io queue) e i x =
     let same : x.0 ≡ h = cc (sym x.1 ∙ e) in subst (λ (y : Held). PhaseUnder op y ms (Scatters io queue)) same x.2
 
--- a reply to what the call awaits is taken
-takes_reply : (x : Client) (drive : ℕ) (q : Reply) (call : Call) (a : Awaited) → x.call ≡ Some call →
-    find (answers drive q) (awaited_in call.phase) ≡ Some a → takes x (FromDrive drive) (Replies q) ≡ Some (TakesReply a q)
-unfolding takes
-takes_reply x drive q call a is awaits =
-    ap (λ (o : Option Call). reply_taken q (find (answers drive q) (awaited_of o))) is ∙ ap (reply_taken q) awaits
-
 -- the first that is awaited of a component is awaited
 first_awaited : (k : ℕ) (all : List Awaited) (a : Awaited) (xs : List Awaited) → of_component k all ≡ a ∷ xs → In a all
 unfolding of_component
 first_awaited k all a xs e = (in_filtered (is_of k) a all (subst (In a) (sym e) (inl refl))).0
 
-nothing_silent : (ms : List Met) → ms ≡ [] → timed_in ms ≡ []
-unfolding timed_in
-nothing_silent ms e = rw e refl
+nothing_met : (ms : List Met) → ms ≡ [] → IsQuiet ms
+unfolding timed_in read_in
+nothing_met ms e = rw e (refl, refl, tt)
 
 module _ (x : Client) (ms : List Met) (s : IsSound x) (y : CallStored x.held x.outstanding (since x.call ms) x.call) where
   abbrev mine : Option CallOp
@@ -78,6 +74,10 @@ module _ (x : Client) (ms : List Met) (s : IsSound x) (y : CallStored x.held x.o
 
   its_op : (call : Call) → x.call ≡ Some call → mine ≡ Some call.op
   its_op call is = ap (option_map (λ (c : Call). c.op)) is
+
+  its_fit : (call : Call) (h : Held) → x.call ≡ Some call → held_of x.held (file_of call.op) ≡ Some h →
+      IsFit h call.op call.phase
+  its_fit call h is held = (subst (CallFits x.held) is s.fine.call).1 h held
 
   its_own : (call : Call) (h : Held) → x.call ≡ Some call → held_of x.held (file_of call.op) ≡ Some h →
       IsOwn x.held mine call.op h
@@ -102,6 +102,9 @@ module _ (x : Client) (ms : List Met) (s : IsSound x) (y : CallStored x.held x.o
 
     abbrev Lasts : Done → Type 0
     Lasts e = Stored x.held mine answered e
+
+    its_quiet : (op : CallOp) → IsQuiet older → IsQuiet answered
+    its_quiet op z = quiet_more x.held op older answered m z
 
     commit_stored : (op : CallOp) (timed : List TimedOut) → x.call ≡ Some (record { op = op; phase = Waits (Commit timed) }) →
         WaitStored x.held (Some r) op older (Commit timed) →
@@ -139,8 +142,8 @@ module _ (x : Client) (ms : List Met) (s : IsSound x) (y : CallStored x.held x.o
 
     need_stored : (op : CallOp) (n : Need) → x.call ≡ Some (record { op = op; phase = Waits n }) →
         WaitStored x.held (Some r) op older n → Lasts (on_need d op n a)
-    need_stored op First is z = (m.silent ∙ z, tt)
-    need_stored op (Get tries) is z = get_stored x.held mine answered d op tries a (m.silent ∙ z) tt
+    need_stored op First is z = (its_quiet op z, tt)
+    need_stored op (Get tries) is z = get_stored x.held mine answered d op tries a (its_quiet op z) tt
     need_stored op (Commit timed) is z = commit_stored op timed is z
     need_stored op (Report timed) is z = (tt, report_stored op timed is z)
     need_stored op (Close u report) is z =
@@ -190,13 +193,55 @@ module _ (x : Client) (ms : List Met) (s : IsSound x) (y : CallStored x.held x.o
       (file_of_moved h _ (replied_file h call.op call.phase a q)) tt
       (replied_stored x.held mine call.op h (its_own call h k.call_is k.held) older a q nonce call.phase there
       (held_phase x.held x.outstanding call.op h older a call.phase k.held there (stored_at call k.call_is))
+      (its_fit call h k.call_is k.held)
       (replied_fits x i s.fine s.works drive q call h a k call.phase refl)))
       (replied_done x i s.fine Any drive q call h a k (λ bytes z. tt))
 
-  -- ---- a timeout
-
   rests : StepStored x.held mine older (still x)
   rests = record { call = y; outcome = tt }
+
+  -- one that the call awaits, but under no grant, changes nothing
+  unheld_phase : (op : CallOp) (a : Awaited) (q : Reply) (p : Phase) → held_of x.held (file_of op) ≡ None →
+      In a (awaited_in p) → PhaseStored x.held x.outstanding op older p →
+      PhaseStored x.held x.outstanding op (Replied a q ∷ older) p
+  unheld_phase op a q Starts e i z = absurd i
+  unheld_phase op a q (Needs n) e i z = absurd i
+  unheld_phase op a q (Waits n) e i z = absurd i
+  unheld_phase op a q (Reads io) e i z = tt
+  unheld_phase op a q (Probes io) e i z = tt
+  unheld_phase op a q (Gathers io) e i z = absurd (cc (sym z.1 ∙ e))
+  unheld_phase op a q (Scatters io queue) e i z = absurd (cc (sym z.1 ∙ e))
+
+  module _ (drive : ℕ) (q : Reply) where
+    reply_under_stored : (call : Call) → x.call ≡ Some call → (a : Awaited) →
+        find (answers drive q) (awaited_in call.phase) ≡ Some a → (o : Option Held) → held_of x.held (file_of call.op) ≡ o →
+        StepStored x.held mine (Replied a q ∷ older) (finished (reply_under x call a q o))
+    reply_under_stored call is a awaits (Some h) held =
+        reply_stored (Hears (FromDrive drive) (Replies q)) drive q call h a
+        (record { is = refl; call_is = is; held = held; awaits = awaits })
+    reply_under_stored call is a awaits None held =
+        finished_stored x.held mine (Replied a q ∷ older) (quiet x) (
+          subst (CallStored x.held x.outstanding (Replied a q ∷ older)) (sym is)
+              (unheld_phase call.op a q call.phase held (found_one (answers drive q) (awaited_in call.phase) a awaits)
+              (stored_at call is)),
+          tt,
+        )
+        (quiet_fine Any x s.fine)
+
+    found_stored : (o : Option Call) → x.call ≡ o → (a : Option Awaited) → find (answers drive q) (awaited_of o) ≡ a →
+        StepStored x.held mine (with_taken x (reply_taken q a) older) (by_taken x (reply_taken q a))
+    found_stored o is None awaits = rests
+    found_stored None is (Some a) awaits = absurd (cc awaits)
+    found_stored (Some call) is (Some a) awaits =
+        subst (λ (o : Option Call). StepStored x.held mine (Replied a q ∷ older) (finished (reply_call x a q o))) (sym is)
+        (reply_under_stored call is a awaits (held_of x.held (file_of call.op)) refl)
+
+    heard_stored : StepStored x.held mine (with_taken x (takes x (FromDrive drive) (Replies q)) older)
+        (hears x (FromDrive drive) (Replies q))
+    unfolding hears takes
+    heard_stored = found_stored x.call refl (find (answers drive q) (awaited_of x.call)) refl
+
+  -- ---- a timeout
 
   silent_stored : (k : ℕ) → StepStored x.held mine (with_silence x k x.call older) (times_out x k)
   unfolding times_out
@@ -210,8 +255,9 @@ module _ (x : Client) (ms : List Met) (s : IsSound x) (y : CallStored x.held x.o
           (moved_stored x.held mine (met.TimedOut h k ∷ older) (quiet x) call.op h (timed_out h call.op call.phase k a xs) t.held
           (file_of_moved h _ (timed_out_file h call.op call.phase k a xs)) tt
           (timed_stored x.held mine call.op h (its_own call h t.call_is t.held) older k a xs call.phase t.awaits
-          (held_phase x.held x.outstanding call.op h older a call.phase t.held (first_awaited k (awaited_in call.phase) a xs t.awaits)
-          (stored_at call t.call_is))
+          (held_phase x.held x.outstanding call.op h older a call.phase t.held
+          (first_awaited k (awaited_in call.phase) a xs t.awaits)
+          (stored_at call t.call_is)) (its_fit call h t.call_is t.held)
           (timed_fits x (TimesOut k) s.fine s.works k call h a xs t call.phase refl)))
           (timed_done x (TimesOut k) s.fine Any k call h a xs t (λ bytes z. tt))
 
@@ -230,27 +276,47 @@ module _ (x : Client) (ms : List Met) (s : IsSound x) (y : CallStored x.held x.o
 
   -- ---- anything else
 
-  abbrev NoTimeout : Input → Type 0
-  NoTimeout i = (k : ℕ) → i ≡ TimesOut k → ⊥
+  -- no timeout, and no reply of a drive
+  record IsOther (i : Input) : Type 0 where
+    timeout : (k : ℕ) → i ≡ TimesOut k → ⊥
+    reply : (drive : ℕ) (q : Reply) → i ≡ Hears (FromDrive drive) (Replies q) → ⊥
 
   answer_more : (o : Option Request) (a : Answer) → IsMore older (with_answer o a older)
   answer_more None a = more_none older
   answer_more (Some r) a = more_answered r a older
 
-  taken_more : (t : Option Taken) → IsMore older (with_taken x t older)
-  taken_more None = more_none older
-  taken_more (Some (TakesAnswer a)) = answer_more x.outstanding a
-  taken_more (Some (TakesReply a r)) = more_replied a r older
-  taken_more (Some (TakesRecall r)) = more_none older
+  answer_taken_more : (a : Answer) (o : Option Request) → IsMore older (with_taken x (answer_taken x a o) older)
+  answer_taken_more a None = more_none older
+  answer_taken_more a (Some r) = by (is_awaited x a r)
+    where
+      by : (b : Bool) → IsMore older (with_taken x (if b then Some (TakesAnswer a) else None) older)
+      by true = answer_more x.outstanding a
+      by false = more_none older
 
-  met_more : (i : Input) → NoTimeout i → IsMore older (met_after x ms i)
-  met_more (Calls op) none = more_none older
-  met_more (Hears from b) none = taken_more (takes x from b)
-  met_more (TimesOut k) none = absurd (none k refl)
-  met_more Leaves none = more_none older
-  met_more Resends none = more_none older
+  recall_more : (q : Recall) (b : Bool) → IsMore older (with_taken x (if b then Some (TakesRecall q) else None) older)
+  recall_more q true = more_none older
+  recall_more q false = more_none older
 
-  module _ (i : Input) (none : NoTimeout i) where
+  heard_more : (from : Node) (b : Message) → IsOther (Hears from b) → IsMore older (with_taken x (takes x from b) older)
+  unfolding takes
+  heard_more (FromDrive d) (Replies q) other = absurd (other.reply d q refl)
+  heard_more (FromDrive d) (Answers a) other = more_none older
+  heard_more (FromDrive d) (Recalls q) other = more_none older
+  heard_more FromServer (Answers a) other = answer_taken_more a x.outstanding
+  heard_more FromServer (Recalls q) other = recall_more q (q.client == x.number)
+  heard_more FromServer (Replies q) other = more_none older
+  heard_more (FromClient n) (Replies q) other = more_none older
+  heard_more (FromClient n) (Answers a) other = more_none older
+  heard_more (FromClient n) (Recalls q) other = more_none older
+
+  met_more : (i : Input) → IsOther i → IsMore older (met_after x ms i)
+  met_more (Calls op) other = more_none older
+  met_more (Hears from b) other = heard_more from b other
+  met_more (TimesOut k) other = absurd (other.timeout k refl)
+  met_more Leaves other = more_none older
+  met_more Resends other = more_none older
+
+  module _ (i : Input) (other : IsOther i) where
     abbrev now : List Met
     now = met_after x ms i
 
@@ -258,7 +324,7 @@ module _ (x : Client) (ms : List Met) (s : IsSound x) (y : CallStored x.held x.o
     So t = StepStored x.held (call_in x i) now t
 
     later_call : CallStored x.held x.outstanding now x.call
-    later_call = call_more x.held x.outstanding older now (met_more i none) x.call y
+    later_call = call_more x.held x.outstanding older now (met_more i other) x.call y
 
     rests_so : So (still x)
     rests_so = record { call = later_call; outcome = tt }
@@ -289,7 +355,7 @@ module _ (x : Client) (ms : List Met) (s : IsSound x) (y : CallStored x.held x.o
       called = λ op is free e. elim (cases_Bool (writes_nothing op)) [
         | inl empty ↦ subst So (sym (e ∙ ap (step x) is)) (empty_so op empty)
         | inr some ↦ ends_so (quiet (with_start x op))
-            (nothing_silent now (ap (met_after x ms) is ∙ ap (λ (o : Option Call). since o ms) free))
+            (nothing_met now (ap (met_after x ms) is ∙ ap (λ (o : Option Call). since o ms) free))
             (record { usable = s.fine.usable; call = (has_bytes op some, λ h there. tt); outcome = tt }) tt
       ];
       answered = λ a k e.
@@ -298,18 +364,13 @@ module _ (x : Client) (ms : List Met) (s : IsSound x) (y : CallStored x.held x.o
           ∙ ap (λ (o : Option Request). with_answer o a older) k.outstanding in
           let own : call_in x i ≡ mine = ap (call_in x) k.is in
           rw (is_now, own) (answer_stored k.request a k.outstanding);
-      replied = λ drive q call h a k e.
-          let is_now : now ≡ Replied a q ∷ older =
-          ap (met_after x ms) k.is
-          ∙ ap (λ (t : Option Taken). with_taken x t older) (takes_reply x drive q call a k.call_is k.awaits) in
-          let own : call_in x i ≡ mine = ap (call_in x) k.is in
-          rw (is_now, own) (reply_stored i drive q call h a k);
+      replied = λ drive q call h a k e. absurd (other.reply drive q k.is);
       unheld = λ e. ends_so (quiet x) later_call (quiet_fine Any x s.fine) tt;
       recalled = λ q is e. ends_so (obeys x q) later_call
           (record { usable = s.fine.usable; call = s.fine.call; outcome = tt }) tt;
       unmatched = λ q is e. ends_so (no_match x q) later_call
           (record { usable = s.fine.usable; call = s.fine.call; outcome = tt }) tt;
-      timed = λ k call h a xs t e. absurd (none k t.is);
+      timed = λ k call h a xs t e. absurd (other.timeout k t.is);
       leaves = λ is e. ends_so (quiet (record x { due = all_due x.due x.held })) later_call
           (record { usable = s.fine.usable; call = s.fine.call; outcome = tt }) tt;
       resends = λ is e. record { call = later_call; outcome = tt };
@@ -321,7 +382,22 @@ module _ (x : Client) (ms : List Met) (s : IsSound x) (y : CallStored x.held x.o
   -- What a step makes of it.
   pub step_stored : (i : Input) → StepStored x.held (call_in x i) (met_after x ms i) (step x i)
   step_stored (TimesOut k) = silent_stored k
-  step_stored (Calls op) = any_stored (Calls op) (λ k e. absurd (cc e))
-  step_stored (Hears from b) = any_stored (Hears from b) (λ k e. absurd (cc e))
-  step_stored Leaves = any_stored Leaves (λ k e. absurd (cc e))
-  step_stored Resends = any_stored Resends (λ k e. absurd (cc e))
+  step_stored (Calls op) =
+      any_stored (Calls op) (record { timeout = λ k e. absurd (cc e); reply = λ d q e. absurd (cc e) })
+  step_stored (Hears from b) = by_message from b
+    where
+      other : (from : Node) (b : Message) → ((d : ℕ) (q : Reply) → Hears from b ≡ Hears (FromDrive d) (Replies q) → ⊥) →
+          StepStored x.held (call_in x (Hears from b)) (met_after x ms (Hears from b)) (step x (Hears from b))
+      other from b none = any_stored (Hears from b) (record { timeout = λ k e. absurd (cc e); reply = none })
+
+      by_message : (from : Node) (b : Message) →
+          StepStored x.held (call_in x (Hears from b)) (met_after x ms (Hears from b)) (step x (Hears from b))
+      by_message (FromDrive d) (Replies q) = heard_stored d q
+      by_message (FromDrive d) (Answers a) = other (FromDrive d) (Answers a) (λ k q e. absurd (cc e))
+      by_message (FromDrive d) (Recalls q) = other (FromDrive d) (Recalls q) (λ k r e. absurd (cc e))
+      by_message FromServer b = other FromServer b (λ k q e. absurd (cc e))
+      by_message (FromClient n) b = other (FromClient n) b (λ k q e. absurd (cc e))
+  step_stored Leaves =
+      any_stored Leaves (record { timeout = λ k e. absurd (cc e); reply = λ d q e. absurd (cc e) })
+  step_stored Resends =
+      any_stored Resends (record { timeout = λ k e. absurd (cc e); reply = λ d q e. absurd (cc e) })

@@ -1,5 +1,5 @@
 -- Where a line tells that some bytes were written, the call has stored them.
-use Rattle.std.proofs.Common.{◌≡◌, ◌⊎◌, ℕ, ◌∷◌, [], List, Option, Some, None, fold, refl, sym, ap, subst, ◌∙◌, inl, inr}
+use Rattle.std.proofs.Common.{◌≡◌, ℕ, ◌∷◌, [], List, Option, Some, None, fold, refl, sym, ap, subst, ◌∙◌, inl, inr}
 use Rattle.scenario_text.specs.declared.line.Outcome.TheVariants as outcome
 use Rattle.scenario_text.specs.declared.line.CallKind.{CallKind}
 use Rattle.scenario_text.specs.declared.line.Line.{Line}
@@ -54,6 +54,7 @@ however before mine ms o h = record {
   write = h.write;
   held = h.held;
   under = h.under;
+  checked = h.checked;
   stored = h.stored;
   reported = h.reported;
 }

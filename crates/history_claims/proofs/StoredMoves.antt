@@ -1,27 +1,29 @@
 -- A scatter goes on: at its begin, behind a reply, and where a component times out each store of its plan was performed, is
 -- awaited or is queued, or its component timed out.
-use Rattle.std.proofs.Common.{◌≡◌, ◌⊎◌, ◌==◌, ℕ, ◌+◌, Bool, true, false, not, nat_lt, List, [], ◌∷◌, ◌++◌, length, refl, sym, ap, subst, ◌∙◌, inl, inr}
+use Rattle.std.proofs.Common.{◌≡◌, ◌⊎◌, ◌==◌, ℕ, ◌+◌, true, false, not, nat_lt, List, [], ◌∷◌, ◌++◌, refl, sym, ap, subst, ◌∙◌, inl, inr}
 use Rattle.std.proofs.lemmas.Bool.{cases_Bool, cases_eq, eq-eqb, ne_eqb, eqb-true}
 use Rattle.stripe_plan.specs.declared.plan.Ask.{Ask}
 use Rattle.stripe_plan.specs.Lost.{among}
 use Rattle.stripe_plan.specs.Plans.{stores}
 use Rattle.server_rules.specs.Laws.{In}
-use Rattle.server_rules.proofs.Members.{in_front, in_behind, in_filtered}
+use Rattle.server_rules.proofs.Members.{in_front, in_behind, in_either, in_filtered}
 use Rattle.client_rules.specs.declared.limits.TheConstants.{PERFORMED}
 use Rattle.client_rules.specs.Calls.{span_of, bytes_of}
-use Rattle.client_rules.specs.Commands.{awaited_for, command, sealed, nonce_at, numbered, others, not_of, of_component, write_commands, counted}
-use Rattle.client_rules.specs.Io.{outs}
+use Rattle.client_rules.specs.Commands.{awaited_for, command, sealed, nonce_at, numbered, others, not_of, of_component, write_commands}
+use Rattle.client_rules.specs.Io.{outs, got_of}
 use Rattle.client_rules.specs.Replies.{timed_after}
 use Rattle.client_rules.specs.Writes.{firsts, laters, next_to, without_next, without_component}
 use Rattle.world_history.specs.ClientNames.{CallOp, Held, Awaited, TimedOut, Store, Column, Reply}
 use Rattle.cause_law.specs.Met as met
 use Rattle.cause_law.specs.Met.{Met, Replied, rising_with, timed_in}
+use Rattle.cause_law.specs.Read.{read_in}
 use Rattle.cause_law.proofs.Trace.{comps, timed_more}
+use Rattle.plan_law.specs.Sending.{MayScatter}
 use Rattle.relation_law.specs.CallsTurns.{IsQueueBehind}
-use Rattle.relation_law.proofs.CallsDone.{in_others}
+use Rattle.relation_law.proofs.CallsDone.{in_others, from_others}
 use Rattle.relation_law.proofs.CallsOut.{in_passed}
 use Rattle.relation_law.proofs.MessagesBehind.{numbered_there}
-use Rattle.history_claims.proofs.StoredParts.{IsAlike, AreAlike, Carries, IsDone, IsAwaited, Stands, Under, Scattering, scattering_again, more_replied, under_more}
+use Rattle.history_claims.proofs.StoredParts.{AreAlike, Carries, IsPlanned, none_planned, IsAwaited, Stands, Under, Gathering, Scattering, under_replied}
 
 -- ---- components that timed out
 
@@ -63,6 +65,7 @@ numbered_carry h count (v ∷ ws) w (inl e) =
       inl refl,
       record {
         ask = refl;
+        writes = refl;
         write = refl;
         drive = refl;
         capability = refl;
@@ -77,6 +80,33 @@ numbered_carry h count (v ∷ ws) w (inr i) = let r = numbered_carry h (count + 
 writes_carry : (h : Held) (ws : List Store) (w : Store) → In w ws → IsAwaited h (write_commands h ws) w
 unfolding write_commands
 writes_carry h ws w i = numbered_carry h h.count ws w i
+
+-- and each is for one of the stores
+numbered_back : (h : Held) (count : ℕ) (ws : List Store) (a : Awaited) → In a (numbered h true count ws) → IsPlanned h ws a
+unfolding numbered command sealed
+numbered_back h count [] a i = absurd i
+numbered_back h count (w ∷ ws) a (inl e) =
+    subst (IsPlanned h (w ∷ ws)) (sym e) (
+      w,
+      inl refl,
+      record {
+        ask = refl;
+        writes = refl;
+        write = refl;
+        drive = refl;
+        capability = refl;
+        partition = refl;
+        object = refl;
+        offset = refl;
+        payload = refl;
+      },
+    )
+numbered_back h count (w ∷ ws) a (inr i) = let r = numbered_back h (count + 1) ws a i in (r.0, inr r.1, r.2)
+
+writes_back : (h : Held) (ws plan : List Store) → ((w : Store) → In w ws → In w plan) → (a : Awaited) →
+    In a (write_commands h ws) → IsPlanned h plan a
+unfolding write_commands
+writes_back h ws plan sub a i = let r = numbered_back h h.count ws a i in (r.0, sub r.0 r.1, r.2)
 
 awaited_behind : (h : Held) (xs ys : List Awaited) (w : Store) → IsAwaited h ys w → IsAwaited h (xs ++ ys) w
 awaited_behind h xs ys w (a, i, c) = (a, in_behind a xs ys i, c)
@@ -98,15 +128,37 @@ first_or_later seen (v ∷ ws) w i = elim (cases_Bool (among v.ask.component see
   ])
 ]
 
-pub scatter_begins : (op : CallOp) (h : Held) (ms : List Met) (got : List Column) (timed : List TimedOut) → Under op h ms timed →
+firsts_in : (seen : List ℕ) (all : List Store) (w : Store) → In w (firsts seen all) → In w all
+unfolding firsts
+firsts_in seen [] w i = absurd i
+firsts_in seen (v ∷ ws) w i = elim (cases_Bool (among v.ask.component seen)) [
+  | inl t ↦ inr (firsts_in seen ws w (rw t at i))
+  | inr f ↦ elim (rw f at i) [ inl e ↦ inl e | inr later ↦ inr (firsts_in (v.ask.component ∷ seen) ws w later) ]
+]
+
+laters_in : (seen : List ℕ) (all : List Store) (w : Store) → In w (laters seen all) → In w all
+unfolding laters
+laters_in seen [] w i = absurd i
+laters_in seen (v ∷ ws) w i = elim (cases_Bool (among v.ask.component seen)) [
+  | inl t ↦ elim (rw t at i) [ inl e ↦ inl e | inr later ↦ inr (laters_in seen ws w later) ]
+  | inr f ↦ inr (laters_in (v.ask.component ∷ seen) ws w (rw f at i))
+]
+
+pub scatter_begins : (op : CallOp) (h : Held) (ms : List Met) (got : List Column) (timed : List TimedOut) →
+    Gathering op h ms got timed → MayScatter h.map (span_of op) (bytes_of op) got (outs h timed) →
     Scattering op h ms timed
     (write_commands h (firsts [] (stores h.map (span_of op) (bytes_of op) got (outs h timed))))
     (laters [] (stores h.map (span_of op) (bytes_of op) got (outs h timed)))
-scatter_begins op h ms got timed under = record {
-  under = under;
+scatter_begins op h ms got timed x may = record {
+  under = x.under;
   got = got;
   first = timed;
   still = λ k i. i;
+  read = x.read;
+  may = may;
+  sent = λ a i. writes_back h _ _ (firsts_in [] (stores h.map (span_of op) (bytes_of op) got (outs h timed))) a i;
+  left = laters_in [] (stores h.map (span_of op) (bytes_of op) got (outs h timed));
+  alone = none_planned h (stores h.map (span_of op) (bytes_of op) got (outs h timed)) ms x.none;
   each = λ w i. elim (first_or_later [] (stores h.map (span_of op) (bytes_of op) got (outs h timed)) w i) [
     | inl a ↦ inr (inr (inl (writes_carry h _ w a)))
     | inr b ↦ inr (inr (inr b))
@@ -126,18 +178,56 @@ next_or_later k (v ∷ ws) w i = elim (cases_Bool (v.ask.component == k)) [
   ])
 ]
 
+next_in : (k : ℕ) (ws : List Store) (x : Store) → In x (next_to k ws) → In x ws
+unfolding next_to
+next_in k [] x j = absurd j
+next_in k (w ∷ ws) x j = elim (cases_Bool (w.ask.component == k)) [
+  | inl t ↦ elim (rw t at j) [ inl e ↦ inl e | inr none ↦ absurd none ]
+  | inr f ↦ inr (next_in k ws x (rw f at j))
+]
+
+left_in : (k : ℕ) (ws : List Store) (x : Store) → In x (without_next k ws) → In x ws
+unfolding without_next
+left_in k [] x j = absurd j
+left_in k (w ∷ ws) x j = elim (cases_Bool (w.ask.component == k)) [
+  | inl t ↦ inr (rw t at j)
+  | inr f ↦ elim (rw f at j) [ inl e ↦ inl e | inr later ↦ inr (left_in k ws x later) ]
+]
+
+-- a reply to a WRITE gives no bytes
+writes_read_none : (a : Awaited) (r : Reply) (ms : List Met) → a.write ≡ true → read_in (Replied a r ∷ ms) ≡ read_in ms
+unfolding read_in
+writes_read_none a r ms is = elim (cases_Bool (r.verdict == PERFORMED)) [
+  | inl t ↦ rw (t, is) refl
+  | inr f ↦ rw f refl
+]
+
+-- one to a READ that was performed gives some
+pub reads_more : (a : Awaited) (r : Reply) (ms : List Met) → r.verdict ≡ PERFORMED → a.write ≡ false →
+    read_in (Replied a r ∷ ms) ≡ read_in ms ++ got_of a r ∷ []
+unfolding read_in
+reads_more a r ms performed is = rw (eq-eqb r.verdict PERFORMED performed, is) refl
+
 -- a WRITE was performed, and the next to its component is sent
 pub scatter_replied : (op : CallOp) (h : Held) (ms : List Met) (timed : List TimedOut) (awaited : List Awaited)
-    (queue : List Store) (a : Awaited) (r : Reply) → r.verdict ≡ PERFORMED → r.nonce ≡ a.command.nonce →
+    (queue : List Store) (a : Awaited) (r : Reply) → r.verdict ≡ PERFORMED → r.nonce ≡ a.command.nonce → In a awaited →
     ((b : Awaited) → In b awaited → b.command.nonce ≡ a.command.nonce → b ≡ a) → Scattering op h ms timed awaited queue →
     Scattering op h (Replied a r ∷ ms) timed
     (others awaited a.command.nonce ++ write_commands h (next_to a.ask.component queue))
     (without_next a.ask.component queue)
-scatter_replied op h ms timed awaited queue a r performed nonce differ x = record {
-  under = under_more op h ms (Replied a r ∷ ms) timed (more_replied a r ms) x.under;
+scatter_replied op h ms timed awaited queue a r performed nonce there differ x = record {
+  under = under_replied op h ms timed a r x.under;
   got = x.got;
   first = x.first;
   still = x.still;
+  read = x.read ∙ sym (writes_read_none a r ms (x.sent a there).2.writes);
+  may = x.may;
+  sent = λ b i. elim (in_either b (others awaited a.command.nonce) _ i) [
+    | inl old ↦ x.sent b (from_others b awaited a.command.nonce old).0
+    | inr new ↦ writes_back h _ _ (λ w j. x.left w (next_in a.ask.component queue w j)) b new
+  ];
+  left = λ w i. x.left w (left_in a.ask.component queue w i);
+  alone = (λ e. x.sent a there, x.alone);
   each = λ w i. by w (x.each w i);
 }
   where
@@ -167,7 +257,7 @@ pub next_behind : (h : Held) (awaited : List Awaited) (queue : List Store) (a : 
     (without_next a.ask.component queue)
 unfolding write_commands without_next next_to
 next_behind h awaited queue a differ behind q i =
-    let old : In q queue = left_in queue q i in
+    let old : In q queue = left_in a.ask.component queue q i in
     let b = behind q old in
     elim (cases_eq b.0.command.nonce a.command.nonce) [
       | inr other ↦ (
@@ -186,13 +276,6 @@ next_behind h awaited queue a differ behind q i =
           )
     ]
   where
-    left_in : (ws : List Store) (x : Store) → In x (without_next a.ask.component ws) → In x ws
-    left_in [] x j = absurd j
-    left_in (w ∷ ws) x j = elim (cases_Bool (w.ask.component == a.ask.component)) [
-      | inl t ↦ inr (rw t at j)
-      | inr f ↦ elim (rw f at j) [ inl e ↦ inl e | inr later ↦ inr (left_in ws x later) ]
-    ]
-
     some_next : (ws : List Store) (x : Store) → In x ws → x.ask.component ≡ a.ask.component →
         (w : Store) × In w (next_to a.ask.component ws) × (w.ask.component ≡ a.ask.component)
     some_next [] x j e = absurd j
@@ -208,7 +291,7 @@ next_behind h awaited queue a differ behind q i =
 -- ---- a timeout
 
 -- a component times out in a write
-pub under_timed : (op : CallOp) (h : Held) (ms : List Met) (timed : List TimedOut) (k : ℕ) (ys : List Awaited) (a : Awaited)
+under_timed : (op : CallOp) (h : Held) (ms : List Met) (timed : List TimedOut) (k : ℕ) (ys : List Awaited) (a : Awaited)
     (xs : List Awaited) → of_component k ys ≡ a ∷ xs → Under op h ms timed →
     Under op h (met.TimedOut h k ∷ ms) (timed_after timed a xs)
 unfolding timed_in
@@ -218,6 +301,13 @@ under_timed op h ms timed k ys a xs is x = record {
   silent = ap (rising_with k) x.silent ∙ sym (timed_more k ys a xs timed is);
 }
 
+pub gathering_timed : (op : CallOp) (h : Held) (ms : List Met) (got : List Column) (timed : List TimedOut) (k : ℕ)
+    (ys : List Awaited) (a : Awaited) (xs : List Awaited) → of_component k ys ≡ a ∷ xs → Gathering op h ms got timed →
+    Gathering op h (met.TimedOut h k ∷ ms) got (timed_after timed a xs)
+unfolding read_in
+gathering_timed op h ms got timed k ys a xs is x =
+    record { under = under_timed op h ms timed k ys a xs is x.under; read = x.read; none = x.none }
+
 others_of : (k n : ℕ) → (n ≡ k → ⊥) → not (n == k) ≡ true
 others_of k n ne = rw (ne_eqb n k ne) refl
 
@@ -226,12 +316,17 @@ pub scatter_silent : (op : CallOp) (h : Held) (ms : List Met) (timed : List Time
     (queue : List Store) (k : ℕ) (a : Awaited) (xs : List Awaited) → of_component k awaited ≡ a ∷ xs →
     Scattering op h ms timed awaited queue →
     Scattering op h (met.TimedOut h k ∷ ms) (timed_after timed a xs) (not_of k awaited) (without_component k queue)
-unfolding not_of without_component
+unfolding not_of without_component read_in
 scatter_silent op h ms timed awaited queue k a xs is x = record {
   under = under_timed op h ms timed k awaited a xs is x.under;
   got = x.got;
   first = x.first;
   still = λ j i. more j (x.still j i);
+  read = x.read;
+  may = x.may;
+  sent = λ b i. x.sent b (in_filtered (λ (y : Awaited). not (y.ask.component == k)) b awaited i).0;
+  left = λ w i. x.left w (in_filtered (λ (y : Store). not (y.ask.component == k)) w queue i).0;
+  alone = x.alone;
   each = λ w i. by w (x.each w i);
 }
   where

@@ -1,9 +1,10 @@
 -- What a write has stored so far, and what it still has to store: each store of its plan was performed, is awaited or is queued,
 -- or its component timed out.
-use Rattle.std.proofs.Common.{◌≡◌, ◌⊎◌, ◌==◌, ◌||◌, ◌<◌, ◌≤◌, ℕ, ◌+◌, ◌-◌, Bool, true, false, nat_lt, List, [], ◌∷◌, ◌++◌, length, refl, sym, ap, subst, ◌∙◌, inl, inr, arith}
+use Rattle.std.proofs.Common.{◌≡◌, ◌⊎◌, ◌==◌, ◌<◌, ◌≤◌, ℕ, ◌+◌, ◌-◌, true, false, List, [], ◌∷◌, ◌++◌, length, refl, sym, ap, subst, ◌∙◌, inl, inr, arith}
 use Rattle.std.specs.Prelude.{slice_index}
-use Rattle.std.proofs.lemmas.Bool.{cases_Bool, cases_eq, eq-eqb, ne_eqb}
+use Rattle.std.proofs.lemmas.Bool.{cases_eq, eq-eqb, ne_eqb}
 use Rattle.osd_lists.proofs.Tests.{first_false, second_false}
+use Rattle.stripe_plan.specs.declared.plan.Ask.{Ask}
 use Rattle.stripe_plan.specs.Lost.{among}
 use Rattle.stripe_plan.specs.Plans.{stores}
 use Rattle.osd_commands.specs.declared.actions.Action.TheVariants.{Write}
@@ -17,11 +18,14 @@ use Rattle.client_rules.specs.Requests.{object_of}
 use Rattle.world_history.specs.ClientNames.{CallOp, Held, Awaited, TimedOut, Store, Column, Request, Answer, Reply}
 use Rattle.data_map.specs.Check.{IsChecked}
 use Rattle.gather_law.specs.Ready.{IsSome}
+use Rattle.plan_law.specs.Sending.{MayScatter}
+use Rattle.stripe_plan.specs.Laws.{Agrees}
 use Rattle.cause_law.specs.Met as met
-use Rattle.cause_law.specs.Met.{Met, Answered, Replied, rising_with, timed_in, out_in}
+use Rattle.cause_law.specs.Met.{Met, Answered, Replied, timed_in, out_in}
+use Rattle.cause_law.specs.Read.{read_in}
 use Rattle.cause_law.proofs.Trace.{comps}
-use Rattle.history_claims.specs.Stored.{Keeps, IsKept, AreStored}
-use Rattle.history_claims.proofs.StoredPlan.{IsStoreOf, own_stored, parity_stored}
+use Rattle.history_claims.specs.Stored.{IsKept, IsAlone, AreStored}
+use Rattle.history_claims.proofs.StoredPlan.{IsStoreOf, one_byte, own_stored, parity_stored, parity_fits}
 use Rattle.stripe_plan.specs.Words.{word_at}
 use Rattle.data_map.specs.Striping.{stripe_of, column_of}
 
@@ -49,6 +53,7 @@ alike_again h n s (met.TimedOut g k ∷ ms) x = (x.0, alike_again h n s ms x.1)
 -- the WRITE carries the store to its component, under the grant
 pub record Carries (h : Held) (w : Store) (a : Awaited) : Type 0 where
   pub ask : a.ask ≡ w.ask
+  pub writes : a.write ≡ true
   pub write : a.command.action ≡ Write
   pub drive : a.drive ≡ (credential_of h w.ask.component).drive
   pub capability : a.command.capability ≡ (credential_of h w.ask.component).capability
@@ -62,6 +67,7 @@ pub carries_again : (h : Held) (n s : ℕ) (w : Store) (a : Awaited) → Carries
 unfolding credential_of object_of
 carries_again h n s w a x = record {
   ask = x.ask;
+  writes = x.writes;
   write = x.write;
   drive = x.drive;
   capability = x.capability;
@@ -87,6 +93,40 @@ done_again h n s (Replied a r ∷ ms) w (inl x) = inl (carries_again h n s w a x
 done_again h n s (Replied a r ∷ ms) w (inr x) = inr (done_again h n s ms w x)
 done_again h n s (met.TimedOut g k ∷ ms) w x = done_again h n s ms w x
 
+-- a WRITE is for a store of a plan
+abbrev pub IsPlanned : Held → List Store → Awaited → Type 0
+IsPlanned h plan a = (w : Store) × In w plan × Carries h w a
+
+-- all WRITEs are to which replies were taken
+abbrev pub ArePlanned : Held → List Store → List Met → Type 0
+ArePlanned h plan [] = Unit {0}
+ArePlanned h plan (Answered r a ∷ ms) = ArePlanned h plan ms
+ArePlanned h plan (Replied a r ∷ ms) = (a.command.action ≡ Write → IsPlanned h plan a) × ArePlanned h plan ms
+ArePlanned h plan (met.TimedOut g k ∷ ms) = ArePlanned h plan ms
+
+planned_again : (h : Held) (n s : ℕ) (plan : List Store) (ms : List Met) → ArePlanned h plan ms →
+    ArePlanned (record h { count = n; size = s }) plan ms
+planned_again h n s plan [] x = tt
+planned_again h n s plan (Answered r a ∷ ms) x = planned_again h n s plan ms x
+planned_again h n s plan (Replied a r ∷ ms) x = (
+  λ e. let p = x.0 e in (p.0, p.1, carries_again h n s p.0 a p.2),
+  planned_again h n s plan ms x.1,
+)
+planned_again h n s plan (met.TimedOut g k ∷ ms) x = planned_again h n s plan ms x
+
+-- no reply to a WRITE was taken
+abbrev pub NoneWritten : List Met → Type 0
+NoneWritten [] = Unit {0}
+NoneWritten (Answered r a ∷ ms) = NoneWritten ms
+NoneWritten (Replied a r ∷ ms) = (a.command.action ≡ Write → ⊥) × NoneWritten ms
+NoneWritten (met.TimedOut g k ∷ ms) = NoneWritten ms
+
+pub none_planned : (h : Held) (plan : List Store) (ms : List Met) → NoneWritten ms → ArePlanned h plan ms
+none_planned h plan [] x = tt
+none_planned h plan (Answered r a ∷ ms) x = none_planned h plan ms x
+none_planned h plan (Replied a r ∷ ms) x = (λ e. absurd (x.0 e), none_planned h plan ms x.1)
+none_planned h plan (met.TimedOut g k ∷ ms) x = none_planned h plan ms x
+
 -- such a WRITE is awaited
 abbrev pub IsAwaited : Held → List Awaited → Store → Type 0
 IsAwaited h awaited w = (a : Awaited) × In a awaited × Carries h w a
@@ -101,6 +141,12 @@ pub record Under (op : CallOp) (h : Held) (ms : List Met) (timed : List TimedOut
   pub alike : AreAlike h ms
   pub silent : timed_in ms ≡ comps timed
 
+-- it gathers, and has got what drives told
+pub record Gathering (op : CallOp) (h : Held) (ms : List Met) (got : List Column) (timed : List TimedOut) : Type 0 where
+  pub under : Under op h ms timed
+  pub read : got ≡ read_in ms
+  pub none : NoneWritten ms
+
 -- it scatters, by what was got and had timed out when its scatter began
 pub record Scattering (op : CallOp) (h : Held) (ms : List Met) (timed : List TimedOut) (awaited : List Awaited)
     (queue : List Store) : Type 0
@@ -109,6 +155,12 @@ pub record Scattering (op : CallOp) (h : Held) (ms : List Met) (timed : List Tim
     pub got : List Column
     pub first : List TimedOut
     pub still : (k : ℕ) → In k (comps first) → In k (comps timed)
+    pub read : got ≡ read_in ms
+    pub may : MayScatter h.map (span_of op) (bytes_of op) got (outs h first)
+    pub sent : (a : Awaited) → In a awaited →
+        IsPlanned h (stores h.map (span_of op) (bytes_of op) got (outs h first)) a
+    pub left : (w : Store) → In w queue → In w (stores h.map (span_of op) (bytes_of op) got (outs h first))
+    pub alone : ArePlanned h (stores h.map (span_of op) (bytes_of op) got (outs h first)) ms
     pub each : (w : Store) → In w (stores h.map (span_of op) (bytes_of op) got (outs h first)) →
         Stands h ms timed awaited queue w
 
@@ -118,10 +170,14 @@ Scattered op h ms timed = Scattering op h ms timed [] []
 
 -- ---- the grant goes on
 
-pub under_again : (op : CallOp) (h : Held) (n s : ℕ) (ms : List Met) (timed : List TimedOut) → Under op h ms timed →
+under_again : (op : CallOp) (h : Held) (n s : ℕ) (ms : List Met) (timed : List TimedOut) → Under op h ms timed →
     Under op (record h { count = n; size = s }) ms timed
 under_again op h n s ms timed x =
     record { write = x.write; alike = alike_again h n s ms x.alike; silent = x.silent }
+
+pub gathering_again : (op : CallOp) (h : Held) (n s : ℕ) (ms : List Met) (got : List Column) (timed : List TimedOut) →
+    Gathering op h ms got timed → Gathering op (record h { count = n; size = s }) ms got timed
+gathering_again op h n s ms got timed x = record { under = under_again op h n s ms timed x.under; read = x.read; none = x.none }
 
 stands_again : (h : Held) (n s : ℕ) (ms : List Met) (timed : List TimedOut) (awaited : List Awaited) (queue : List Store)
     (w : Store) → Stands h ms timed awaited queue w → Stands (record h { count = n; size = s }) ms timed awaited queue w
@@ -140,34 +196,55 @@ scattering_again op h n s ms timed awaited queue x = record {
   got = x.got;
   first = x.first;
   still = x.still;
+  read = x.read;
+  may = x.may;
+  sent = λ a i. let p = x.sent a i in (p.0, p.1, carries_again h n s p.0 a p.2);
+  left = x.left;
+  alone = planned_again h n s (stores h.map (span_of op) (bytes_of op) x.got (outs h x.first)) ms x.alone;
   each = λ w i. stands_again h n s ms timed awaited queue w (x.each w i);
 }
 
 -- ---- more is met
 
--- what was done is done, and no component timed out
+-- what was done is done, no component timed out, and nothing was read
 pub record IsMore (ms later : List Met) : Type 0 where
   pub done : (h : Held) (w : Store) → IsDone h ms w → IsDone h later w
   pub alike : (h : Held) → AreAlike h ms → AreAlike h later
   pub silent : timed_in later ≡ timed_in ms
+  pub read : read_in later ≡ read_in ms
+  pub none : NoneWritten ms → NoneWritten later
+  pub planned : (h : Held) (plan : List Store) → ArePlanned h plan ms → ArePlanned h plan later
 
 pub more_none : (ms : List Met) → IsMore ms ms
-more_none ms = record { done = λ h w x. x; alike = λ h x. x; silent = refl }
+more_none ms = record { done = λ h w x. x; alike = λ h x. x; silent = refl; read = refl; none = λ x. x; planned = λ h p x. x }
 
 pub more_answered : (r : Request) (a : Answer) (ms : List Met) → IsMore ms (Answered r a ∷ ms)
-unfolding timed_in
-more_answered r a ms = record { done = λ h w x. x; alike = λ h x. x; silent = refl }
+unfolding timed_in read_in
+more_answered r a ms = record {
+  done = λ h w x. x;
+  alike = λ h x. x;
+  silent = refl;
+  read = refl;
+  none = λ x. x;
+  planned = λ h p x. x;
+}
 
-pub more_replied : (a : Awaited) (r : Reply) (ms : List Met) → IsMore ms (Replied a r ∷ ms)
+pub under_replied : (op : CallOp) (h : Held) (ms : List Met) (timed : List TimedOut) (a : Awaited) (r : Reply) →
+    Under op h ms timed → Under op h (Replied a r ∷ ms) timed
 unfolding timed_in
-more_replied a r ms = record { done = λ h w x. inr x; alike = λ h x. x; silent = refl }
+under_replied op h ms timed a r x = record { write = x.write; alike = x.alike; silent = x.silent }
 
-pub under_more : (op : CallOp) (h : Held) (ms later : List Met) (timed : List TimedOut) → IsMore ms later →
+under_more : (op : CallOp) (h : Held) (ms later : List Met) (timed : List TimedOut) → IsMore ms later →
     Under op h ms timed → Under op h later timed
 under_more op h ms later timed m x =
     record { write = x.write; alike = m.alike h x.alike; silent = m.silent ∙ x.silent }
 
-pub stands_more : (h : Held) (ms later : List Met) (timed : List TimedOut) (awaited : List Awaited) (queue : List Store)
+pub gathering_more : (op : CallOp) (h : Held) (ms later : List Met) (got : List Column) (timed : List TimedOut) →
+    IsMore ms later → Gathering op h ms got timed → Gathering op h later got timed
+gathering_more op h ms later got timed m x =
+    record { under = under_more op h ms later timed m x.under; read = x.read ∙ sym m.read; none = m.none x.none }
+
+stands_more : (h : Held) (ms later : List Met) (timed : List TimedOut) (awaited : List Awaited) (queue : List Store)
     (w : Store) → ((y : Store) → IsDone h ms y → IsDone h later y) → Stands h ms timed awaited queue w →
     Stands h later timed awaited queue w
 stands_more h ms later timed awaited queue w m (inl done) = inl (m w done)
@@ -181,6 +258,11 @@ scattering_more op h ms later timed awaited queue m x = record {
   got = x.got;
   first = x.first;
   still = x.still;
+  read = x.read ∙ sym m.read;
+  may = x.may;
+  sent = x.sent;
+  left = x.left;
+  alone = m.planned h (stores h.map (span_of op) (bytes_of op) x.got (outs h x.first)) x.alone;
   each = λ w i. stands_more h ms later timed awaited queue w (m.done h) (x.each w i);
 }
 
@@ -253,19 +335,44 @@ module _ (op : CallOp) (h : Held) (ms : List Met) (timed : List TimedOut) (ch : 
       by (inr (inr (inl (a, i, c)))) = absurd i
       by (inr (inr (inr i))) = absurd i
 
+  is_alone : (k z v : ℕ) → IsStoreOf h.map (span_of op) (bytes_of op) x.got (outs h x.first) k z v → IsAlone ms k z v
+  is_alone k z v s = by ms x.alone
+    where
+      by : (ns : List Met) → ArePlanned h (stores h.map (span_of op) (bytes_of op) x.got (outs h x.first)) ns →
+          IsAlone ns k z v
+      by [] y = tt
+      by (Answered r a ∷ ns) y = by ns y
+      by (Replied a r ∷ ns) y = (
+        λ f.
+            let p = y.0 f.write in
+            let is : p.0.ask.component ≡ k = sym (ap (λ (b : Ask). b.component) p.2.ask) ∙ f.component in
+            rw (p.2.payload, p.2.offset) (one_byte h.map (span_of op) (bytes_of op) x.got (outs h x.first) ch has.some k z v s
+            p.0 p.1 is (rw p.2.offset at f.first) (rw (p.2.offset, p.2.payload) at f.end)),
+        by ns y.1,
+      )
+      by (met.TimedOut g j ∷ ns) y = by ns y
+
+  kept_alone : (k z v : ℕ) → among k (out_in h ms) ≡ false →
+      IsStoreOf h.map (span_of op) (bytes_of op) x.got (outs h x.first) k z v → IsKept h ms k z v × IsAlone ms k z v
+  kept_alone k z v there s = (is_kept k z v there s, is_alone k z v s)
+
   -- So the bytes of a write that has scattered are stored.
   pub are_stored : AreStored h op ms
   are_stored = record {
     own = λ i l lt is k below at_ there.
         let z : l - (span_of op).offset ≡ i = omega (arith, is) in
-        is_kept k _ _ there
+        kept_alone k _ _ there
         (rw z at (own_stored h.map (span_of op) (bytes_of op) x.got (outs h x.first) ch has.some l (omega (arith, is))
         (omega (arith, is, lt, has.long)) k at_ (there_before k there)));
     parity = λ i l u lt is high wide. (
       word_at h.map (span_of op) (bytes_of op) x.got (outs h x.first) (stripe_of h.map l) (column_of h.map l) u,
       λ k below at_ there.
-          is_kept k _ _ there
+          kept_alone k _ _ there
           (parity_stored h.map (span_of op) (bytes_of op) x.got (outs h x.first) ch has.some l (omega (arith, is))
           (omega (arith, is, lt, has.long)) u high wide k at_ (there_before k there)),
+      λ d bytes agrees.
+          parity_fits h.map (span_of op) (bytes_of op) x.got (outs h x.first) ch has.some l (omega (arith, is))
+          (omega (arith, is, lt, has.long)) u high wide x.may.can x.may.fetched d bytes
+          (subst (λ (cs : List Column). Agrees h.map cs d) (sym x.read) agrees),
     );
   }

@@ -1,35 +1,37 @@
 -- What the plan of a write stores, whatever its gather got: each byte of the range, and in its column something of each unit
 -- of parity, at each replica that isn't out.
-use Rattle.std.proofs.Common.{◌≡◌, ℕ, zero, suc, ◌+◌, ◌-◌, ◌*◌, ◌/◌, ◌%◌, ◌<◌, ◌≤◌, true, false, List, [], ◌∷◌, length, refl, sym, ap, subst, ◌∙◌, arith, inl, inr}
-use Rattle.std.specs.Prelude.{slice_index, is_none}
+use Rattle.std.proofs.Common.{◌≡◌, ℕ, zero, suc, ◌+◌, ◌-◌, ◌*◌, ◌/◌, ◌%◌, ◌<◌, ◌≤◌, false, List, [], ◌∷◌, length, refl, sym, ap, subst, ◌∙◌, arith, inl, inr}
+use Rattle.std.specs.Prelude.{slice_index, is_none, None}
 use Rattle.std.proofs.lemmas.Bool.{cases_Bool, cases_eq, lt-ltb, le-ltb}
 use Rattle.std.proofs.lemmas.Nat.{div-add-mod', mod_below}
 use Rattle.std.proofs.lemmas.List.FromFn.{length-map-range_with_len, get_or-map-range_with_len}
 use Rattle.data_map.specs.declared.check.RawMap.{RawMap}
 use Rattle.data_map.specs.Check.{IsChecked}
 use Rattle.data_map.specs.Inverse.{stripe_at}
-use Rattle.data_map.specs.Striping.{replicas, group_width, data_units, stripe_of, data_unit_of, column_of, position_of, offset_of}
+use Rattle.data_map.specs.Striping.{replicas, parities, group_width, data_units, stripe_of, data_unit_of, column_of, position_of, offset_of}
 use Rattle.data_map.proofs.Numbers.{digits}
 use Rattle.data_map.proofs.Striping.{data_unit_below, column_below}
 use Rattle.stripe_plan.specs.declared.plan.Span.{Span}
 use Rattle.stripe_plan.specs.declared.plan.Column.{Column}
 use Rattle.stripe_plan.specs.declared.plan.Ask.{Ask}
 use Rattle.stripe_plan.specs.declared.plan.Store.{Store}
-use Rattle.stripe_plan.specs.Touched.{end_of, stripes, own, unit_start, IsTouchedStripe}
-use Rattle.stripe_plan.specs.Lost.{among, source_from, source, is_out}
+use Rattle.stripe_plan.specs.Touched.{end_of, stripes, own, IsTouchedStripe}
+use Rattle.stripe_plan.specs.declared.plan.Aim.TheVariants.{Gathers}
+use Rattle.stripe_plan.specs.Lost.{among, source_from, source, is_out, unwritable}
 use Rattle.stripe_plan.specs.Asks.{changed}
 use Rattle.stripe_plan.specs.Words.{bytes_at, word_at}
 use Rattle.stripe_plan.specs.Words.{byte_at as byte_got}
-use Rattle.stripe_plan.specs.Laws.{IsWithin, IsGot}
+use Rattle.stripe_plan.specs.Laws.{AreBytes, Agrees, over, word_of, IsWithin, IsGot, IsFetched}
 use Rattle.stripe_plan.specs.Plans.{writes, written, filled, stores}
 use Rattle.stripe_plan.proofs.Covering.{column_touched, own_touched}
 use Rattle.stripe_plan.proofs.Parities.{changed_data, changed_all, own_one}
 use Rattle.stripe_plan.proofs.ReadLaws.{stripes_are, stripe_touched}
-use Rattle.stripe_plan.proofs.WriteLaws.{new_some}
+use Rattle.stripe_plan.proofs.WriteLaws.{new_some, parity_is}
 use Rattle.server_rules.specs.Laws.{In}
 use Rattle.server_rules.proofs.Members.{in_mapped}
 use Rattle.plan_law.specs.Writes.{IsCarried}
 use Rattle.plan_law.proofs.Intervals.{Every}
+use Rattle.plan_law.proofs.Parities.{parity_right}
 use Rattle.plan_law.proofs.Stores.{IsForAsk, all_asks, unit_carried}
 use Rattle.plan_law.proofs.Written.{place_is, word_for, got_for, written_for, written_got}
 
@@ -121,6 +123,22 @@ module _ (m : RawMap) (r : Span) (bytes : List ℕ) (got : List Column) (out : L
       slice_index y.bytes j ≡ word_for m r bytes got out (y.ask.component / replicas m) (y.ask.offset + j)) (sym x.2)
       (ask_word x.0 (every_in (IsForAsk m r out) (writes m r out) x.0 asks_are x.1))
 
+  -- each store for a place carries the same byte there
+  pub one_byte : (k z v : ℕ) → IsStoreOf m r bytes got out k z v → (w : Store) → In w (stores m r bytes got out) →
+      w.ask.component ≡ k → w.ask.offset ≤ z → z < w.ask.offset + length w.bytes →
+      v ≡ slice_index w.bytes (z - w.ask.offset)
+  one_byte k z v x w i is from to =
+      x.byte ∙ word x.store x.there x.component x.from x.to ∙ sym (word w i is from to)
+    where
+      word : (y : Store) → In y (stores m r bytes got out) → y.ask.component ≡ k → y.ask.offset ≤ z →
+          z < y.ask.offset + length y.bytes →
+          slice_index y.bytes (z - y.ask.offset) ≡ word_for m r bytes got out (k / replicas m) z
+      word y j e low high =
+          let on : y.ask.offset + (z - y.ask.offset) ≡ z = omega (arith, low) in
+          store_word y j (z - y.ask.offset) (omega (arith, low, high))
+          ∙ ap (λ c. word_for m r bytes got out (c / replicas m) (y.ask.offset + (z - y.ask.offset))) e
+          ∙ ap (word_for m r bytes got out (k / replicas m)) on
+
   -- ---- a changed byte of a unit
 
   module _ (s u b : ℕ) (wide : u < group_width m) (touched : IsTouchedStripe m r s) (within : IsWithin b (changed m r s u))
@@ -188,3 +206,17 @@ module _ (m : RawMap) (r : Span) (bytes : List ℕ) (got : List Column) (out : L
     parity_stored u high wide k at_ there =
         unit_stored s u b wide (stripe_touched m r l ch from to)
         (rw (changed_all m r s u high) (column_touched m r l ch from to)) (column_below m l ch) k at_ there
+
+    -- which fits what was got
+    pub parity_fits : (u : ℕ) → data_units m ≤ u → u < group_width m → unwritable m out (stripes m r) ≡ None →
+        (0 < parities m → IsFetched Gathers m r got out) → (d : ℕ → ℕ) → AreBytes d → Agrees m got d →
+        word_at m r bytes got out (stripe_of m l) (column_of m l) u ≡ word_of m (over r bytes d) (stripe_of m l) (column_of m l) u
+    unfolding word_at
+    parity_fits u high wide can fetched d db agrees =
+        let some_parity : 0 < parities m = omega (arith, high, wide) in
+        let up : data_units m + (u - data_units m) ≡ u = omega (arith, high) in
+        rw (le-ltb u (data_units m) high) (
+        parity_right m r bytes got out d s b (u - data_units m) ch db some can (fetched some_parity)
+        (λ c lt g. agrees s b c lt g) (stripe_touched m r l ch from to) (column_below m l ch) (omega (arith, up, wide))
+        (column_touched m r l ch from to)
+        ∙ sym (parity_is m (over r bytes d) s b u ch high wide))

@@ -1,44 +1,29 @@
 -- Whatever comes to a client, what its call has stored stays stored, and a write that is acknowledged has stored its bytes.
-use Rattle.std.proofs.Common.{◌≡◌, ◌⊎◌, ◌==◌, ◌+◌, nat_lt, ℕ, Bool, true, false, List, [], ◌∷◌, is_some, Option, Some, None, Result, Ok, Err, refl, sym, ap, subst, ◌∙◌, inl, inr, find, if◌then◌else◌}
-use Rattle.std.specs.Prelude.{option_map}
-use Rattle.std.proofs.lemmas.Bool.{cases_Bool}
-use Rattle.osd_lists.specs.declared.node.Node.TheVariants.{Drive as FromDrive}
-use Rattle.layout_ops.specs.declared.statuses.TheConstants.{NFS4_OK, NFS4ERR_NOENT, NFS4ERR_BADLAYOUT, NFS4ERR_LAYOUTTRYLATER, NFS4ERR_LAYOUTUNAVAILABLE, NFS4ERR_RECALLCONFLICT}
-use Rattle.server_rules.specs.Laws.{In}
-use Rattle.server_rules.proofs.Members.{in_filtered}
+use Rattle.std.proofs.Common.{◌≡◌, ◌==◌, ◌+◌, nat_lt, ℕ, Bool, true, false, List, Option, Some, None, Result, Ok, Err, refl, sym, subst, ◌∙◌, if◌then◌else◌}
+use Rattle.layout_ops.specs.declared.statuses.TheConstants.{NFS4_OK, NFS4ERR_NOENT, NFS4ERR_LAYOUTTRYLATER, NFS4ERR_LAYOUTUNAVAILABLE, NFS4ERR_RECALLCONFLICT}
 use Rattle.client_rules.specs.declared.limits.TheConstants.{MAX_TRIES, NO_COMPONENT}
-use Rattle.client_rules.specs.Answers.{busy, unavailable, refused_with, not_granted, committed, on_commit, not_committed, is_loss_taken, on_report}
-use Rattle.client_rules.specs.Calls.{file_of, span_of}
-use Rattle.client_rules.specs.Commands.{of_component, is_of}
-use Rattle.client_rules.specs.Going.{quiet, with_held, by_turn, moved, begins, starts_with, starts_under, starts_at, starts_call, begun, requests, asks_under, returns}
+use Rattle.client_rules.specs.Answers.{busy, unavailable, refused_with, not_granted}
+use Rattle.client_rules.specs.Calls.{file_of}
+use Rattle.client_rules.specs.Going.{with_held, by_turn, moved, begins, starts_with, starts_under, starts_at, starts_call, begun, requests, asks_under, returns}
 use Rattle.client_rules.specs.Grants.{covers, held_of}
-use Rattle.client_rules.specs.History.{Input, Calls, Hears, TimesOut, Leaves, Resends, unless_refused, step}
-use Rattle.client_rules.specs.Io.{awaited_in}
+use Rattle.client_rules.specs.History.{step}
 use Rattle.client_rules.specs.Layouts.{taken}
-use Rattle.client_rules.specs.Messages.{Replies, Taken, TakesAnswer, TakesReply, TakesRecall, Step, awaited_of, reply_taken, takes, still, finished, answered_get, on_get, commit_under, on_need, on_phase, on_call, obeys, no_match}
-use Rattle.client_rules.specs.Replies.{answers, replied, timed_out}
+use Rattle.client_rules.specs.Messages.{Step, finished, answered_get, on_get}
 use Rattle.client_rules.specs.Requests.{args_of}
 use Rattle.client_rules.specs.Results.{status_of}
-use Rattle.client_rules.specs.Steps.{is_bad_range, is_spent, writes_nothing, calls, timeout_under, timeout_call, times_out, all_due}
-use Rattle.client_rules.specs.Turns.{turned, needing}
-use Rattle.client_rules.specs.Writes.{lowest}
+use Rattle.client_rules.specs.Turns.{needing}
 use Rattle.client_rules.proofs.HeldGrants.{held_file, put_at}
-use Rattle.history_law.specs.Turns.{TurnCases, IsReplied, IsTimed, with_start}
-use Rattle.history_law.proofs.Turns.{each_turn, each_progress}
-use Rattle.world_history.specs.ClientNames.{Client, Call, CallOp, Busy, BadRange, SlotSpent, Held, Due, Awaited, TimedOut, Moved, Request, Answer, Reply, Why, Need, First, Get, Commit, Report, Close, Phase, Starts, Needs, Waits, Reads, Probes, Gathers, Scatters, Outcome, WriteOk, ReadOk, NoFile, HeldBy, Fencing, Spent, Degraded, Status, Silent, BadLayout, Turn, Goes, Ends, Forgets, Done}
+use Rattle.history_law.proofs.Turns.{each_progress}
+use Rattle.world_history.specs.ClientNames.{Call, CallOp, Held, Due, Moved, Request, Answer, Why, Need, First, Get, Commit, Report, Close, Phase, Starts, Needs, Waits, Reads, Probes, Gathers, Scatters, Outcome, WriteOk, ReadOk, NoFile, HeldBy, Fencing, Spent, Degraded, Status, Turn, Goes, Ends, Forgets, Done}
 use Rattle.cause_law.specs.Met as met
-use Rattle.cause_law.specs.Met.{Met, Answered, Replied, since, with_answer, with_taken, with_timeout, with_silence, met_after, timed_in}
-use Rattle.cause_law.specs.Caused.{call_in}
-use Rattle.cause_law.proofs.Fetching.{nonce_is}
-use Rattle.relation_law.proofs.MessagesAlways.{Any, found_one, on_call_fine, quiet_fine, has_bytes, replied_done, timed_done}
+use Rattle.cause_law.specs.Met.{Met}
+use Rattle.relation_law.proofs.MessagesAlways.{Any}
 use Rattle.relation_law.proofs.MessagesRun.{FineDone, finishes, call_bytes}
-use Rattle.relation_law.proofs.OwnFacts.{replied_fits, timed_fits}
-use Rattle.relation_law.proofs.RequestsDealt.{file_of_moved, replied_file, timed_out_file, begins_file}
+use Rattle.relation_law.proofs.RequestsDealt.{file_of_moved, begins_file}
 use Rattle.relation_law.proofs.TurnEnds.{writes_some}
-use Rattle.history_claims.proofs.StoredParts.{Under, Scattering, Scattered, IsMore, more_none, more_answered, more_replied, scattering_more}
-use Rattle.history_claims.proofs.StoredDealings.{Reporting, NeedUnder, PhaseUnder, IsOwn, IsEnd, TurnStored, MovedStored, begins_stored, accounted_stored, replied_stored, timed_stored}
-use Rattle.history_claims.proofs.StoredCalls.{HasGrant, NeedStored, WaitStored, PhaseStored, CallStored, call_more, report_ends}
-use Rattle.history_claims.proofs.Wrote.{IsNoOk, IsSound, PhaseSo, CallSo, HasScattered}
+use Rattle.history_claims.proofs.StoredDealings.{Reporting, IsQuiet, NeedUnder, PhaseUnder, IsEnd, TurnStored, MovedStored, begins_stored}
+use Rattle.history_claims.proofs.StoredCalls.{NeedStored, PhaseStored, CallStored}
+use Rattle.history_claims.proofs.Wrote.{IsNoOk}
 
 -- ---- to the end of a step that began with these grants and is about this call, which has met all this
 
@@ -101,7 +86,7 @@ module _ (before : List Held) (mine : Option CallOp) (ms : List Met) where
   unfolding begun
   begun_stored d g = by_call d.client.call refl
     where
-      quiet_at : (op : CallOp) → d.client.call ≡ Some (record { op = op; phase = Starts }) → timed_in ms ≡ []
+      quiet_at : (op : CallOp) → d.client.call ≡ Some (record { op = op; phase = Starts }) → IsQuiet ms
       quiet_at op is = subst (CallStored d.client.held d.client.outstanding ms) is g.stored.0
 
       with_need : (op : CallOp) (n : Need) → NeedStored d.client.held op ms n →
@@ -119,7 +104,7 @@ module _ (before : List Held) (mine : Option CallOp) (ms : List Met) where
           record {
             stored =
                 moved_stored d op h (begins h op) held (file_of_moved h (begins h op) (begins_file h op)) g.stored.1
-                (begins_stored before mine ms op h (quiet_at op is)
+                (begins_stored before mine ms op h (quiet_at op is) (g.fine.usable (file_of op) h held) has cover
                 (λ w. writes_some h op (g.fine.usable (file_of op) h held) has cover w));
             fine = (finishes Any).begun d op h g.fine is held cover;
           }
@@ -184,7 +169,7 @@ module _ (before : List Held) (mine : Option CallOp) (ms : List Met) where
 
   -- ---- a layout is given, or not
 
-  busy_stored : (tries : ℕ) (o : Outcome) → IsNoOk o → timed_in ms ≡ [] → (d : Done) (op : CallOp) → EndsStored d.outcome →
+  busy_stored : (tries : ℕ) (o : Outcome) → IsNoOk o → IsQuiet ms → (d : Done) (op : CallOp) → EndsStored d.outcome →
       Stored (by_turn d op (busy tries o))
   unfolding busy
   busy_stored tries o k quiet_ d op e = by (nat_lt (tries + 1) MAX_TRIES)
@@ -193,7 +178,7 @@ module _ (before : List Held) (mine : Option CallOp) (ms : List Met) where
       by true = (quiet_, e)
       by false = (tt, no_ok o k)
 
-  pub get_stored : (d : Done) (op : CallOp) (tries : ℕ) (a : Answer) → timed_in ms ≡ [] → EndsStored d.outcome →
+  pub get_stored : (d : Done) (op : CallOp) (tries : ℕ) (a : Answer) → IsQuiet ms → EndsStored d.outcome →
       Stored (on_get d op tries a)
   unfolding not_granted
   get_stored d op tries a quiet_ e = by (status_of a.results == NFS4_OK)

@@ -175,8 +175,9 @@ pub record IsSound (h : List Line) : Type 0 where
   -- timeouts, the data byte of the one codeword that has what such replies gave of its column
   pub bytes : AtEachLine BytesAt h
   -- where a line tells that some bytes were written, each was carried by a WRITE that was performed, as a reply to the call says,
-  -- to each replica of its position that isn't out by the layout and the timeouts; so was some byte of each unit of parity in its
-  -- column; and what timed out in the call was reported, and taken as a loss
+  -- to each replica of its position that isn't out by the layout and the timeouts, and no other byte was; so was one of each unit
+  -- of parity in its column, that of each file that agrees with what the call read; and what timed out in the call was reported,
+  -- and taken as a loss
   pub stored : AtEachLine StoredAt h
   -- in a whole history each note of the server has its cause in what the books have of the file before and behind its step, and
   -- in what comes

@@ -4,8 +4,9 @@
 //! and `headline_law`. Here are more: messages are numbered as they are sent, and are taken by who hears; an event
 //! delivers what it has to; a component times out, and a client refuses, where it has to; a recall has its cause; what
 //! replies carry are bytes, if messages are; at each moment the components of a zoned file are spread over zones; if a file
-//! is made, its CREATEs go to its components' drives; a call that ended in ok has its entry in the log; and a ready read of
-//! a calm event gives what the writes before it leave.
+//! is made, its CREATEs go to its components' drives; a call that ended in ok has its entry in the log; an acknowledged
+//! write has stored its bytes; a ready read of a calm event gives what the writes before it leave; and each note of the
+//! server has its cause, and what a job is at ends with its note.
 #![tactic(auto)]
 
 mod laws;
