@@ -20,4 +20,5 @@ returns c =
     c.calls_are_left.ensures c.pending_calls_are_unanswered.ensures
     c.losses_are_borne.ensures c.ready_calls_end_in_ok.ensures c.ended_calls_are_logged.ensures
     c.ready_reads_are_plain.ensures c.headline_holds.ensures
-    c.audits_find_none.ensures c.repairs_leave_none.ensures c.messages_are_numbered.ensures c.within_the_limit_are_few.ensures
+    c.audits_find_none.ensures c.repairs_leave_none.ensures c.messages_are_numbered.ensures c.ended_have_causes.ensures
+    c.within_the_limit_are_few.ensures
