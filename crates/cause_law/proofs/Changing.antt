@@ -49,7 +49,7 @@ has_begun kind g [] =
     (FenceOver (g.file.kept.tag + 1))) refl).kept
 has_begun kind g (c ∷ cs) = inl refl
 
-begun : (kind : JobKind) (format : ℕ) (g : Going) → FenceBegan g.file (fence_begins kind format g).file
+pub begun : (kind : JobKind) (format : ℕ) (g : Going) → FenceBegan g.file (fence_begins kind format g).file
 unfolding fence_begins
 begun kind format g =
     let f : Going = keeping g (ending g.file.kept format) in

@@ -104,3 +104,7 @@ pub mod MadeSteps
 pub mod MadeRead
 pub mod Unsettled
 pub mod Sendable
+pub mod RepairWalk
+pub mod EndedParts
+pub mod EndedSteps
+pub mod EndedLines

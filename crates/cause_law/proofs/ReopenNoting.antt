@@ -97,7 +97,7 @@ skips : (l : Line) (o : Option Line) (ls : List Line) → In l ls → In l (cons
 skips l None ls i = i
 skips l (Some x) ls i = inr i
 
-in_lines : (ns : List Note) (x : Note) (l : Line) → In x ns → known_note_line x ≡ Some l
+pub in_lines : (ns : List Note) (x : Note) (l : Line) → In x ns → known_note_line x ≡ Some l
     → In l (filter_map known_note_line ns)
 in_lines [] x l i e = absurd i
 in_lines (n ∷ ns) x l (inl same) e = rw (ap known_note_line (sym same) ∙ e) (inl refl)

@@ -1,9 +1,9 @@
 -- What the server sends in a move of a history of a scenario's text with few messages fits its places.
-use Rattle.std.proofs.Common.{◌≡◌, ◌≤◌, ◌<◌, ◌^◌, ℕ, ◌+◌, Bool, true, false, List, [], ◌∷◌, ◌++◌, Option, Some, None, sym, subst, ap, ◌∙◌, inl, inr}
+use Rattle.std.proofs.Common.{◌≡◌, ◌≤◌, ◌^◌, ℕ, ◌+◌, Bool, true, false, List, [], ◌∷◌, ◌++◌, Some, sym, subst, ap, inl, inr}
 use Rattle.osd_lists.specs.declared.node.Node.{Node}
 use Rattle.layout_ops.specs.declared.envelope.Envelope.TheVariants as envelope
 use Rattle.layout_ops.specs.Spelling.{EnvelopeFits}
-use Rattle.server_rules.specs.History.{Input, Hears, Makes, Adds, Obeys, Zones, Formats, Resends, Crashes, Opens as Opened, step}
+use Rattle.server_rules.specs.History.{Input, Hears, Makes, Adds, Formats, step}
 use Rattle.server_rules.specs.Laws.{In}
 use Rattle.scenario_text.specs.Spelling.{Fits}
 use Rattle.scenario_text.specs.declared.event.Event.TheVariants as event
@@ -19,8 +19,8 @@ use Rattle.history_law.specs.Moments.{IsMoment, with_event, plan_at, lines_in}
 use Rattle.history_law.specs.Moves.{IsForServer, given_in}
 use Rattle.history_law.proofs.Ending.{next_moment}
 use Rattle.history_law.proofs.Moves.{none_added}
-use Rattle.exchange_law.specs.Text.{AreOfText, AreFew}
-use Rattle.exchange_law.proofs.Answering.{SentGood, SlotsGood}
+use Rattle.exchange_law.specs.Text.{AreOfText}
+use Rattle.exchange_law.proofs.Answering.{SentGood}
 use Rattle.exchange_law.proofs.CountGrowing.{text_front, text_behind}
 use Rattle.exchange_law.proofs.CountStepping.{IsGiven}
 use Rattle.exchange_law.proofs.CountTelling.{ReadsWell, step_good}

@@ -21,6 +21,7 @@ pub mod Commits
 pub mod Returns
 pub mod Answers
 pub mod Changes
+pub mod EndedGrants
 pub mod Told
 pub mod Components
 pub mod Losses

@@ -3,6 +3,7 @@ ghost use Rattle.cause_law.specs.Answers.{EachRequestIsAnswered};
 ghost use Rattle.cause_law.specs.Awaiting.{EachAwaitedHasItsCauses, EachAwaitedWasSent};
 ghost use Rattle.cause_law.specs.AwaitedEnds.{EachAwaitedHasItsEnd};
 ghost use Rattle.cause_law.specs.Changes.{EachGrantHasItsCauses};
+ghost use Rattle.cause_law.specs.EndedGrants.{EachEndedHasItsCause};
 ghost use Rattle.cause_law.specs.Components.{EachComponentHasItsCauses};
 ghost use Rattle.cause_law.specs.Ends.{EachEndIsSaid};
 ghost use Rattle.cause_law.specs.FenceTags.{EachTagHasItsCause};
@@ -36,6 +37,23 @@ pub fn requests_are_answered()
 /// does where no job of the file runs, and each opening where the file is unsettled, if there is a further tag.
 pub fn grants_have_causes()
     ensures { EachGrantHasItsCauses }
+{
+    files_are_put();
+    each_step_raises_tags();
+    seen_is_sound();
+    grants_are_safe();
+    book_is_read();
+    step_is_read();
+    server_moves();
+    one_event_more();
+    reading_goes_on();
+}
+
+/// At each line of such a history at which something comes to the server, the grants of a file that fences ended go on so:
+/// a repair that a line of the step tells to be over takes them all; else a fence that is open or over behind the step
+/// adds those that were live; and else they stay.
+pub fn ended_have_causes()
+    ensures { EachEndedHasItsCause }
 {
     files_are_put();
     each_step_raises_tags();

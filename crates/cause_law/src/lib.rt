@@ -57,7 +57,7 @@ mod reopen_laws;
 
 pub use cause_laws::{
     awaited_have_causes, awaited_have_ends, awaited_were_sent, components_have_causes,
-    ends_are_said, grants_have_causes, losses_have_causes, messages_are_caused,
+    ended_have_causes, ends_are_said, grants_have_causes, losses_have_causes, messages_are_caused,
     requests_are_answered, tags_have_causes,
 };
 pub use ending_laws::{

@@ -23,7 +23,7 @@ module _ (birth : ℕ → ℕ) (n : ℕ) (before : List Awaited) where
     lost = λ g ks h.
         holds_on birth n before (with_components g (lose_from ks g.file.kept.components 0))
         (holds_same birth n before g (lose_from ks g.file.kept.components 0) (objects_from ks g.file.kept.components 0) h);
-    noted = λ g b x h. h;
+    noted = λ g b x p h. h;
     granted = λ g gs high h. h;
     sized = λ g size h. h;
   }

@@ -20,7 +20,7 @@ module _ (P : ℕ → Type 0) (number n : ℕ) (fresh : (o : ℕ) → n ≤ o �
     lost = λ g ks h.
         ends_same P number n fresh k0 before g (lose_from ks g.file.kept.components 0)
         (objects_from ks g.file.kept.components 0) h;
-    noted = λ g b x h. h;
+    noted = λ g b x p h. h;
     granted = λ g gs high h. h;
     sized = λ g size h. h;
   }

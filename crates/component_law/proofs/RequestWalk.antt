@@ -1,5 +1,5 @@
 -- What a client's request leaves of a file, where notes, grants and the size are no part of it.
-use Rattle.std.proofs.Common.{◌==◌, ℕ, ◌+◌, Bool, true, false, List, [], ◌∷◌, Option, Some, None, if◌then◌else◌}
+use Rattle.std.proofs.Common.{◌≡◌, ◌==◌, ℕ, ◌+◌, Bool, true, false, List, [], ◌∷◌, Option, Some, None, refl, if◌then◌else◌}
 use Rattle.server_rules.specs.declared.limits.TheConstants.{GREATEST_TAG}
 use Rattle.server_rules.specs.Commit.{Committed, NoGrant, Wrong, Sizes, by_commit, commits}
 use Rattle.server_rules.specs.Get.{Early, BadMode, Invalid, Unable, Waits, On, Late, NoNumber, Lacks, Conflict, Gives, by_late, late, give_or_refuse, after_fence, fence_first, on_grants, must_fence, by_early, gets}
@@ -11,6 +11,7 @@ use Rattle.server_rules.specs.Requests.{serves}
 use Rattle.server_rules.specs.Return.{Returned, NoGrant as NotHeld, Clean, Taken, TooMany, Fencing as ToFence, reports_from, takes_loss, by_return, returns_on}
 use Rattle.server_rules.specs.Served.{Served}
 use Rattle.server_rules.specs.Standing.{lose_from}
+use Rattle.component_law.specs.KeptWalk.{is_plain}
 use Rattle.history_law.specs.Names.{Grant, Component, Job, NoteKind, Revoking, Reported, Spent, RequestArgs, Get, Commit, Return}
 
 -- `Hold` is so of the file before the request, and `End` behind it.
@@ -20,7 +21,7 @@ pub record IsServed (Hold End : Going → Type 0) : Type 0 where
   pub fence : (format : ℕ) (g : Going) → Hold g → End (fence_begins Revoking format g)
   pub lost : (g : Going) (ks : List ℕ) → Hold g → End (with_components g (lose_from ks g.file.kept.components 0))
   -- what is no part of it
-  pub noted : (g : Going) (b : Bool) (n : NoteKind) → End g → End (noting_if b g n)
+  pub noted : (g : Going) (b : Bool) (n : NoteKind) → is_plain n ≡ true → End g → End (noting_if b g n)
   pub granted : (g : Going) (gs : List Grant) (high : ℕ) → End g
       → End (keeping g (record g.file.kept { grants = gs; high = high }))
   pub sized : (g : Going) (size : ℕ) → End g → End (keeping g (record g.file.kept { size = size }))
@@ -49,7 +50,7 @@ module _ (Hold End : Going → Type 0) (w : IsServed Hold End) where
   ends_first : (go : Going) (next format : ℕ) (g : Grant) → Hold go → End (fence_first go next format g).going
   unfolding fence_first
   ends_first go next format g h =
-      either_served (go.file.kept.tag == GREATEST_TAG) _ _ (w.noted go true Spent (w.stays go h))
+      either_served (go.file.kept.tag == GREATEST_TAG) _ _ (w.noted go true Spent refl (w.stays go h))
       (ends_after (fence_begins Revoking format go) next g (fence_begins Revoking format go).file.job (w.fence format go h))
 
   ends_grants : (go : Going) (next format now : ℕ) (g : Grant) → Hold go → End (on_grants go next format now g).going
@@ -77,7 +78,7 @@ module _ (Hold End : Going → Type 0) (w : IsServed Hold End) where
   unfolding reports_from
   ends_reports go ks [] k h = h
   ends_reports go ks (at ∷ cs) k h =
-      ends_reports (noting_if (among k ks) go (Reported k)) ks cs (k + 1) (w.noted go (among k ks) (Reported k) h)
+      ends_reports (noting_if (among k ks) go (Reported k)) ks cs (k + 1) (w.noted go (among k ks) (Reported k) refl h)
 
   ends_loss : (go : Going) (ks : List ℕ) → Hold go → End (takes_loss go ks)
   unfolding takes_loss
@@ -94,7 +95,7 @@ module _ (Hold End : Going → Type 0) (w : IsServed Hold End) where
   ends_return go format client NotHeld h = w.stays go h
   ends_return go format client Clean h = ends_grant_of go client (w.stays go h)
   ends_return go format client (Taken ks) h = ends_grant_of (takes_loss go ks) client (ends_loss go ks h)
-  ends_return go format client TooMany h = w.noted go true Spent (w.stays go h)
+  ends_return go format client TooMany h = w.noted go true Spent refl (w.stays go h)
   ends_return go format client ToFence h = w.fence format go h
 
   pub ends_served : (go : Going) (next format now client : ℕ) (args : RequestArgs) → Hold go

@@ -323,7 +323,7 @@ module _ (Q : List Drive → (next : ℕ) → Kept → Option Target → Type 0)
     fence = λ format g h.
         ends_fence Revoking format g (w.ends g.drives g.effects.object g.file.kept (target_of g.file.job) h);
     lost = λ g ks h. w.lost g.drives g.effects.object g.file.kept (target_of g.file.job) ks h;
-    noted = λ g b n h. h;
+    noted = λ g b n p h. h;
     granted = λ g gs high h.
         w.same g.drives g.effects.object g.file.kept _ (target_of g.file.job) refl refl refl refl h;
     sized = λ g size h.

@@ -4,9 +4,9 @@ use Rattle.std.proofs.Common.{◌≡◌, ◌==◌, ◌++◌, ◌||◌, ℕ, Bool
 use Rattle.std.proofs.lemmas.Bool.{true≢false, cases_Bool, eq-eqb, ne_eqb}
 use Rattle.std.proofs.lemmas.List.{append-nil}
 use Rattle.server_rules.specs.declared.limits.TheConstants.{GREATEST_TAG}
-use Rattle.server_rules.specs.Going.{Going, keeping, noting, noting_if, with_components}
+use Rattle.server_rules.specs.Going.{Going, noting, noting_if, with_components}
 use Rattle.server_rules.specs.Grants.{merged, count_stripes}
-use Rattle.server_rules.specs.Jobs.{making, ending, fence_begins, declares, declared_in, targets}
+use Rattle.server_rules.specs.Jobs.{making, fence_begins, declares, declared_in, targets}
 use Rattle.server_rules.specs.Laws.{In, NoneBeside}
 use Rattle.server_rules.specs.Openings.{is_unsettled, opens_made, opens_spent, opens_fenced, opens}
 use Rattle.server_rules.specs.Repair.{mended}

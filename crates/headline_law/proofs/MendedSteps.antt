@@ -22,7 +22,7 @@ use Rattle.component_law.specs.Distinct.{AreDistinct}
 use Rattle.cause_law.proofs.Barring.{of_each}
 use Rattle.relation_law.proofs.KeptServer.{at_place}
 use Rattle.headline_law.proofs.PartWalk.{part_hears}
-use Rattle.headline_law.proofs.MendedJobs.{tells_repair, repair_of, AllCounted, to_repair, only_ended, Told, AllTold, IsAhead, Base, counted_noted, told_making, told_part, told_fence, told_opens, told_serves, told_declares}
+use Rattle.headline_law.proofs.MendedJobs.{tells_repair, repair_of, AllCounted, to_repair, only_ended, Told, AllTold, Base, counted_noted, told_making, told_part, told_fence, told_opens, told_serves, told_declares}
 
 -- ---- before the first part
 

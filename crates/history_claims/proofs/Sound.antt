@@ -49,6 +49,7 @@ use Rattle.cause_law.specs.Awaiting.{EachAwaitedHasItsCauses, EachAwaitedWasSent
 use Rattle.cause_law.specs.AwaitedEnds.{EachAwaitedHasItsEnd}
 use Rattle.cause_law.specs.Changes.{EachGrantHasItsCauses}
 use Rattle.cause_law.specs.Components.{EachComponentHasItsCauses}
+use Rattle.cause_law.specs.EndedGrants.{EachEndedHasItsCause}
 use Rattle.cause_law.specs.Ends.{EachEndIsSaid}
 use Rattle.cause_law.specs.FenceTags.{EachTagHasItsCause}
 use Rattle.cause_law.specs.Losses.{EachLossHasItsCause}
@@ -95,12 +96,12 @@ pub histories_are_sound : HistoriesAreSafe → VerdictsAreAnswered → CommandsA
     → HeadlineHolds
     → AuditsFindNone → EachRepairLeavesNone → MessagesAreNumbered → WritesAreStored → MessagesAreReceived → EachEventDelivers
     → EachIsTimedOut → EachIsRefused → EachRecallIsCaused → RepliesCarryBytes → EachNoteHasItsCause → EachStageHasItsEnd
-    → EachRefusalIsTold → EachReachHasItsCause → WithinTheLimitAreFew
+    → EachRefusalIsTold → EachReachHasItsCause → EachEndedHasItsCause → WithinTheLimitAreFew
     → HistoriesAreSound
 histories_are_sound safe answered issued listed fair ranges fronts apart spread created own fenced live given older barred exact
     allowed lanes lanes_own judged awaited low ends outcomes read bytes tags caused told changed gone lost raised waits until sent
     barred_by named objects said left unanswered borne ready leaves logged plain right audits mended numbered stored
-    received delivers silent refuses recalled carried noted stages refusals reached few = record {
+    received delivers silent refuses recalled carried noted stages refusals reached ended few = record {
       sound = λ h l. record {
         safe = safe h l;
         answered = λ w s. answered w h s;
@@ -129,6 +130,7 @@ histories_are_sound safe answered issued listed fair ranges fronts apart spread 
         causes = λ w s a. caused w h s a;
         answers = λ w g k m rest d is a. told w g k m d a;
         changes = λ w s a. changed w h s a;
+        ended = λ w s a. ended w h s a;
         components = λ w s a. gone w h s a;
         lost = λ w s a. lost w h s a;
         raised = λ w s a. raised w h s a;

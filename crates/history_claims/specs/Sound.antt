@@ -40,6 +40,7 @@ use Rattle.cause_law.specs.Awaiting.{AwaitedHaveCauses, WereSentAt}
 use Rattle.cause_law.specs.AwaitedEnds.{AwaitedHaveEnds}
 use Rattle.cause_law.specs.Changes.{GrantsHaveCauses}
 use Rattle.cause_law.specs.Components.{ComponentsHaveCauses}
+use Rattle.cause_law.specs.EndedGrants.{EndedHaveCauses}
 use Rattle.cause_law.specs.Ends.{CallsEndAsSaid}
 use Rattle.cause_law.specs.FenceTags.{TagsHaveCauses}
 use Rattle.cause_law.specs.Losses.{LossesHaveCauses}
@@ -142,6 +143,9 @@ pub record IsSound (h : List Line) : Type 0 where
   -- nothing else makes a grant of a file live or ends one, or changes the file's size, but a fence that an order to revoke,
   -- rebuild or audit the file begins, or an opening, and that ends all; and each of these does, while no job runs
   pub changes : (w : World) → StandsFor w h → AreWritten h → GrantsHaveCauses h
+  -- the book has the grants that fences ended until a line tells that a repair of the file is over, which takes them all: a
+  -- fence adds those that were live, and nothing else changes them
+  pub ended : (w : World) → StandsFor w h → AreWritten h → EndedHaveCauses h
   -- and each file goes on with its map, and with its components as the notes of the step tell, after those on a drive that is
   -- declared, and that the server knows, became missing
   pub components : (w : World) → StandsFor w h → AreWritten h → ComponentsHaveCauses h

@@ -19,9 +19,9 @@ use crate::note_laws::{
 use cause_law::{
     answers_are_of_replies, awaited_have_causes, awaited_have_ends, awaited_were_sent,
     calls_are_left, calls_end_so, components_have_causes, crashes_bar, each_byte_has_its_cause,
-    ends_are_caused, ends_are_said, grants_are_named_once, grants_have_causes, losses_have_causes,
-    messages_are_caused, objects_are_own, pending_calls_are_unanswered, requests_are_answered,
-    tags_have_causes,
+    ended_have_causes, ends_are_caused, ends_are_said, grants_are_named_once, grants_have_causes,
+    losses_have_causes, messages_are_caused, objects_are_own, pending_calls_are_unanswered,
+    requests_are_answered, tags_have_causes,
 };
 use component_law::{
     answers_are_live, components_stand_apart, each_object_is_owned, each_step_is_apart,
@@ -268,5 +268,6 @@ pub fn histories_are_sound()
     stages_have_ends();
     refusals_are_told();
     reaches_have_causes();
+    ended_have_causes();
     within_the_limit_are_few();
 }

@@ -1,5 +1,5 @@
 -- Each note that a fence is over, in the lines of a whole history.
-use Rattle.std.proofs.Common.{◌≡◌, ℕ, false, ◌++◌, ◌∷◌, [], List, Some, refl, sym, ap, subst, ◌∙◌, append_assoc, inl}
+use Rattle.std.proofs.Common.{◌≡◌, ℕ, false, ◌++◌, ◌∷◌, List, Some, refl, sym, ap, subst, ◌∙◌, append_assoc, inl}
 use Rattle.server_rules.specs.Laws.{In}
 use Rattle.server_rules.proofs.Members.{in_behind}
 use Rattle.scenario_text.specs.declared.line.Note.TheVariants as note

@@ -25,4 +25,5 @@ returns c =
     c.messages_are_received.ensures c.events_deliver.ensures c.components_time_out.ensures c.clients_refuse.ensures
     c.recalls_are_caused.ensures c.replies_carry_bytes.ensures
     c.notes_have_causes.ensures c.stages_have_ends.ensures c.refusals_are_told.ensures c.reaches_have_causes.ensures
+    c.ended_have_causes.ensures
     c.within_the_limit_are_few.ensures
