@@ -22,7 +22,7 @@ use Rattle.cause_law.proofs.Unanswered.{between}
 use Rattle.cause_law.specs.Down.{down_after_line, DownIsRead}
 use Rattle.cause_law.specs.ReadClients.{ClientSeen, sees_client, client_after_line, called, called_as, hears, hears_read, hears_sent}
 use Rattle.generate_law.specs.Plays.{Plays, NoneIsRefused}
-use Rattle.generate_law.specs.Scenario.{opening, calls_from, call_event, next_random, scenario_of}
+use Rattle.generate_law.specs.Scenario.{makes_drive as makes, makes_file, first_call, each_below, opening, calls_from, call_event, next_random, scenario_of}
 use Rattle.generate_law.proofs.Events.{events_in, events_are}
 use Rattle.generate_law.proofs.Guessing.{uninjected_is_unguessed}
 use Rattle.generate_law.specs.Quiet.{InjectsNone, ScenarioIsUnguessed}
@@ -305,7 +305,9 @@ more_admitted front (x ∷ xs) ys a b = (
 
 opening_admitted : AreAdmitted [] opening
 opening_admitted =
-    (refl, tt, (refl, tt, (refl, tt, (refl, tt, (refl, tt, (refl, tt, (refl, tt, (refl, tt, (refl, tt, (refl, tt, (refl, tt, tt)))))))))))
+    let parties : AreAdmitted (each_below makes 6) (each_below (λ c. event.Client c) 3 ++ (makes_file ∷ first_call ∷ [])) =
+    (refl, tt, (refl, tt, (refl, tt, (refl, tt, (refl, tt, tt))))) in
+    (refl, tt, (refl, tt, (refl, tt, (refl, tt, (refl, tt, (refl, tt, parties))))))
 
 pub none_is_refused : DrivesAreRead → ClientsAreRead → DownIsRead → NoneIsRefused
 none_is_refused drives clients down seed calls front e back w h is p =
@@ -335,4 +337,5 @@ scenario_is_unguessed seed calls w h p =
     uninjected_is_unguessed h
     (lines_inject_none h
     (lines_have_peace h
-    (subst (AllByRecursion IsPeaceful) (sym (events_are (scenario_of seed calls) w h p)) (all_peace [] (scenario_of seed calls) all))))
+    (subst (AllByRecursion IsPeaceful) (sym (events_are (scenario_of seed calls) w h p))
+    (all_peace [] (scenario_of seed calls) all))))
