@@ -1,5 +1,5 @@
 -- The calls that a history counts are those of its events.
-use Rattle.std.proofs.Common.{◌≡◌, ◌+◌, ◌/◌, ◌%◌, ◌==◌, ℕ, zero, suc, true, false, inl, inr, ◌∙◌, arith, List, [], ◌∷◌, ◌++◌, refl, sym, ap, subst}
+use Rattle.std.proofs.Common.{◌≡◌, ◌+◌, ◌/◌, ◌%◌, ◌==◌, ℕ, zero, suc, inl, inr, arith, List, [], ◌∷◌, refl, ap, subst}
 use Rattle.std.specs.List.{fold}
 use Rattle.scenario_text.specs.declared.event.Call.{Call}
 use Rattle.scenario_text.specs.declared.event.Call.TheVariants as call
@@ -15,7 +15,7 @@ use Rattle.std.proofs.lemmas.Bool.{cases_Bool}
 use Rattle.std.proofs.lemmas.Bool.Decides.{nat_tests}
 use Rattle.std.proofs.lemmas.List.Sums.{fold-append}
 use Rattle.generate_law.specs.Scenario.{opening, calls_from, next_random, scenario_of}
-use Rattle.generate_law.specs.Counts.{CallsAreOfEvents, HasCounts, ScenarioHasCounts}
+use Rattle.generate_law.specs.Counts.{CallsAreOfEvents, ScenarioHasCounts}
 use Rattle.generate_law.proofs.Events.{events_in, events_are}
 
 -- two summaries count the same calls

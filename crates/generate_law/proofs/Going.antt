@@ -1,19 +1,17 @@
 -- The scenario's calls go on from rest to rest.
-use Rattle.std.proofs.Common.{◌≡◌, ◌%◌, ◌+◌, ℕ, zero, suc, true, List, [], ◌∷◌, ◌++◌, map, refl, sym, ap, subst, ◌∙◌, append_assoc, arith, inl, inr}
+use Rattle.std.proofs.Common.{◌≡◌, ◌%◌, ◌+◌, ℕ, zero, suc, List, [], ◌∷◌, ◌++◌, map, refl, sym, ap, subst, ◌∙◌, append_assoc, arith, inr}
 use Rattle.std.proofs.Math.Nat.{mod-lt}
 use Rattle.std.proofs.lemmas.List.{append-nil}
 use Rattle.scenario_text.specs.declared.event.Event.{Event}
-use Rattle.scenario_text.specs.declared.event.Event.TheVariants as event
 use Rattle.scenario_text.specs.declared.line.Line.{Line}
 use Rattle.scenario_text.specs.declared.line.Line.TheVariants as line
+use Rattle.world_history.specs.ServerNames.{File}
 use Rattle.world_history.specs.State.{World}
 use Rattle.world_history.specs.Moves.{op_of}
 use Rattle.world_history.specs.Runs.{Carries, lines_of}
-use Rattle.world_history.specs.History.{Step, StandsFor, AreCarried, Lawful, OneEventMore, end_of, lines_of_steps}
+use Rattle.world_history.specs.History.{Step, StandsFor, Lawful, OneEventMore, end_of, lines_of_steps}
 use Rattle.world_history.specs.History.Begins.{Nothing}
-use Rattle.world_history.specs.Guesses.{unguessed}
 use Rattle.history_law.specs.Grants.{GrantsAreSafe}
-use Rattle.history_law.specs.Read.{AreWritten}
 use Rattle.history_law.proofs.Coming.{clean_front}
 use Rattle.history_law.proofs.Staying.{written_front}
 use Rattle.exchange_law.proofs.CountGrowing.{fewer, text_front}
@@ -26,7 +24,7 @@ use Rattle.ready_law.specs.Worlds.{ScenesAreRead}
 use Rattle.generate_law.specs.Going.{GoesWell, CallsKeepRest}
 use Rattle.generate_law.specs.Rests.{FILE_SIZE, Rests}
 use Rattle.generate_law.specs.Scenario.{call_of, call_event, calls_from, next_random}
-use Rattle.generate_law.proofs.Readiness.{call_inside, is_ready, none}
+use Rattle.generate_law.proofs.Readiness.{call_inside, is_ready, its_file, none}
 use Rattle.generate_law.proofs.Resting.{rests_go_on}
 
 -- it goes well up to each front
@@ -43,7 +41,7 @@ module _ (more : OneEventMore) (leaves : ReadyCallsLeaveRest) (safe : GrantsAreS
 
   module _ (k x : ℕ) (w v : World) (h lines : List Line) (here : StandsFor w h) (r : Rests FILE_SIZE (scene_of w h))
       (c : Carries w (call_event k x) lines v) (good : GoesWell (h ++ lines)) where
-    body : List Line
+    abbrev body : List Line
     body = lines_of w c.moves
 
     behind : StandsFor v (h ++ lines)
@@ -80,19 +78,23 @@ module _ (more : OneEventMore) (leaves : ReadyCallsLeaveRest) (safe : GrantsAreS
         (λ q whole. leaves (h ++ lines) lawful good.written good.text good.few h body (k % 3)
         (call_of k x) over q whole)
 
-    abbrev Rested : List Line → Type 0
-    Rested ls = LeavesRest (scene_of w h) (scene_in ls) (k % 3) (op_of (call_of k x)) r.file
+    abbrev Rested : File → List Line → Type 0
+    Rested f ls = LeavesRest (scene_of w h) (scene_in ls) (k % 3) (op_of (call_of k x)) f
 
     rested : LeavesRest (scene_of w h) (scene_of v (h ++ lines)) (k % 3) (op_of (call_of k x)) r.file
-    unfolding is_ready
     rested =
         let it = call_inside k x in
         let low = mod-lt k {m = 3} (omega arith) in
         let ready =
         is_ready safe w h here FILE_SIZE r (k % 3) low (op_of (call_of k x)) it.file it.short it.inside in
-        let whole = none safe w h here FILE_SIZE r (k % 3) low (op_of (call_of k x)) it.file it.short it.inside in
-        let there : Rested (h ++ lines) =
-        subst Rested (ap (λ (ls : List Line). h ++ ls) (sym c.lines_are)) (left ready whole) in
+        let same : ready.file ≡ r.file =
+        its_file safe w h here FILE_SIZE r (k % 3) low (op_of (call_of k x)) it.file it.short it.inside in
+        let whole : lost_of (scene_of w h) ready.file.kept ≡ [] =
+        subst (λ (f : File). lost_of (scene_of w h) f.kept ≡ []) (sym same)
+        (none safe w h here FILE_SIZE r (k % 3) low (op_of (call_of k x)) it.file it.short it.inside) in
+        let there : Rested r.file (h ++ lines) =
+        subst (λ (f : File). Rested f (h ++ lines)) same
+        (subst (Rested ready.file) (ap (λ (ls : List Line). h ++ ls) (sym c.lines_are)) (left ready whole)) in
         subst (λ (z : Scene). LeavesRest (scene_of w h) z (k % 3) (op_of (call_of k x)) r.file)
         (scenes v (h ++ lines) behind good.written) there
 

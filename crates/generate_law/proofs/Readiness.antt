@@ -1,8 +1,8 @@
 -- A call of the scenario is ready where the parties rest.
-use Rattle.std.proofs.Common.{◌≡◌, ◌≢◌, ◌<◌, ◌≤◌, ◌+◌, ◌-◌, ◌*◌, ◌/◌, ◌%◌, ◌==◌, ◌||◌, ◌^◌, not, max, min, nat_lt, if◌then◌else◌, ℕ, zero, suc, Bool, true, false, true≢false, List, [], ◌∷◌, ◌++◌, length, replicate, slice_get, Option, Some, None, option_map, refl, sym, ap, subst, ◌∙◌, arith, inl, inr, ne_eqb}
+use Rattle.std.proofs.Common.{◌≡◌, ◌≢◌, ◌<◌, ◌≤◌, ◌+◌, ◌-◌, ◌*◌, ◌/◌, ◌%◌, ◌==◌, ◌^◌, not, max, nat_lt, if◌then◌else◌, ℕ, zero, suc, Bool, true, false, true≢false, List, [], ◌∷◌, length, replicate, slice_get, Option, Some, None, option_map, refl, sym, ap, subst, ◌∙◌, arith, inl, inr, ne_eqb}
 use Rattle.std.specs.List.{AllByRecursion}
 use Rattle.std.proofs.Math.Nat.{mod-lt}
-use Rattle.std.proofs.lemmas.Bool.{cases_eq, cases_Bool}
+use Rattle.std.proofs.lemmas.Bool.{cases_eq}
 use Rattle.std.proofs.lemmas.Bool.Decides.{nat_tests}
 use Rattle.data_map.specs.declared.check.RawMap.{RawMap}
 use Rattle.data_map.specs.Check.{IsChecked}
@@ -21,25 +21,22 @@ use Rattle.client_rules.specs.Calls.{file_of, span_of, is_write}
 use Rattle.client_rules.specs.Steps.{is_bad_range}
 use Rattle.scenario_text.specs.declared.line.Line.{Line}
 use Rattle.world_history.specs.ClientNames.{CallOp, Held}
-use Rattle.world_history.specs.ServerNames.{File, Kept, Component, Grant}
+use Rattle.world_history.specs.ServerNames.{Kept, Component, Grant}
 use Rattle.world_history.specs.State.{World, DriveAt, ClientAt}
 use Rattle.world_history.specs.Moves.{op_of, raw_of}
 use Rattle.world_history.specs.History.{StandsFor}
 use Rattle.history_law.specs.Grants.{GrantsAreSafe}
-use Rattle.history_law.specs.Moments.{IsReached}
 use Rattle.component_law.proofs.Server.{found_own}
-use Rattle.exchange_law.proofs.Parts.{each_in}
 use Rattle.exchange_law.proofs.PlaceLists.{all_between}
-use Rattle.exchange_law.proofs.Plans.{IsAsked, IsInRow, asks_in}
+use Rattle.exchange_law.proofs.Plans.{IsAsked, asks_in}
 use Rattle.ready_law.specs.Clear.{HasRoomTo}
-use Rattle.ready_law.specs.Ready.{Scene, scene_of, IsReady, IsInTime, IsReadable, IsWritable, Yields, held_by, opposed, wanted, is_covered, is_lost, lost_from, lost_of, has_failed, touched, greatest_end, write_end, stands}
-use Rattle.ready_law.specs.Rested.{RestsAt}
+use Rattle.ready_law.specs.Ready.{Scene, scene_of, IsReady, IsInTime, Yields, held_by, opposed, wanted, is_covered, is_lost, lost_from, lost_of, touched, greatest_end, write_end, stands}
 use Rattle.server_rules.proofs.FileLaws.{safe_at}
 use Rattle.ready_law.proofs.WorkingApart.{got_in}
 use Rattle.std.proofs.lemmas.List.{length-replicate}
 use Rattle.scenario_text.specs.declared.event.Call.TheVariants as call
 use Rattle.generate_law.specs.Scenario.{call_of, first_write, file_map, offset_of, length_of}
-use Rattle.generate_law.specs.Rests.{FILE_SIZE, OBJECT_END, IsItsFile, IsUp, Rests, EachCallIsReady, FirstCallIsReady}
+use Rattle.generate_law.specs.Rests.{FILE_SIZE, OBJECT_END, IsUp, Rests, EachCallIsReady, FirstCallIsReady}
 
 -- ---- the map
 
@@ -149,7 +146,7 @@ never_less n = grind (arith, nat_tests)
 -- ---- a call inside the file
 
 module _ (safe : GrantsAreSafe) (w : World) (h : List Line) (here : StandsFor w h) (size : ℕ)
-    (r : Rests size (scene_of w h)) (c : ℕ) (low : c < 3) (op : CallOp) (its_file : file_of op ≡ 0)
+    (r : Rests size (scene_of w h)) (c : ℕ) (low : c < 3) (op : CallOp) (file_is : file_of op ≡ 0)
     (short : (span_of op).length ≤ 1000) (inside : (span_of op).offset + (span_of op).length ≤ FILE_SIZE) where
   abbrev s : Scene
   s = scene_of w h
@@ -190,7 +187,7 @@ module _ (safe : GrantsAreSafe) (w : World) (h : List Line) (here : StandsFor w 
         there = a.1;
         idle = a.2.idle;
         held = it.0;
-        holds = ap (held_by a.0) its_file ∙ it.1;
+        holds = ap (held_by a.0) file_is ∙ it.1;
         same = it.2;
       }
     where
@@ -242,10 +239,10 @@ module _ (safe : GrantsAreSafe) (w : World) (h : List Line) (here : StandsFor w 
     idle = (r.clients c low).2.idle;
     range = good_range;
     file = r.file;
-    found = ap (file_at s.server.files) its_file ∙ r.found;
+    found = ap (file_at s.server.files) file_is ∙ r.found;
     quiet = r.its.quiet;
     same =
-        ap (λ (n : ℕ). option_map (λ (x : Held). x.number) (held_by (r.clients c low).0 n)) its_file ∙ (r.clients c low).2.same;
+        ap (λ (n : ℕ). option_map (λ (x : Held). x.number) (held_by (r.clients c low).0 n)) file_is ∙ (r.clients c low).2.same;
     yielding = λ g i. yields g (opposed_live g i);
     drives = in_time;
     unspent = inr r.its.unspent;
@@ -259,6 +256,11 @@ module _ (safe : GrantsAreSafe) (w : World) (h : List Line) (here : StandsFor w 
     where
       good_range : is_bad_range (span_of op) ≡ false
       good_range = grind (arith, nat_tests, short, inside)
+
+  -- it is so of the scenario's file
+  pub its_file : is_ready.file ≡ r.file
+  unfolding is_ready
+  its_file = refl
 
 -- ---- the calls of the scenario
 

@@ -1,5 +1,5 @@
 -- No event of the scenario is refused: what it names is there or is new, and nothing is down.
-use Rattle.std.proofs.Common.{◌≡◌, ◌<◌, ◌+◌, ◌%◌, ◌==◌, ◌||◌, ◌&&◌, not, ℕ, zero, suc, Bool, true, false, true≢false, List, [], ◌∷◌, ◌++◌, Option, Some, None, is_some, option_map, Result, Ok, Err, if◌then◌else◌, refl, sym, ap, subst, ◌∙◌, append_assoc, arith, inl, inr}
+use Rattle.std.proofs.Common.{◌≡◌, ◌<◌, ◌+◌, ◌%◌, ◌==◌, ◌||◌, not, ℕ, zero, suc, Bool, true, false, true≢false, List, [], ◌∷◌, ◌++◌, Option, Some, None, option_map, Result, Ok, Err, if◌then◌else◌, refl, sym, ap, subst, ◌∙◌, append_assoc, arith, inl, inr}
 use Rattle.std.specs.List.{AllByRecursion, fold, list_any}
 use Rattle.std.proofs.lemmas.Bool.{cases_Bool, or_parts}
 use Rattle.std.proofs.lemmas.List.{append-nil}
@@ -7,12 +7,11 @@ use Rattle.scenario_text.specs.declared.event.Event.{Event}
 use Rattle.scenario_text.specs.declared.event.Event.TheVariants as event
 use Rattle.scenario_text.specs.declared.line.Line.{Line}
 use Rattle.scenario_text.specs.declared.line.Line.TheVariants as line
-use Rattle.client_rules.specs.History.{Input, Calls}
 use Rattle.client_rules.specs.Messages.{Step as ClientStep, Message}
 use Rattle.client_rules.specs.Steps.{calls}
 use Rattle.world_history.specs.ClientNames.{CallOp, CallErr}
-use Rattle.world_history.specs.ReadDrives.{DriveSeen, drive_after, sees_drive, drive_after_line, hears_sent as drive_hears, where_it_is as where_drive}
-use Rattle.world_history.specs.Refusals.{refusal, unless_stopped, unless_there, unless_down}
+use Rattle.world_history.specs.ReadDrives.{DriveSeen, sees_drive, drive_after_line, hears_sent as drive_hears}
+use Rattle.world_history.specs.Refusals.{refusal, unless_stopped}
 use Rattle.std.proofs.Math.Nat.{mod-lt}
 use Rattle.world_history.specs.Moves.{op_of}
 use Rattle.world_history.specs.State.{World, DriveAt, ClientAt, Sent, at_number}
@@ -20,10 +19,10 @@ use Rattle.world_history.specs.declared.err.WorldErr.TheVariants.{Dead}
 use Rattle.history_law.specs.Drives.{DrivesAreRead}
 use Rattle.cause_law.specs.Ended.{ClientsAreRead}
 use Rattle.cause_law.proofs.Unanswered.{between}
-use Rattle.cause_law.specs.Down.{is_down, down_after_line, DownIsRead}
-use Rattle.cause_law.specs.ReadClients.{ClientSeen, client_after, sees_client, client_after_line, called, called_as, hears, hears_read, hears_sent, where_it_is}
+use Rattle.cause_law.specs.Down.{down_after_line, DownIsRead}
+use Rattle.cause_law.specs.ReadClients.{ClientSeen, sees_client, client_after_line, called, called_as, hears, hears_read, hears_sent}
 use Rattle.generate_law.specs.Plays.{Plays, NoneIsRefused}
-use Rattle.generate_law.specs.Scenario.{opening, calls_from, call_event, next_random, scenario_of}
+use Rattle.generate_law.specs.Scenario.{makes_drive as makes, makes_file, first_call, each_below, opening, calls_from, call_event, next_random, scenario_of}
 use Rattle.generate_law.proofs.Events.{events_in, events_are}
 use Rattle.generate_law.proofs.Guessing.{uninjected_is_unguessed}
 use Rattle.generate_law.specs.Quiet.{InjectsNone, ScenarioIsUnguessed}
@@ -306,7 +305,9 @@ more_admitted front (x ∷ xs) ys a b = (
 
 opening_admitted : AreAdmitted [] opening
 opening_admitted =
-    (refl, tt, (refl, tt, (refl, tt, (refl, tt, (refl, tt, (refl, tt, (refl, tt, (refl, tt, (refl, tt, (refl, tt, (refl, tt, tt)))))))))))
+    let parties : AreAdmitted (each_below makes 6) (each_below (λ c. event.Client c) 3 ++ (makes_file ∷ first_call ∷ [])) =
+    (refl, tt, (refl, tt, (refl, tt, (refl, tt, (refl, tt, tt))))) in
+    (refl, tt, (refl, tt, (refl, tt, (refl, tt, (refl, tt, (refl, tt, parties))))))
 
 pub none_is_refused : DrivesAreRead → ClientsAreRead → DownIsRead → NoneIsRefused
 none_is_refused drives clients down seed calls front e back w h is p =
@@ -336,4 +337,5 @@ scenario_is_unguessed seed calls w h p =
     uninjected_is_unguessed h
     (lines_inject_none h
     (lines_have_peace h
-    (subst (AllByRecursion IsPeaceful) (sym (events_are (scenario_of seed calls) w h p)) (all_peace [] (scenario_of seed calls) all))))
+    (subst (AllByRecursion IsPeaceful) (sym (events_are (scenario_of seed calls) w h p))
+    (all_peace [] (scenario_of seed calls) all))))

@@ -1,20 +1,17 @@
 -- Behind a call of the scenario the parties rest again.
-use Rattle.std.proofs.Common.{◌≡◌, ◌≢◌, ◌<◌, ◌≤◌, ◌+◌, ◌%◌, max, ℕ, zero, suc, true, false, List, [], ◌∷◌, length, slice_get, Option, Some, None, refl, sym, ap, subst, ◌∙◌, arith, inl, inr}
+use Rattle.std.proofs.Common.{◌≡◌, ◌<◌, ◌%◌, max, ℕ, suc, true, List, [], ◌∷◌, length, slice_get, Option, Some, refl, sym, ap, subst, ◌∙◌, arith, inl, inr}
 use Rattle.std.proofs.Math.Nat.{mod-lt}
 use Rattle.std.proofs.lemmas.Bool.{cases_eq}
 use Rattle.server_rules.specs.Files.{file_at}
 use Rattle.server_rules.specs.Laws.{In}
-use Rattle.client_rules.specs.Calls.{file_of, span_of, is_write}
-use Rattle.scenario_text.specs.declared.line.Line.{Line}
 use Rattle.world_history.specs.ClientNames.{CallOp}
-use Rattle.world_history.specs.ServerNames.{File, Kept, Component, Grant}
+use Rattle.world_history.specs.ServerNames.{File, Component, Grant}
 use Rattle.world_history.specs.State.{DriveAt, ClientAt}
 use Rattle.world_history.specs.Moves.{op_of}
 use Rattle.ready_law.specs.Clear.{HasRoomTo}
-use Rattle.ready_law.specs.Ready.{Scene, write_end}
+use Rattle.ready_law.specs.Ready.{Scene}
 use Rattle.ready_law.specs.Rested.{RestsAt, LeavesRest, IsAsBefore, size_after}
 use Rattle.ready_law.proofs.Resting.{inside_keeps}
-use Rattle.ready_law.proofs.WorkingApart.{got_in}
 use Rattle.generate_law.specs.Scenario.{call_of, first_write}
 use Rattle.generate_law.specs.Rests.{FILE_SIZE, OBJECT_END, IsItsFile, IsUp, Rests, RestsGoOn, FirstRestBegins}
 use Rattle.generate_law.proofs.Readiness.{IsInside, call_inside, write_ends_low}

@@ -1,5 +1,5 @@
 -- What the scenario comes to, by one plain list of bytes.
-use Rattle.std.specs.Prelude.{◌≡◌, ◌+◌, ◌/◌, ℕ, List, [], ◌∷◌, length, take, drop}
+use Rattle.std.specs.Prelude.{◌≡◌, ◌+◌, ◌/◌, ℕ, List, [], length, take, drop}
 use Rattle.std.specs.List.{fold, sum_by}
 use Rattle.osd_lists.specs.Overwrite.{overwritten}
 use Rattle.scenario_text.specs.declared.event.Call.{Call}

@@ -1,6 +1,5 @@
 -- From where the parties rest on, each further call of the scenario leaves them at rest.
 use Rattle.std.specs.Prelude.{◌≡◌, ℕ, true, List, ◌++◌, map}
-use Rattle.scenario_text.specs.declared.event.Event.{Event}
 use Rattle.scenario_text.specs.declared.line.Line.{Line}
 use Rattle.world_history.specs.State.{World}
 use Rattle.world_history.specs.History.{Step, StandsFor, AreCarried, end_of, lines_of_steps}

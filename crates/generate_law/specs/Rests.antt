@@ -1,5 +1,5 @@
 -- What the parties of the scenario rest in between two of its calls.
-use Rattle.std.specs.Prelude.{◌≡◌, ◌<◌, ◌≤◌, ◌%◌, ℕ, true, false, List, [], ◌∷◌, ◌++◌, length, Some, None}
+use Rattle.std.specs.Prelude.{◌≡◌, ◌<◌, ◌≤◌, ◌%◌, ℕ, true, false, List, ◌++◌, length, Some, None}
 use Rattle.server_rules.specs.Files.{file_at}
 use Rattle.server_rules.specs.Laws.{In}
 use Rattle.scenario_text.specs.declared.line.Line.{Line}

@@ -43,7 +43,7 @@ module _ (s : ReadyCall) (w : World) where
   -- ---- the holders of conflicting grants
 
   recalled : (left : List Grant) (ms : List Message) → AreRecalls left ms → ((g : Grant) → In g left → In g (opposed_at s)) →
-      ((g : Grant) → In g left → IsUntouched s w g) → AllReceived ms
+      ((g : Grant) → In g left → IsUntouched s w g.client) → AllReceived ms
   recalled [] [] are inside same = none_left
   recalled [] (m ∷ ms) are inside same = absurd are
   recalled (g ∷ left) [] are inside same = absurd are
@@ -76,18 +76,18 @@ module _ (s : ReadyCall) (w : World) where
   halved (g ∷ []) (m ∷ n ∷ ms) are = absurd are
   halved (g ∷ h ∷ gs) (m ∷ ms) are = absurd are
 
-  taken : (gs : List Grant) (ms : List Message) → AreTaken w gs ms → AllReceived ms
+  taken : (gs : List Grant) (ms : List Message) → AreTaken s w gs ms → AllReceived ms
   taken [] [] are = none_left
   taken [] (m ∷ ms) are = absurd are
   taken (g ∷ gs) [] are = absurd are
   taken (g ∷ gs) (m ∷ ms) are =
       and_all m ms (λ k e. inr (λ a there.
-      let q = are.0 in
-      let to : node.Client are.1.0.client ≡ node.Client k = sym (ap (λ (z : Message). z.to) are.1.2) ∙ e in
-      let its : are.1.0.client ≡ k = cc to in
-      let found : Some a ≡ Some q.at = sym there ∙ ap (at_number w.clients) (sym its ∙ are.1.1) ∙ q.there in
+      let q = are.0.1 in
+      let to : node.Client are.0.0.client ≡ node.Client k = sym (ap (λ (z : Message). z.to) are.0.2) ∙ e in
+      let its : are.0.0.client ≡ k = cc to in
+      let found : Some a ≡ Some q.at = sym there ∙ ap (at_number w.clients) (sym its ∙ q.client_is) ∙ q.there in
       let one : a ≡ q.at = cc found in
-      ap (λ (z : ClientAt). z.state.call) one ∙ q.free)) (taken gs ms are.2)
+      ap (λ (z : ClientAt). z.state.call) one ∙ q.free)) (taken gs ms are.1)
 
   -- ---- commands and their replies
 

@@ -18,7 +18,7 @@ use Rattle.ready_law.proofs.ServingForms.{recall_messages}
 use Rattle.ready_law.proofs.ServingGets.{held_off}
 use Rattle.component_law.proofs.Without.{no_grant, other_grant}
 use Rattle.ready_law.proofs.AskingForms.{AskingLaws}
-use Rattle.ready_law.proofs.AskingFrames.{against_others, opposed_yields, caller_stays, sent_more}
+use Rattle.ready_law.proofs.AskingFrames.{against_others, opposed_yields, caller_stays, sent_more, opposed_in}
 use Rattle.ready_law.proofs.AskingGives.{caller_named, are_recalls_of, its_arrival, sent, file, gives_goes_on, refused}
 use Rattle.ready_law.proofs.AskingServed.{served_silent, served_queue, served_client, served_answer, served_file}
 
@@ -78,7 +78,10 @@ module _ (laws : AskingLaws) (s : ReadyCall) (w : World) (h : List Line) (k : Is
         returns = [];
         are_recalls = are_recalls_of w.server.next_recall (first ∷ more);
         are_returns = tt;
-        untouched = λ e other. inr (served_client laws arrival a.request _ it done e ∙ a.untouched e other);
+        untouched = λ g i.
+            served_client laws arrival a.request _ it done g.client
+            ∙ a.untouched g.client (opposed_in s g (subst (In g) (sym is) i)).1;
+        aside = λ e other. inr (served_client laws arrival a.request _ it done e ∙ a.untouched e other);
         queue =
             served_queue laws arrival a.request _ it done
             ∙ ap (λ (ms : List Message). ms ++ (recall_messages w.server.next_recall (first ∷ more)

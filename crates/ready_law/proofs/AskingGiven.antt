@@ -14,13 +14,13 @@ use Rattle.client_rules.specs.Commands.{credential_in}
 use Rattle.client_rules.specs.Grants.{covers, held_of}
 use Rattle.client_rules.specs.History.{Hears, step}
 use Rattle.client_rules.specs.Layouts.{taken}
-use Rattle.client_rules.specs.Messages.{Message as ClientMessage, Answers, Step as ClientStep, names_nobody, is_awaited}
+use Rattle.client_rules.specs.Messages.{Answers, Step as ClientStep, names_nobody, is_awaited}
 use Rattle.client_rules.proofs.HeldGrants.{put_at}
 use Rattle.world_history.specs.ClientNames.{Client, Call, CallOp, Held, Request, Answer, Get}
 use Rattle.world_history.specs.ServerNames.{Server, File, Grant, Component}
 use Rattle.world_history.specs.declared.messages.Message.{Message}
 use Rattle.world_history.specs.State.{World, DriveAt, ClientAt, at_number}
-use Rattle.world_history.specs.Handed.{is_addressed, client_posts, for_client, pending_op}
+use Rattle.world_history.specs.Handed.{is_addressed, client_posts, pending_op}
 use Rattle.world_history.specs.Moves.{acts}
 use Rattle.world_history.specs.Sending.{Move, move}
 use Rattle.history_law.specs.BookMoments.{lines_in}

@@ -41,7 +41,7 @@ use Rattle.ready_law.proofs.Stages.{Serves, Returns, AsksFirst, GoesOn, Further,
 use Rattle.ready_law.proofs.Stepping.{calls_step}
 use Rattle.ready_law.proofs.AskingAsks.{AsksNext, asks_next, in_step_there, has_number, new_idle}
 use Rattle.ready_law.proofs.AskingForms.{AskingLaws, Steps, BeginsToWork}
-use Rattle.ready_law.proofs.AskingFrames.{opposed_in, serves_stays, sent_more}
+use Rattle.ready_law.proofs.AskingFrames.{serves_stays, sent_more}
 use Rattle.ready_law.proofs.AskingGood.{ListsCall, is_good}
 use Rattle.ready_law.proofs.AskingMoves.{called_steps}
 use Rattle.ready_law.proofs.AskingReturns.{has_grant}

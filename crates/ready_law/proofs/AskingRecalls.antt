@@ -25,7 +25,7 @@ use Rattle.component_law.proofs.Without.{no_grant, other_grant}
 use Rattle.ready_law.proofs.Stepping.{answers_step}
 use Rattle.ready_law.proofs.AskingAsks.{AsksNext, asks_next, in_step_there, its_answer, answer_steps, asks_new}
 use Rattle.ready_law.proofs.AskingForms.{AskingLaws}
-use Rattle.ready_law.proofs.AskingFrames.{own_apart, own_behind, own_opposed, against_others, opposed_in, serves_stays, caller_stays, IsKept, answered_stays, returns_stay, returns_more, sent_more}
+use Rattle.ready_law.proofs.AskingFrames.{own_apart, own_opposed, against_others, opposed_in, serves_stays, caller_stays, IsKept, answered_stays, returns_stay, returns_more, sent_more, own_behind}
 use Rattle.ready_law.proofs.AskingHolders.{GivesBack, gives_back}
 use Rattle.std.proofs.lemmas.Bool.{cases_eq}
 
@@ -55,16 +55,10 @@ module _ (laws : AskingLaws) (s : ReadyCall) (w : World) (h : List Line) (k : Is
         in_filter (λ (x : Grant). not (x.client == s.client)) g (kept_at s).grants (opposed_in s g opposed).0
         (ap not (ne_eqb g.client s.client other))
 
-    still : IsUntouched s w g.client
-    still = elim (a.untouched g.client other) [
-      | inl one ↦ absurd (own_apart a.done (g ∷ gs) own one.0 g one.1 (inl refl) (sym one.2))
-      | inr u ↦ u
-    ]
-
     gives : GivesBack s w m g
     gives =
         gives_back laws s w h k m g opposed (without (kept_at s).grants s.client) a.asks.server live
-        still count rest d
+        (a.untouched g (subst (In g) (sym left) (inl refl))) count rest d
 
     its_own : IsKept w v s.client
     its_own = gives.others s.client (λ e. other (sym e))
@@ -95,9 +89,12 @@ module _ (laws : AskingLaws) (s : ReadyCall) (w : World) (h : List Line) (k : Is
           (returns_stay s w v a.done a.returns
           (λ x i. gives.others x.client (λ e. own_apart a.done (g ∷ gs) own x g i (inl refl) (sym e))) a.are_returns)
           (gives.answers, (gives.request, gives.returning, refl), tt);
-      untouched = λ e apart. elim (cases_eq e g.client) [
+      untouched =
+          λ x i. (gives.others x.client ((own_behind a.done (g ∷ gs) own).0 x i)).client
+          ∙ a.untouched x (subst (In x) (sym left) (inr i));
+      aside = λ e apart. elim (cases_eq e g.client) [
         | inl same ↦ inl (g, in_behind g a.done (g ∷ []) (inl refl), sym same)
-        | inr differs ↦ elim (a.untouched e apart) [
+        | inr differs ↦ elim (a.aside e apart) [
           | inl one ↦ inl (one.0, in_front one.0 a.done (g ∷ []) one.1, one.2)
           | inr u ↦ inr ((gives.others e differs).client ∙ u)
         ]
@@ -178,7 +175,7 @@ module _ (laws : AskingLaws) (s : ReadyCall) (w : World) (h : List Line) (k : Is
               }) a.are_returns);
           are_taken = tt;
           gone = λ g i. absurd i;
-          aside = λ e other. elim (a.untouched e other) [
+          aside = λ e other. elim (a.aside e other) [
             | inl one ↦ inl (one.0, subst (In one.0) (sym all_done) one.1, one.2)
             | inr u ↦
                 inr (inl (record {

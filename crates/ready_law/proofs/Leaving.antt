@@ -3,12 +3,12 @@ use Rattle.std.proofs.Common.{◌≡◌, ◌≢◌, ℕ, List, Option, Some, Non
 use Rattle.scenario_text.specs.declared.line.Line.{Line}
 use Rattle.server_rules.specs.Grants.{grant_of}
 use Rattle.world_history.specs.ClientNames.{Held}
-use Rattle.world_history.specs.ServerNames.{File, Kept, Grant}
+use Rattle.world_history.specs.ServerNames.{File, Grant}
 use Rattle.world_history.specs.State.{World, ClientAt, at_number}
 use Rattle.ready_law.specs.Ready.{held_by, scene_of}
 use Rattle.ready_law.specs.Rested.{HoldsTheSame, RestsAt, LeavesRest, size_after}
 use Rattle.ready_law.proofs.Calls.{ReadyCall, scene_at, op_at, file_at_call, kept_at, IsIn}
-use Rattle.ready_law.proofs.Stages.{IsRested, OthersRest}
+use Rattle.ready_law.proofs.Stages.{IsRested}
 use Rattle.ready_law.proofs.AskingForms.{AskingLaws}
 use Rattle.ready_law.proofs.WorkingStage.{grant_agrees}
 

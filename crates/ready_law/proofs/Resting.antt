@@ -1,16 +1,13 @@
 -- What a call leaves of a file's size, of the grants and of the drives.
-use Rattle.std.proofs.Common.{◌≡◌, ◌≤◌, ◌+◌, ◌&&◌, ◌==◌, not, nat_lt, max, if◌then◌else◌, ℕ, Bool, true, false, List, Option, Some, None, is_some, option_map, refl, sym, ap, subst, ◌∙◌, arith, inl, inr}
-use Rattle.std.proofs.lemmas.Bool.{cases_Bool, true≢false}
-use Rattle.std.proofs.lemmas.Bool.Decides.{nat_tests}
+use Rattle.std.proofs.Common.{◌≡◌, ◌≤◌, ◌+◌, ◌&&◌, not, max, if◌then◌else◌, ℕ, Bool, true, false, List, Option, Some, None, is_some, option_map, refl, sym, ap, subst, ◌∙◌, arith}
 use Rattle.client_rules.specs.Calls.{is_write, span_of}
 use Rattle.client_rules.specs.Steps.{writes_nothing}
 use Rattle.world_history.specs.ClientNames.{CallOp, Held}
-use Rattle.world_history.specs.ServerNames.{Kept, Component, Grant}
+use Rattle.world_history.specs.ServerNames.{Kept, Grant}
 use Rattle.world_history.specs.State.{World, DriveAt, at_number}
 use Rattle.ready_law.specs.Clear.{HasRoomTo}
-use Rattle.ready_law.specs.Ready.{write_end}
 use Rattle.ready_law.specs.Rested.{size_after, IsAsBefore}
-use Rattle.ready_law.proofs.Calls.{ReadyCall, op_at, kept_at}
+use Rattle.ready_law.proofs.Calls.{ReadyCall}
 use Rattle.ready_law.proofs.Stages.{DrivesGoOn}
 
 -- ---- the size

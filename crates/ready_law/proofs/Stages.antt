@@ -257,7 +257,8 @@ pub record Recalling (s : ReadyCall) (w : World) : Type 0 where
   pub returns : List Message
   pub are_recalls : AreRecalls left recalls
   pub are_returns : AreReturns s w done returns
-  pub untouched : (c : ℕ) → c ≢ s.client → HasOneOf done c ⊎ IsUntouched s w c
+  pub untouched : (g : Grant) → In g left → IsUntouched s w g.client
+  pub aside : (c : ℕ) → c ≢ s.client → HasOneOf done c ⊎ IsUntouched s w c
   pub queue : queue_at s w ≡ recalls ++ answer_message answer ∷ returns
   pub sent : HasSent s w (4 + length (opposed_at s) + 2 * length done)
 

@@ -1,5 +1,5 @@
 -- A call begins to work under a grant that covers it.
-use Rattle.std.proofs.Common.{◌≡◌, ◌+◌, ◌++◌, ◌==◌, ℕ, Bool, true, false, nat_lt, List, [], ◌∷◌, length, Option, Some, None, if◌then◌else◌, refl, sym, ap, subst, ◌∙◌, inl, inr, arith}
+use Rattle.std.proofs.Common.{◌≡◌, ◌+◌, ◌++◌, ◌==◌, Bool, true, false, nat_lt, List, [], ◌∷◌, length, if◌then◌else◌, refl, sym, ap, subst, ◌∙◌, inl, inr, arith}
 use Rattle.std.proofs.lemmas.Bool.{cases_Bool}
 use Rattle.data_map.specs.declared.check.RawMap.{RawMap}
 use Rattle.stripe_plan.specs.Plans.{stores}
@@ -17,7 +17,7 @@ use Rattle.client_rules.specs.Writes.{is_past_size, written, accounted, firsts, 
 use Rattle.client_rules.proofs.HeldGrants.{put_at}
 use Rattle.scenario_text.specs.declared.line.Line.{Line}
 use Rattle.world_history.specs.ClientNames.{CallOp, Held, Awaited, TimedOut, Commit, Report, Moved, Column, Store}
-use Rattle.world_history.specs.State.{World, DriveAt, at_number}
+use Rattle.world_history.specs.State.{World}
 use Rattle.world_history.specs.Sending.{Move, move}
 use Rattle.history_law.specs.BookMoments.{lines_in}
 use Rattle.exchange_law.specs.Held.{Agrees}
@@ -27,7 +27,7 @@ use Rattle.ready_law.specs.Stepping as stepping
 use Rattle.ready_law.specs.Stepping.{StepsWell}
 use Rattle.ready_law.proofs.AskingForms.{AskingLaws, BeginsUnder, BeginsToWork}
 use Rattle.ready_law.proofs.Calls.{ReadyCall, op_at, file_at_call, kept_at, lost_at, IsIn}
-use Rattle.ready_law.proofs.Stages.{IsAsBefore, DrivesGoOn, GoesOn}
+use Rattle.ready_law.proofs.Stages.{GoesOn}
 use Rattle.ready_law.proofs.WorkingForms.{UnderGrant, TakesTurn}
 use Rattle.ready_law.proofs.WorkingTurns.{works_held, turn_works}
 use Rattle.ready_law.proofs.WorkingEnds.{asks_held, turn_ends, turn_commits}

@@ -176,4 +176,5 @@ module _ (laws : WorkingLaws) (s : ReadyCall) (w : World) (h : List Line) (i : I
 
   pub few_so_far : 2 * length a.commands ≤ work_at s
   few_so_far =
-      sends_few laws.few s a.begun held a.phase a.commands a.run a.has.good (under_at w refl refl refl (λ c other. refl)).agrees.map a.size
+      sends_few laws.few s a.begun held a.phase a.commands a.run a.has.good
+      (under_at w refl refl refl (λ c other. refl)).agrees.map a.size

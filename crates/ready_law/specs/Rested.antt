@@ -1,6 +1,6 @@
 -- How a ready call leaves the parties, where no component of its file is lost: its client is idle again and holds what the server
 -- has of it, and so does each other client that did before.
-use Rattle.std.specs.Prelude.{◌≡◌, ◌≢◌, ◌⊎◌, ◌+◌, ◌≤◌, ℕ, Bool, true, false, ◌&&◌, not, if◌then◌else◌, max, List, [], ◌∷◌, ◌++◌, slice_get, Option, Some, None, option_map}
+use Rattle.std.specs.Prelude.{◌≡◌, ◌≢◌, ◌⊎◌, ◌+◌, ◌≤◌, ℕ, true, false, ◌&&◌, not, if◌then◌else◌, max, List, [], ◌∷◌, ◌++◌, slice_get, Option, Some, None, option_map}
 use Rattle.server_rules.specs.Files.{file_at}
 use Rattle.server_rules.specs.Grants.{grant_of}
 use Rattle.server_rules.specs.Laws.{In}
