@@ -7,3 +7,4 @@ pub mod ServerSteps
 pub mod FileEvent
 pub mod FileSteps
 pub mod Runs
+pub mod Telling
