@@ -8,3 +8,4 @@ pub mod FileEvent
 pub mod FileSteps
 pub mod Runs
 pub mod Telling
+pub mod Sounds
