@@ -9,3 +9,4 @@ pub mod FileSteps
 pub mod Runs
 pub mod Telling
 pub mod Sounds
+pub mod Example
