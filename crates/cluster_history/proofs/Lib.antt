@@ -7,3 +7,6 @@ pub mod ServerSteps
 pub mod FileEvent
 pub mod FileSteps
 pub mod Runs
+pub mod Telling
+pub mod Sounds
+pub mod Example
