@@ -31,3 +31,8 @@ abbrev pub Answered : Node → (message : List ℕ) → (before now : Option Tra
 Answered to message before now failed_before failed (Some bytes) =
     Exchanges to message before now (Ok bytes) × (failed ≡ failed_before)
 Answered to message before now failed_before failed None = IsUnanswered to message before now failed_before failed
+
+-- there was no memory for the exchange: nothing was sent, or a part of the message's frame
+abbrev pub IsCutOff : Node → (message : List ℕ) → (before now : Option Traffic) → (failed_before failed : Faults) → Type 0
+IsCutOff to message before now failed_before failed =
+    Exchanges to message before now (Err Memory) × (failed ≡ failed_before)

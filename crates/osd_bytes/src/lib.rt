@@ -30,7 +30,7 @@ pub use ends::{Accepted, Asking};
 pub use exchanges::{ExchangeErr, exchange};
 pub use in_memory::{MemSink, MemSource};
 pub use inbox::{Inbox, MAX_TAKEN};
-pub use lines::{LineErr, LineReader, MAX_INPUT, MAX_LINE};
+pub use lines::{LineErr, LineReader, MAX_INPUT, MAX_LINE, MAX_READ};
 pub use links::{Links, Peer, Peers};
 pub use mem_links::MemLinks;
 pub use osd_lists::{

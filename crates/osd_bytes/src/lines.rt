@@ -1,6 +1,6 @@
 ghost use Rattle.std.specs.Prelude.{◌≡◌, ◌+◌, ◌≤◌, ◌<◌, ◌↔◌, true, false, [], take, drop, length, IfOk, IfErr, OnOk, IsErrOf};
 ghost use Rattle.std.specs.Io.KnownBytes.{Consumes, IsAtEnd};
-ghost use Rattle.osd_bytes.specs.Reading.{known_of, SeesEnd};
+ghost use Rattle.osd_bytes.specs.Reading.{known_of, read_of, ReadsOn, SeesEnd};
 ghost use Rattle.osd_bytes.specs.Causes.{Rose};
 ghost use Rattle.osd_bytes.specs.Lines.{NextIs, Leaves, GivesLine, TakesLine, TakesPiece, CountsNewlines, Yields, FailsUnread, KeepsUnread, HasReadCause};
 ghost use Rattle.osd_bytes.specs.declared.lines.LineErr.TheVariants.{ReadFault};
@@ -17,6 +17,9 @@ pub const MAX_LINE: u32 = 600_000;
 
 /// The most bytes of an input.
 pub const MAX_INPUT: u64 = 67_108_864;
+
+/// The most bytes that are taken of a source, in all: those of the longest input, and the byte by which one is too long.
+pub const MAX_READ: u64 = MAX_INPUT + 1;
 
 /// Why no line came.
 #[derive(Clone, Copy, Debug, PartialEq, Eq, Error)]
@@ -104,8 +107,12 @@ impl Window {
         self.at += count;
     }
 
-    // Reads on where all bytes were taken. A source that has ended is asked no more.
-    fn fill<S: Source>(&mut self, s: &mut S) -> Result<(), LineErr>
+    // Reads on where all bytes were taken, as many as `most`. A source that has ended is asked no more.
+    fn fill<S: Source>(&mut self, most: usize, s: &mut S) -> Result<(), LineErr>
+        requires some { 0 < most }
+        requires within { length self.old.bytes ≤ most }
+        ensures reads { ReadsOn (length self.old.bytes) (length self.new.bytes) (S.left s.old) (S.left s.new) }
+        ensures within { length self.new.bytes ≤ most }
         ensures bytes { OnOk result (Consumes (known_of self.old (S.left s.old)) (known_of self.new (S.left s.new)) []) }
         ensures end { OnOk result (length self.new.bytes ≡ 0 → self.new.ended ≡ true) }
         ensures at_end { OnOk result (SeesEnd self.old.ended (S.left s.old) self.new.ended (S.left s.new)) }
@@ -121,15 +128,16 @@ impl Window {
         }
         self.at = 0;
         self.end = 0;
-        self.end = read_into(&mut self.buffer, s)?;
+        self.end = read_into(&mut self.buffer, most, s)?;
         self.ended = self.end == 0;
         Ok(())
     }
 }
 
-// Reads from a source to the front of a buffer, which gets its room first.
-fn read_into<S: Source>(buffer: &mut Bytes, s: &mut S) -> Result<usize, LineErr>
-    ensures bound { IfOk result (λ count. count ≤ length buffer.new) }
+// Reads as many bytes as `most` from a source to the front of a buffer, which gets its room first.
+fn read_into<S: Source>(buffer: &mut Bytes, most: usize, s: &mut S) -> Result<usize, LineErr>
+    requires { 0 < most }
+    ensures bound { IfOk result (λ count. (count ≤ length buffer.new) × (count ≤ most)) }
     ensures bytes { IfOk result (λ count. Consumes (S.left s.old) (S.left s.new) (take count buffer.new)) }
     ensures end { IfOk result (λ count. count ≡ 0 → IsAtEnd (S.left s.new)) }
     ensures err { IfErr result (KeepsUnread (S.left s.old) (S.left s.new)) }
@@ -139,7 +147,9 @@ fn read_into<S: Source>(buffer: &mut Bytes, s: &mut S) -> Result<usize, LineErr>
     ensures loan { S.loan s.new ≡ S.loan s.old }
 {
     buffer.grow(WINDOW)?;
-    match s.take(buffer.as_mut_slice()) {
+    let room = most.min(buffer.len());
+    let (space, _) = buffer.as_mut_slice().split_at_mut(room);
+    match s.take(space) {
         Ok(count) => Ok(count),
         Err(_) => Err(LineErr::ReadFault),
     }
@@ -153,6 +163,7 @@ fn take_piece(window: &mut Window, taken: &mut u64, line: &mut Bytes) -> Result<
     requires some { 0 < length window.old.bytes }
     ensures piece { IfOk result (TakesPiece line.old line.new window.old.bytes window.new.bytes taken.old taken.new) }
     ensures bound { taken.new ≤ MAX_INPUT }
+    ensures read { taken.new + length window.new.bytes ≡ taken.old + length window.old.bytes }
     ensures same { window.new.ended ≡ window.old.ended }
 {
     let line_room = u64::from(MAX_LINE) + 1 - line.len() as u64;
@@ -182,10 +193,14 @@ fn line_from<S: Source>(
     taken: &mut u64,
     s: &mut S,
 ) -> Result<Option<Bytes>, LineErr>
-    requires { taken.old ≤ MAX_INPUT }
+    requires taken { taken.old ≤ MAX_INPUT }
+    requires within { taken.old + length window.old.bytes ≤ MAX_READ }
     ensures answer { NextIs taken.old (known_of window.old (S.left s.old)) result }
     ensures rest { OnOk result (Leaves (known_of window.old (S.left s.old)) (known_of window.new (S.left s.new))) }
     ensures taken { taken.new ≤ MAX_INPUT }
+    ensures within { taken.new + length window.new.bytes ≤ MAX_READ }
+    ensures reads { ReadsOn (taken.old + length window.old.bytes) (taken.new + length window.new.bytes)
+        (S.left s.old) (S.left s.new) }
     ensures takes { TakesLine taken.old taken.new (known_of window.old (S.left s.old))
         (known_of window.new (S.left s.new)) result }
     ensures newlines { CountsNewlines window.old.ended window.new.ended (known_of window.old (S.left s.old))
@@ -198,7 +213,7 @@ fn line_from<S: Source>(
 {
     let mut line = Bytes::new(alloc);
     'pieces: while line.len() <= MAX_LINE as usize {
-        match window.fill(s) {
+        match window.fill((MAX_READ - *taken) as usize, s) {
             Ok(()) => {}
             Err(e) => return Err(e),
         }
@@ -225,15 +240,15 @@ pub struct LineReader {
 }
 
 impl Model for LineReader {
-    ghost use Rattle.std.specs.Prelude.{◌≤◌};
-    ghost use Rattle.osd_bytes.specs.declared.lines.TheConstants.{MAX_INPUT};
+    ghost use Rattle.std.specs.Prelude.{◌≤◌, ◌+◌, length};
+    ghost use Rattle.osd_bytes.specs.declared.lines.TheConstants.{MAX_INPUT, MAX_READ};
     ghost use Rattle.osd_bytes.specs.Reading.{Reading};
 
     ghost Value = { Reading };
 
     ghost view = { λ r. record { ahead = r.window; taken = r.taken; over = r.over } };
 
-    ghost invariant = { λ r. r.taken ≤ MAX_INPUT };
+    ghost invariant = { λ r. (r.taken ≤ MAX_INPUT) × (r.taken + length r.window.bytes ≤ MAX_READ) };
 }
 
 impl LineReader {
@@ -274,6 +289,8 @@ impl LineReader {
         ensures end { result ≡ Ok None → self.new.ahead.ended ≡ true }
         ensures at_end { OnOk result (SeesEnd self.old.ahead.ended (S.left s.old) self.new.ahead.ended (S.left s.new)) }
         ensures within { self.new.taken ≤ MAX_INPUT }
+        ensures reads { ReadsOn (read_of self.old) (read_of self.new) (S.left s.old) (S.left s.new) }
+        ensures bound { read_of self.new ≤ MAX_READ }
         ensures cause { HasReadCause (S.faults s.old) (S.faults s.new) result }
         ensures loan { S.loan s.new ≡ S.loan s.old }
     {

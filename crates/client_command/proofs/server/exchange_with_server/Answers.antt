@@ -13,7 +13,7 @@ returns-then-branch-clause-loses g c = λ is.
     (g.L.Links.faults c.args.links.now))
     (dealing c.hear_reply.new.core c.hear_reply.new.waiting c.hear_reply.new.notices (g.L.Links.told c.asked.new.links)
     (g.L.Links.faults c.asked.new.links))
-    answers (rw c.in-Some.is at c.in_ok-record.ensures)
+    answers (rw c.in-Some.is at c.in_ok-record.ensures.came)
     (ap (on_links (g.L.Links.told c.asked.new.links) (g.L.Links.faults c.asked.new.links))
     (c.in_ok-hear_reply-in-Some.ensures (g.L.Links.told c.args.links.now) (g.L.Links.faults c.args.links.now)))
     (c.in_ok-awaits_still-in-Some.ensures.0 still)
@@ -24,7 +24,7 @@ returns-else-branch-clause-asks g c =
     let over : c.in_ok-awaits_still-in-Some.field-0 ≡ false = search rules in
     record {
       came = c.in-Some.record;
-      told = rw c.in-Some.is at c.in_ok-record.ensures;
+      told = rw c.in-Some.is at c.in_ok-record.ensures.came;
       answers = answers;
       dealt = ap (on_links (g.L.Links.told c.asked.new.links) (g.L.Links.faults c.asked.new.links))
           (c.in_ok-hear_reply-in-Some.ensures (g.L.Links.told c.args.links.now) (g.L.Links.faults c.args.links.now));

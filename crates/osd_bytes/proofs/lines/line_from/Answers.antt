@@ -2,6 +2,7 @@ use Rattle.std.proofs.Common.{false, arith, ap, sym, ◌∙◌, length}
 use Rattle.std.proofs.lemmas.List.{append-nil}
 use Rattle.osd_bytes.specs.Reading.{known_of}
 use Rattle.osd_bytes.proofs.Known.{SeesEnd-then}
+use Rattle.osd_bytes.proofs.ReadLaws.{reads-ahead, reads-same}
 use Rattle.osd_bytes.proofs.NextLine.{Consumes-then, consumes_piece, piece_lengths, quiet_line, nothing_known, more_known, some_unless, fails_to_read, is_full, ends_line, is_last, is_long}
 use Rattle.osd_bytes.proofs.lines.line_from.Goals as goal
 use Rattle.osd_bytes.proofs.lines.line_from.Goals.{then-is_empty, else-is_empty}
@@ -81,8 +82,33 @@ pieces-preserved g c =
       c.fill.ensures.loan ∙ c.pieces.invariant.6,
       λ h. SeesEnd-then _ _ _ _ _ _ c.pieces.invariant.7 c.in-Ok.ensures.at_end (sym c.take_piece.ensures.same ∙ h),
       λ h. c.pieces.invariant.8 (c.in-Ok.ensures.open (sym c.take_piece.ensures.same ∙ h)),
+      omega (arith, c.take_piece.ensures.read, c.fill.ensures.within, c.pieces.invariant.0),
+      reads-same _ _ _ _ _ (reads-ahead _ c.pieces.taken _ _ _ _ _ c.pieces.invariant.10 c.fill.ensures.reads)
+          c.take_piece.ensures.read,
     )
 
 pub returns-clause-answer : goal.returns-clause-answer
 returns-clause-answer g c =
     is_long c.args.taken.now _ _ c.pieces.line c.pieces.invariant.5 c.pieces.invariant.3 (omega arith) (omega arith)
+
+pub returns-in-Err-clause-reads : goal.returns-in-Err-clause-reads
+returns-in-Err-clause-reads g c =
+    reads-ahead _ c.pieces.taken _ _ _ _ _ c.pieces.invariant.10 c.fill.ensures.reads
+
+pub returns-then-len-eq0-clause-reads : goal.returns-then-len-eq0-clause-reads
+returns-then-len-eq0-clause-reads g c =
+    reads-ahead _ c.pieces.taken _ _ _ _ _ c.pieces.invariant.10 c.fill.ensures.reads
+
+pub returns-then-taken-eq-MAX_INPUT-clause-reads : goal.returns-then-taken-eq-MAX_INPUT-clause-reads
+returns-then-taken-eq-MAX_INPUT-clause-reads g c =
+    reads-ahead _ c.pieces.taken _ _ _ _ _ c.pieces.invariant.10 c.fill.ensures.reads
+
+pub returns-then-branch-clause-reads : goal.returns-then-branch-clause-reads
+returns-then-branch-clause-reads g c =
+    reads-same _ _ _ _ _ (reads-ahead _ c.pieces.taken _ _ _ _ _ c.pieces.invariant.10 c.fill.ensures.reads)
+    c.take_piece.ensures.read
+
+pub returns-in_err-take_piece-clause-reads : goal.returns-in_err-take_piece-clause-reads
+returns-in_err-take_piece-clause-reads g c =
+    reads-same _ _ _ _ _ (reads-ahead _ c.pieces.taken _ _ _ _ _ c.pieces.invariant.10 c.fill.ensures.reads)
+    c.take_piece.ensures.read

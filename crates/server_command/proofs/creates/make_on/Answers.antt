@@ -20,7 +20,7 @@ returns-in_default-clause-stops g c =
     (ends_of (g.L.Links.told c.args.links.now) (g.L.Links.faults c.args.links.now) (g.C.Clock.times c.args.clock.now)))
     (g.L.Links.told c.asked.new.links) (g.L.Links.told c.note.new.self) (g.L.Links.faults c.asked.new.links)
     (g.L.Links.faults c.note.new.self)
-    (rw none at c.in_ok-reply.ensures) refl (rw line at c.in_ok-note.ensures.ok) (search rules)
+    (rw none at c.in_ok-reply.ensures.came) refl (rw line at c.in_ok-note.ensures.ok) (search rules)
 
 pub returns-in-Some-2-clause-stops : goal.returns-in-Some-2-clause-stops
 returns-in-Some-2-clause-stops g c =
@@ -34,7 +34,7 @@ returns-in-Some-2-clause-stops g c =
     (ends_of (g.L.Links.told c.args.links.now) (g.L.Links.faults c.args.links.now) (g.C.Clock.times c.args.clock.now)))
     (g.L.Links.told c.asked.new.links) (g.L.Links.told c.note-in-Some-2.new.self)
     (g.L.Links.faults c.asked.new.links) (g.L.Links.faults c.note-in-Some-2.new.self)
-    (rw c.in-Some.is at c.in_ok-reply.ensures) (ap (λ (o : Option ℕ). option_map (held_line c.args.drive) o) held)
+    (rw c.in-Some.is at c.in_ok-reply.ensures.came) (ap (λ (o : Option ℕ). option_map (held_line c.args.drive) o) held)
     (rw line at c.in_ok-note-2.ensures.ok) (search rules)
 
 pub returns-clause-makes : goal.returns-clause-makes
@@ -49,7 +49,7 @@ returns-clause-makes g c =
     (ends_of (g.L.Links.told c.hear_drive.new.links) (g.L.Links.faults c.hear_drive.new.links)
     (g.C.Clock.times c.hear_drive.new.clock)))
     (ends_of (g.L.Links.told c.asked.new.links) (g.L.Links.faults c.asked.new.links) (g.C.Clock.times c.args.clock.now))
-    (rw c.in-Some.is at c.in_ok-reply.ensures) refl (rw heard at (c.in_ok-hear_drive.ensures.hears true))
+    (rw c.in-Some.is at c.in_ok-reply.ensures.came) refl (rw heard at (c.in_ok-hear_drive.ensures.hears true))
     (rw same at (sym c.in_ok-object.ensures ∙ none))
 
 -- nothing was handed to the server

@@ -11,7 +11,7 @@ returns-in_ok-hear_drive-in-Some-clause-asks g c = λ stands.
       came = Some c.in-Some.reply;
       between = ends_of (g.L.Links.told c.asked.new.links) (g.L.Links.faults c.asked.new.links)
           (g.C.Clock.times c.args.clock.now);
-      answered = rw c.in-Some.is at c.in_ok-reply.ensures;
+      answered = rw c.in-Some.is at c.in_ok-reply.ensures.came;
       times = refl;
       hears = rw same at (c.in_ok-hear_drive-in-Some.ensures.hears stands);
     }
@@ -20,7 +20,7 @@ pub returns-in-None-clause-asks : goal.returns-in-None-clause-asks
 returns-in-None-clause-asks g c = λ stands. record {
   came = None;
   between = ends_of (g.L.Links.told c.asked.new.links) (g.L.Links.faults c.asked.new.links) (g.C.Clock.times c.args.clock.now);
-  answered = rw c.in-None.is at c.in_ok-reply.ensures;
+  answered = rw c.in-None.is at c.in_ok-reply.ensures.came;
   times = refl;
   hears = refl;
 }
