@@ -393,6 +393,7 @@ class Words(Tool):
             ("components = 5", "components = 0x5", 12), ("[[file]]", "[file]", 10), ("unit = 4096\n", "", 10),
             ("127.0.0.1:9", "127.0.0.1", 6), ("127.0.0.1:9", "127.0.0.1:99999", 6), ("depth = 0", "depth = 0\ndepth = 0", 16),
             ("[[drive]]", "[[file]]", 6), ("format = 2", "format = 2\n[[drive]]\nnumber = 0\naddress = 'a:1'", 8),
+            ("[[file]]", '[[drive]]\nnumber = 1\naddress = "127.0.0.1:9"\n[[file]]', 12),
             ('"127.0.0.1:7100"', '"127.0.0.1\\u003a7100"', 1), ("components = 5", "components = +5", 12), ("unit", '"unit"', 13),
         ):
             text = TEXT.replace("{port}", "9").replace(old, new, 1)
