@@ -80,7 +80,7 @@ class Tool(unittest.TestCase):
         return subprocess.Popen(line + list(words), stdin=subprocess.PIPE, stdout=subprocess.PIPE, stderr=subprocess.PIPE,
                                 env=environment, **options)
 
-    def run_tool(self, *words, data=b"", patience="2", status=0, **options):
+    def run_tool(self, *words, data=b"", patience="20", status=0, **options):
         tool = self.started("--patience", patience, *words, **options)
         output, messages = tool.communicate(data)
         self.messages = messages.decode()
@@ -116,6 +116,18 @@ class Copies(Tool):
         self.assertEqual(self.run_tool("read", "f0", "1", "5"), b"abbba")
         self.assertEqual(self.run_tool("read", "f0", "6", "5", status=23), b"aa")
         self.assertIn("2 of 5 bytes", self.messages)
+
+    def test_resume_goes_on_where_a_put_stopped(self):
+        data = bytes(range(256)) * 2000
+        self.begin(data=data[:300_000] + b"\0" * 5)
+        self.run_tool("put", "f0", "--resume", data=data)
+        self.assertEqual(self.data(), data)
+        writes = [run[2] for run in self.now()["runs"] if run[2].startswith("write")]
+        self.assertEqual(int(writes[0].split(" ")[2]), copying.cut_length(12288, copying.MAX_READ))
+        self.begin(data=data)
+        self.run_tool("put", "f0", "--resume", data=data)
+        self.assertEqual([run[2] for run in self.now()["runs"] if run[2].startswith("write")], [])
+        self.run_tool("put", "f0", "--resume", data=data[:9], status=20)
 
     def test_put_refuses_a_longer_file(self):
         self.begin(data=b"abcdef")
@@ -165,8 +177,13 @@ class Again(Tool):
     def test_how_far_it_came_is_told(self):
         self.begin([None, None, "spent"])
         self.run_tool("put", "f0", data=b"x" * 70_000, status=10)
-        self.assertIn("it stops behind 61440 bytes", self.messages)
+        self.assertIn("it stops behind 61440 bytes: 'put f0 --resume' with the same data goes on", self.messages)
         self.assertEqual(len(self.data()), 61_440)
+
+    def test_where_a_write_goes_on_is_told(self):
+        self.begin([None, "spent"], data=b"abc")
+        self.run_tool("write", "f0", "7", data=b"x" * 70_000, status=10)
+        self.assertIn("go on with 'write f0 61440' and the data from there", self.messages)
 
     def test_a_fence_without_end(self):
         self.begin([None] + ["refused d2 tag 3"] * 99)
@@ -376,6 +393,7 @@ class Words(Tool):
             ("components = 5", "components = 0x5", 12), ("[[file]]", "[file]", 10), ("unit = 4096\n", "", 10),
             ("127.0.0.1:9", "127.0.0.1", 6), ("127.0.0.1:9", "127.0.0.1:99999", 6), ("depth = 0", "depth = 0\ndepth = 0", 16),
             ("[[drive]]", "[[file]]", 6), ("format = 2", "format = 2\n[[drive]]\nnumber = 0\naddress = 'a:1'", 8),
+            ("[[file]]", '[[drive]]\nnumber = 1\naddress = "127.0.0.1:9"\n[[file]]', 12),
             ('"127.0.0.1:7100"', '"127.0.0.1\\u003a7100"', 1), ("components = 5", "components = +5", 12), ("unit", '"unit"', 13),
         ):
             text = TEXT.replace("{port}", "9").replace(old, new, 1)

@@ -145,7 +145,10 @@ def read_cluster(text: bytes) -> Cluster:
     server = ""
     for name, line, table in tables_of(spelled):
         if name == "drive":
-            drives[numbered(table, line, name, drives)] = address_of(table, line, name, "address")
+            number, address = numbered(table, line, name, drives), address_of(table, line, name, "address")
+            if address in drives.values():
+                raise refused(table["address"][0], "a drive before it has this address too")
+            drives[number] = address
         elif name == "file":
             files[numbered(table, line, name, files)] = map_of(table, line)
         else:

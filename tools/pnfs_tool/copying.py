@@ -1,7 +1,7 @@
 """Writes and reads of any length, in calls that the program takes."""
 import sys
 import time
-from typing import BinaryIO, Iterator, Optional, Tuple
+from typing import BinaryIO, Callable, Iterator, Optional, Tuple
 
 from .answers import Answer, bytes_read
 from .calls import Call, Caller
@@ -66,6 +66,7 @@ class Progress:
         self.last = self.begin - PROGRESS_SECONDS   # so the first call shows at once
         self.done = 0
         self.line_open = False
+        self.way_on: Callable[[int], str] = lambda done: ""   # how to go on after a stop
         caller.tell = self.tell
 
     def __enter__(self) -> "Progress":
@@ -76,7 +77,7 @@ class Progress:
         if fault is None:
             self.tell(self.summary())
         elif isinstance(fault, (End, KeyboardInterrupt)) and self.done:
-            self.tell(f"{self.what}: it stops behind {counted(self.done, 'byte')}", always=True)
+            self.tell(f"{self.what}: it stops behind {counted(self.done, 'byte')}{self.way_on(self.done)}", always=True)
 
     def add(self, count: int) -> None:
         """So many bytes more are done."""
@@ -125,11 +126,37 @@ def put(caller: Caller, file: int, file_map: FileMap, data: bytes, progress: Pro
 
     A file doesn't get shorter: so one that has bytes behind these is refused before anything is written.
     """
+    refuse_longer(caller, file, data)
+    write_all(caller, file, file_map, 0, data, progress)
+
+
+def refuse_longer(caller: Caller, file: int, data: bytes) -> None:
+    """Ends the run where a file can't have these bytes alone."""
     refuse_end(0, len(data))
     if len(data) < MAX_FILE and read_piece(caller, file, len(data), 1):
         raise End(NOT_ASKED, f"f{file} has bytes behind byte {len(data)}, and a file doesn't get shorter: nothing was written. "
                              f"To write over its beginning: 'write f{file} 0'")
-    write_all(caller, file, file_map, 0, data, progress)
+
+
+def resume(caller: Caller, file: int, file_map: FileMap, data: bytes, progress: Progress) -> None:
+    """Goes on with a put that stopped: leaves the bytes at the front that the file has already, and writes the rest."""
+    refuse_longer(caller, file, data)
+    begin = same_front(caller, file, file_map, data)
+    progress.add(begin)
+    for at, length in pieces(0, len(data), file_map, MAX_WRITE):
+        if at + length > begin:
+            first = max(at, begin)
+            caller.carry_out(Call(file, first, at + length - first, data[first:at + length]))
+            progress.add(at + length - first)
+
+
+def same_front(caller: Caller, file: int, file_map: FileMap, data: bytes) -> int:
+    """How many whole pieces at the front of the file are those of these bytes; the count of their bytes."""
+    for at, length in pieces(0, len(data), file_map, MAX_READ):
+        read = read_piece(caller, file, at, length)
+        if read != data[at:at + length]:
+            return at
+    return len(data)
 
 
 def read_piece(caller: Caller, file: int, offset: int, length: int) -> bytes:

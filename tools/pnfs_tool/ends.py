@@ -9,6 +9,10 @@ NOT_ASKED = 20     # the tool refused it itself: no call or order of it was sent
 STRANGE = 21       # the program said something that is no answer to what was asked
 NO_PROGRAM = 22    # the program couldn't be started, or was ended by a signal
 SHORT = 23         # the file ends before the bytes that were asked for
+NOT_WELL = 24      # something of the cluster doesn't answer, or lacks something
+NOT_ENDED = 25     # the job that was waited for didn't end in time
+LACKS_DRIVE = 26   # a component couldn't be made anew, since no drive was free
+FILE_LOST = 27     # more of the file is missing than its parity brings back
 STOPPED = 130      # Ctrl-C
 
 #: What the program's own statuses mean where the tool passes one on.

@@ -42,10 +42,11 @@ def lock_path(server: str, client: int) -> str:
 
 def opened(path: str) -> int:
     """The lock's file. A file that another user made is opened for reading, which is enough for a lock."""
-    flags = os.O_RDONLY | os.O_NOFOLLOW | os.O_CLOEXEC
+    # O_NONBLOCK: opening a FIFO that somebody put there would wait for its writer.
+    flags = os.O_RDONLY | os.O_NOFOLLOW | os.O_CLOEXEC | os.O_NONBLOCK
     for _ in range(3):
         try:
-            return os.open(path, flags)
+            return regular(os.open(path, flags), path)
         except FileNotFoundError:
             pass
         try:
@@ -55,6 +56,14 @@ def opened(path: str) -> int:
         except FileExistsError:
             pass
     raise OSError(errno.EEXIST, "it comes and goes", path)
+
+
+def regular(lock: int, path: str) -> int:
+    """The descriptor of a lock's file. Refuses what is no file, as a FIFO or a device under its name."""
+    if not stat.S_ISREG(os.fstat(lock).st_mode):
+        os.close(lock)
+        raise End(NOT_ASKED, f"{path} is no file: remove it, or name another folder for the locks by ${FOLDER_VARIABLE}")
+    return lock
 
 
 def is_current(lock: int, path: str) -> bool:

@@ -1,16 +1,21 @@
 """Carries out one command of the tool."""
 import argparse
+import contextlib
 import os
 import sys
-from typing import List
+import time
+from typing import Callable, Iterator, List
 
 from .calls import Caller
 from .cluster import Cluster, FileMap, read_cluster
-from .copying import MAX_FILE, Progress, put, read_all, refuse_end, write_all
+from .copying import MAX_FILE, Progress, put, put_out, read_all, refuse_end, resume, write_all
 from .drives import ask_drive
-from .ends import DONE, INPUT, NOT_ASKED, OUTPUT, SHORT, STOPPED, End
+from .ends import DONE, INPUT, NOT_ASKED, NOT_WELL, OUTPUT, SHORT, STOPPED, End
 from .lock import hold, release
 from .program import Program, program_path
+from .seeing import Onlooker, see_cluster, see_files
+from .showing import as_json, as_list, as_text
+from .waiting import rebuilt, wait_for_end
 from .words import words_of
 
 MAX_TEXT = 67_108_864   # of a cluster text, as the program takes it
@@ -60,8 +65,10 @@ def copy_in(words: argparse.Namespace, striping: FileMap, caller: Caller) -> int
     data = input_bytes()
     with Progress(f"{words.command} f{words.file}", len(data), words.quiet, words.verbose, caller) as progress:
         if words.command == "put":
-            put(caller, words.file, striping, data, progress)
+            progress.way_on = lambda done: f": 'put f{words.file} --resume' with the same data goes on"
+            (resume if words.resume else put)(caller, words.file, striping, data, progress)
         else:
+            progress.way_on = lambda done: f": go on with 'write f{words.file} {words.offset + done}' and the data from there"
             write_all(caller, words.file, striping, words.offset, data, progress)
     return DONE
 
@@ -101,6 +108,33 @@ TOLD_BEHIND = {
 }
 
 
+def show_cluster(words: argparse.Namespace, cluster: Cluster) -> int:
+    """Carries out status, ls or watch."""
+    if words.command == "ls":
+        put_text(as_list(see_files(cluster, Onlooker(cluster.server, words.client))))
+        return DONE
+    while True:
+        seen = see_cluster(cluster, words.client, spare_file(cluster))
+        put_text(as_json(seen) if words.command == "status" and words.json else as_text(seen))
+        if words.command == "status":
+            return DONE if seen.is_well() else NOT_WELL
+        time.sleep(words.seconds)
+
+
+def put_text(text: str) -> None:
+    """Hands text on at once, so that a sink that fails shows."""
+    put_out(sys.stdout.buffer, text.encode())
+
+
+def order_and_wait(words: argparse.Namespace, cluster: Cluster, caller: Caller, tell: Callable[[str], None]) -> int:
+    """Hands the server an order, and waits until no job of the file runs."""
+    caller.order(f"{words.command} f{words.file}")
+    seen = wait_for_end(Onlooker(cluster.server, words.client), words.file, words.patience, tell)
+    status = rebuilt(seen) if words.command == "rebuild" else DONE
+    tell(f"{words.command} f{words.file}: its job has ended, and f{words.file} is {seen.state}")
+    return status
+
+
 def order(words: argparse.Namespace, text: str, caller: Caller, told: str) -> int:
     """Hands the server an order."""
     caller.order(text)
@@ -109,24 +143,37 @@ def order(words: argparse.Namespace, text: str, caller: Caller, told: str) -> in
     return DONE
 
 
+@contextlib.contextmanager
+def held(cluster: Cluster, words: argparse.Namespace, tell: Callable[[str], None]) -> Iterator[int]:
+    """Holds the client number while something is asked under it."""
+    lock, lock_file = hold(cluster.server, words.client, words.patience, tell)
+    try:
+        yield lock
+    finally:
+        release(lock, lock_file)
+
+
 def carry_out(words: argparse.Namespace) -> int:
     """Carries out the words."""
     cluster = cluster_of(words.cluster)
-    path = program_path(words.program)
     tell = (lambda line: None) if words.quiet else say
+    if words.command in ("status", "ls", "watch"):
+        with held(cluster, words, tell):
+            return show_cluster(words, cluster)
+    path = program_path(words.program)
     if words.command in ("put", "get", "write", "read"):
         refuse_file(cluster, words.file)
-        lock, lock_file = hold(cluster.server, words.client, words.patience, tell)
-        try:
+        with held(cluster, words, tell) as lock:
             program = Program(path, cluster.text, words.client, lock)
             copy = copy_in if words.command in ("put", "write") else copy_out
             return copy(words, cluster.files[words.file], Caller(program, spare_file(cluster), words.patience, tell))
-        finally:
-            release(lock, lock_file)
     caller = Caller(Program(path, cluster.text, words.client), spare_file(cluster), words.patience, tell)
     if words.command == "declare":
         return declare(words, cluster, caller)
     refuse_file(cluster, words.file)
+    if words.command != "recall" and words.wait:
+        with held(cluster, words, tell):
+            return order_and_wait(words, cluster, caller, tell)
     return order(words, f"{words.command} f{words.file}", caller, TOLD_BEHIND[words.command])
 
 

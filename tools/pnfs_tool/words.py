@@ -6,15 +6,23 @@ from typing import List
 EPILOG = """\
 calls (they use a number of the client, which the tool asks the server for):
   put F < DATA              writes DATA, at most 16777216 bytes, as the whole of file F (f0 to f63).
-                            Refused where F is longer than DATA: a file doesn't get shorter
+                            Refused where F is longer than DATA: a file doesn't get shorter.
+                            --resume leaves the bytes at the front that F has already: it goes on after a stop
   get F > DATA              reads file F to its end
   write F OFFSET < DATA     writes DATA from byte OFFSET on
   read F OFFSET LENGTH      reads these bytes; status 23 where F ends before
 
-orders (the server only begins with them: how they end stands on its standard error):
+to see how the cluster is (each asks for a layout of a file's first byte, like a reader, and gives it back):
+  status [--json]           drives, server and files: who answers, what is missing, what waits for what. Status 24 if
+                            something doesn't answer or lacks something
+  ls                        the files: number, size and state
+  watch [SECONDS]           'status' again and again, every 5 seconds or as many as are given
+
+orders (the server only begins with them: how they end is told on its standard error, and as far as it shows by --wait):
   revoke F     ends every grant of F, and repairs what unfinished writes left
-  rebuild F    makes each missing component of F anew on another drive
-  audit F      reads and judges all stripes of F
+  rebuild F    makes each missing component of F anew on another drive. With --wait it ends with 0 only if none is missing then
+  audit F      reads and judges all stripes of F. What it found is told on the server's standard error alone
+               (revoke, rebuild and audit: --wait ends when no job of F runs any more, at most --patience seconds later)
   recall F     asks for every grant of F back (over a network this reaches no client)
   declare D    takes drive D (d0 to d63) for lost, for good. Refused where something takes connections at its
                address, unless --even-if-alive follows
@@ -36,6 +44,10 @@ exit status:
   21  the program's answer is none to what was asked
   22  the program couldn't be run
   23  F ends before the bytes that 'read' asked for; those before its end were put out
+  24  'status': something of the cluster doesn't answer, or lacks something
+  25  '--wait': the job didn't end in time, or nothing is known of it
+  26  '--wait' with 'rebuild': a component is missing still, since no drive was free for it
+  27  '--wait' with 'rebuild': more of F is missing than its parity brings back
   130 Ctrl-C
 Other statuses are the program's own (./pnfs_osd --help).
 
@@ -92,7 +104,16 @@ def parser() -> argparse.ArgumentParser:
     add_options(top)
     commands = top.add_subparsers(dest="command", metavar="COMMAND", required=True)
     for name in ("put", "get", "recall", "revoke", "rebuild", "audit"):
-        commands.add_parser(name, allow_abbrev=False).add_argument("file", type=file_name, metavar="F")
+        command = commands.add_parser(name, allow_abbrev=False)
+        command.add_argument("file", type=file_name, metavar="F")
+        if name == "put":
+            command.add_argument("--resume", action="store_true", help="leave the bytes at the front that the file has already")
+        if name in ("revoke", "rebuild", "audit"):
+            command.add_argument("--wait", action="store_true", help="end when no job of the file runs any more")
+    commands.add_parser("status", allow_abbrev=False).add_argument("--json", action="store_true", help="for programs")
+    commands.add_parser("ls", allow_abbrev=False)
+    watch = commands.add_parser("watch", allow_abbrev=False)
+    watch.add_argument("seconds", type=number, nargs="?", default=5, metavar="SECONDS")
     write = commands.add_parser("write", allow_abbrev=False)
     write.add_argument("file", type=file_name, metavar="F")
     write.add_argument("offset", type=number, metavar="OFFSET")

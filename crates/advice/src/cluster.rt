@@ -118,7 +118,31 @@ fn number_of(spot: &Spot<'_>) -> Option<i64> {
     spot.table.get("number")?.as_integer()
 }
 
-// A number that a table before has already.
+fn address_of<'a>(spot: &Spot<'a>) -> Option<&'a str> {
+    spot.table.get("address")?.as_str()
+}
+
+// An address that a drive before has already.
+fn shared_address(
+    alloc: Global,
+    text: &str,
+    spots: &[Spot<'_>],
+    spot: Spot<'_>,
+) -> Result<Option<String>, AllocError> {
+    let Some(address) = address_of(&spot) else {
+        return Ok(None);
+    };
+    for other in spots {
+        let is_before = other.section == spot.section && other.index < spot.index;
+        if is_before && address_of(other) == Some(address) {
+            let wrong = format!(in alloc; "the address {address} stands twice")?;
+            return Ok(Some(finding(alloc, text, spot, "address", wrong.as_str())?));
+        }
+    }
+    Ok(None)
+}
+
+// A number or an address that a table before has already.
 fn repeated(
     alloc: Global,
     text: &str,
@@ -135,7 +159,7 @@ fn repeated(
             return Ok(Some(finding(alloc, text, spot, "number", wrong.as_str())?));
         }
     }
-    Ok(None)
+    shared_address(alloc, text, spots, spot)
 }
 
 fn count_of(spots: &[Spot<'_>], section: Section) -> u64 {

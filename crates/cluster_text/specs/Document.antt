@@ -1,6 +1,7 @@
 -- What a cluster text stands for, or the first kind of fault in it.
 use Rattle.std.specs.Prelude.{ℕ, Bool, false, ◌||◌, ◌&&◌, ◌∷◌, [], nat_eq, nat_le, nat_lt, List, length, map, Option, Some, None, Result, Ok, Err, codes, if◌then◌else◌}
 use Rattle.std.specs.List.{list_any}
+use Rattle.std.specs.Cmp.Lexicographic.{pointwise}
 use Rattle.std.specs.Str.{is_utf8}
 use Rattle.toml.specs.Data.{Members}
 use Rattle.toml.specs.Parse.{parse_document}
@@ -44,10 +45,19 @@ abbrev pub repeats : List ℕ → Bool
 repeats [] = false
 repeats (n ∷ ns) = list_any (λ m. nat_eq m n) ns || repeats ns
 
+-- two addresses are spelled alike
+abbrev pub shares : List (List ℕ) → Bool
+shares [] = false
+shares (a ∷ rest) = list_any (λ b. pointwise nat_eq b a) rest || shares rest
+
+-- two drives have one number or one address, or two files one number
+abbrev pub has_twice : Cluster → Bool
+has_twice c =
+    repeats (map (λ d. d.number) c.drives) || shares (map (λ d. d.address) c.drives) || repeats (map (λ f. f.number) c.files)
+
 abbrev pub unrepeated : Option Cluster → Result Cluster ClusterErr
 unrepeated None = Err (Refused Range)
-unrepeated (Some c) =
-    if repeats (map (λ d. d.number) c.drives) || repeats (map (λ f. f.number) c.files) then Err (Refused Repeated) else Ok c
+unrepeated (Some c) = if has_twice c then Err (Refused Repeated) else Ok c
 
 abbrev pub judged_parts : Reader → (top : Members) → (drives files : List Members) → Result Cluster ClusterErr
 judged_parts reader top drives files =

@@ -1,18 +1,19 @@
 // A cluster text as a whole.
 ghost use Rattle.std.specs.Prelude.{◌≡◌, ◌⊎◌, ◌++◌, Err, None, Some, if◌then◌else◌, map, nat_eq, option_map, IfErr, IfOk};
+ghost use Rattle.std.specs.Cmp.Lexicographic.{pointwise};
 ghost use Rattle.std.specs.List.{list_any};
 ghost use Rattle.toml.specs.View.{table_view};
 ghost use Rattle.cluster_text.specs.declared.errors.ClusterErr.TheVariants.{Memory as NoMemory, Refused};
 ghost use Rattle.cluster_text.specs.declared.errors.ClusterKind.TheVariants.{Toml};
 ghost use Rattle.cluster_text.specs.Fields.{drive_in, file_in};
-ghost use Rattle.cluster_text.specs.Document.{all_in, cluster_in, cluster_of, document_of, judged, judged_parts, repeats};
+ghost use Rattle.cluster_text.specs.Document.{all_in, cluster_in, cluster_of, document_of, has_twice, judged, judged_parts, repeats, shares};
 
 use crate::cluster::{Cluster, ClusterDrive, ClusterFile, Reader};
 use crate::errors::{ClusterErr, ClusterKind};
 use crate::fields::{MAX_DRIVES, MAX_FILES, address_at, drive_in, file_in, format_in, owned};
 use crate::shape::{has_unknown, is_wrong, lacks};
 use crate::tables::tables_at;
-use osd_lists::{Memory, Sequence};
+use osd_lists::{Bytes, Memory, Sequence};
 use std::alloc::Global;
 use toml::Table;
 
@@ -147,6 +148,29 @@ fn drive_repeats(drives: &[ClusterDrive]) -> bool
     }
 }
 
+fn has_address(drives: &[ClusterDrive], address: &Bytes) -> bool
+    ensures { result ≡ list_any (λ b. pointwise nat_eq b address.now) (map (λ d. d.address) drives.now) }
+{
+    drives.iter().any(|drive| drive.address == *address)
+}
+
+fn address_repeats(drives: &[ClusterDrive]) -> bool
+    ensures { result ≡ shares (map (λ d. d.address) drives.now) }
+{
+    match drives {
+        [] => false,
+        [first, rest @ ..] => has_address(rest, &first.address) || address_repeats(rest),
+    }
+}
+
+// Whether two drives have one number or one address, or two files one number.
+fn has_twice(cluster: &Cluster) -> bool
+    ensures { result ≡ has_twice cluster.now }
+{
+    let drives = cluster.drives.as_slice();
+    drive_repeats(drives) || address_repeats(drives) || file_repeats(cluster.files.as_slice())
+}
+
 fn has_file(files: &[ClusterFile], number: u32) -> bool
     ensures { result ≡ list_any (λ n. nat_eq n number) (map (λ f. f.number) files.now) }
 {
@@ -185,7 +209,7 @@ fn judge_parts(
     let Some(cluster) = cluster_in(alloc, top, drives, files)? else {
         return Err(ClusterErr::Refused(ClusterKind::Range));
     };
-    if drive_repeats(cluster.drives.as_slice()) || file_repeats(cluster.files.as_slice()) {
+    if has_twice(&cluster) {
         return Err(ClusterErr::Refused(ClusterKind::Repeated));
     }
     Ok(cluster)

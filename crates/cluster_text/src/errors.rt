@@ -22,8 +22,8 @@ pub enum ClusterKind {
     /// A number or a text isn't in its range, or a map can't be used with these drives.
     #[error("a value out of its range")]
     Range,
-    /// Two drives or two files have one number.
-    #[error("a number that stands twice")]
+    /// Two drives have one number or one address, or two files one number.
+    #[error("a number or an address that stands twice")]
     Repeated,
 }
 

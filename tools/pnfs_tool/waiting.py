@@ -1,0 +1,53 @@
+"""Waits until the job of an order has ended, as far as that shows from outside.
+
+A file that a job works on refuses requests for layouts. So the job has ended when a layout is granted again, and the layout tells
+which components are missing then.
+"""
+import time
+from typing import Callable, Set
+
+from .ends import DONE, FILE_LOST, LACKS_DRIVE, NOT_ENDED, End
+from .seeing import BUSY, HELD, LOST, MISSING, UNKNOWN, WHOLE, FileSeen, Onlooker
+
+FIRST_PAUSE, LONGEST_PAUSE = 0.05, 2.0
+
+
+def wait_for_end(onlooker: Onlooker, file: int, patience: float, tell: Callable[[str], None]) -> FileSeen:
+    """Asks again and again until no job of the file runs. Ends the run where it doesn't come to that in time."""
+    until = time.monotonic() + patience
+    pause, told = FIRST_PAUSE, set()  # type: float, Set[str]
+    while True:
+        seen = onlooker.see_file(file)
+        if seen.state not in (BUSY, HELD, UNKNOWN):
+            return seen
+        why = why_not(seen)
+        if time.monotonic() >= until:
+            raise End(NOT_ENDED, f"f{file}: {why}; given up after {patience} seconds. The order stays given: ask again with 'status'")
+        if why not in told:
+            told.add(why)
+            tell(f"f{file}: {why}; waiting")
+        time.sleep(min(pause, max(until - time.monotonic(), 0.01)))
+        pause = min(pause * 2, LONGEST_PAUSE)
+
+
+def why_not(seen: FileSeen) -> str:
+    """Why it isn't known yet how the file is."""
+    if seen.state == BUSY:
+        return f"a job of it waits for component {seen.waits_for} (if its drive is lost: 'declare')"
+    if seen.state == HELD:
+        return f"client {seen.holder} has a grant on it"
+    return f"the server didn't answer ({seen.why})"
+
+
+def rebuilt(seen: FileSeen) -> int:
+    """The exit status after a rebuild; it ends the run where components are missing still."""
+    if seen.state == WHOLE:
+        return DONE
+    names = ", ".join(str(number) for number in seen.missing())
+    if seen.state == LOST:
+        raise End(FILE_LOST, f"f{seen.number} is lost: its components {names} are missing, more than its parity brings back. "
+                             "Its number can't be written again: put its copy under another number, as docs/OPERATIONS.md says")
+    if seen.state == MISSING:
+        raise End(LACKS_DRIVE, f"f{seen.number} lacks its components {names} still: no drive was free for them. Add a spare drive to "
+                               "the cluster text, start a stored server again with it, and rebuild once more")
+    raise End(NOT_ENDED, f"f{seen.number} is {seen.state}: nothing was rebuilt")
