@@ -86,7 +86,7 @@ module _ (s t : Scene) (size : ℕ) (r : Rests size s) (c : ℕ) (low : c < 3) (
   rests_again : Rests FILE_SIZE t
   rests_again = record {
     unguessed = clean;
-    up = l.up ;
+    up = l.up;
     clock = l.clock ∙ r.clock;
     file = l.file;
     found = ap (file_at t.server.files) (sym its.file) ∙ l.found;

@@ -52,7 +52,7 @@ committing_goes_on laws s w h k m next a x rest queue d =
         granted = has.granted;
         others = has.others;
         aside =
-            aside_still s w (move w m).world has.grants 
+            aside_still s w (move w m).world has.grants
             (λ x other. ap (λ (xs : List (ℕ × ClientAt)). at_number xs x) (is_served s w m q e z c refl refl refl served).clients)
             has.aside;
         server = server_then s w m q e z c refl refl refl served (max (kept_at s).size end) refl;
