@@ -1,10 +1,9 @@
 -- The scenario is played: a world stands for a history with its events.
-use Rattle.std.specs.Prelude.{◌≡◌, ◌≤◌, ◌+◌, ◌*◌, ℕ, List, ◌∷◌, ◌++◌, map, None}
+use Rattle.std.specs.Prelude.{◌≡◌, ◌+◌, ℕ, List, ◌∷◌, ◌++◌, map, None}
 use Rattle.scenario_text.specs.declared.event.Event.{Event}
 use Rattle.scenario_text.specs.declared.line.Line.{Line}
 use Rattle.world_history.specs.State.{World}
 use Rattle.world_history.specs.Refusals.{refusal}
-use Rattle.world_history.specs.Runs.{FillsUp}
 use Rattle.world_history.specs.History.{Step, StandsFor}
 use Rattle.generate_law.specs.Scenario.{scenario_of}
 
@@ -20,25 +19,3 @@ abbrev pub NoneIsRefused : Type 0
 NoneIsRefused =
     (seed calls : ℕ) (front : List Event) (e : Event) (back : List Event) (w : World) (h : List Line)
     → scenario_of seed calls ≡ front ++ e ∷ back → Plays front w h → refusal w e ≡ None
-
--- ---- nothing is full
-
--- the most calls for which it is shown
-abbrev pub MOST_CALLS : ℕ
-MOST_CALLS = 1000
-
--- a call keeps at most so many bytes, and so does what comes before all calls
-abbrev pub BYTES_A_CALL : ℕ
-BYTES_A_CALL = 260000
-
--- behind each front of the scenario few bytes are kept
-abbrev pub FewAreKept : Type 0
-FewAreKept =
-    (seed calls : ℕ) (w : World) (h : List Line) → Plays (scenario_of seed calls) w h
-    → w.network.kept ≤ BYTES_A_CALL * (calls + 2)
-
--- so no event of it stops at the limit
-abbrev pub NoneFillsUp : Type 0
-NoneFillsUp =
-    (seed calls : ℕ) (front : List Event) (e : Event) (back : List Event) (w : World) (h cut : List Line)
-    → calls ≤ MOST_CALLS → scenario_of seed calls ≡ front ++ e ∷ back → Plays front w h → FillsUp w e cut → ⊥

@@ -1,5 +1,5 @@
 -- What the parties of the scenario rest in between two of its calls.
-use Rattle.std.specs.Prelude.{◌≡◌, ◌<◌, ◌≤◌, ◌%◌, ℕ, true, false, List, ◌++◌, length, Some, None}
+use Rattle.std.specs.Prelude.{◌≡◌, ◌<◌, ◌≤◌, ◌%◌, ℕ, true, false, List, length, Some, None}
 use Rattle.server_rules.specs.Files.{file_at}
 use Rattle.server_rules.specs.Laws.{In}
 use Rattle.scenario_text.specs.declared.line.Line.{Line}
@@ -10,8 +10,7 @@ use Rattle.world_history.specs.History.{StandsFor}
 use Rattle.ready_law.specs.Clear.{HasRoomTo}
 use Rattle.ready_law.specs.Ready.{Scene, IsReady, scene_of}
 use Rattle.ready_law.specs.Rested.{RestsAt, LeavesRest}
-use Rattle.generate_law.specs.Scenario.{call_of, file_map, first_write, opening, calls_from}
-use Rattle.generate_law.specs.Plays.{Plays}
+use Rattle.generate_law.specs.Scenario.{call_of, file_map, first_write}
 
 -- ---- the file
 
@@ -82,8 +81,3 @@ RestsGoOn =
 abbrev pub FirstRestBegins : Type 0
 FirstRestBegins =
     (s t : Scene) (r : Rests 0 s) → t.unguessed ≡ true → LeavesRest s t 0 (op_of first_write) r.file → Rests FILE_SIZE t
-
--- behind the opening and n calls the parties rest
-abbrev pub EachCallRests : Type 0
-EachCallRests =
-    (seed n : ℕ) (w : World) (h : List Line) → Plays (opening ++ calls_from n 0 seed) w h → Rests FILE_SIZE (scene_of w h)

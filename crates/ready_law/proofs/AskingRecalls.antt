@@ -19,7 +19,7 @@ use Rattle.history_law.specs.BookMoments.{lines_in}
 use Rattle.ready_law.specs.Stepping.{unasked, IsAnsweredAt}
 use Rattle.ready_law.proofs.Calls.{ReadyCall, op_at, file_at_call, kept_at, opposed_at, IsIn, DeliversHead, request_message, answer_message}
 use Rattle.ready_law.proofs.Going.{GoesOnBy}
-use Rattle.ready_law.proofs.Stages.{Recalling, AreRecalls, AreReturns, Recalls, AsksAgain, GoesOn, Further, IsUntouched, HaveOwnClients}
+use Rattle.ready_law.proofs.Stages.{Recalling, AreRecalls, AreReturns, Recalls, AsksAgain, GoesOn, Further, HaveOwnClients}
 use Rattle.ready_law.proofs.ServingForms.{recall_message}
 use Rattle.component_law.proofs.Without.{no_grant, other_grant}
 use Rattle.ready_law.proofs.Stepping.{answers_step}
