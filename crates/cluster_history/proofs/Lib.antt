@@ -10,3 +10,4 @@ pub mod Runs
 pub mod Telling
 pub mod Sounds
 pub mod Example
+pub mod NotShort
