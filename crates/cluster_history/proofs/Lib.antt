@@ -11,3 +11,5 @@ pub mod Telling
 pub mod Sounds
 pub mod Example
 pub mod NotShort
+pub mod GoodMoments
+pub mod CalmSteps
