@@ -10,3 +10,6 @@ pub mod Runs
 pub mod Telling
 pub mod Sounds
 pub mod Example
+pub mod NotShort
+pub mod GoodMoments
+pub mod CalmSteps
