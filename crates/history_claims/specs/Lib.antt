@@ -10,3 +10,5 @@ pub mod Notes
 pub mod Stages
 pub mod Reach
 pub mod Refusals
+pub mod Audits
+pub mod Heard

@@ -14,4 +14,7 @@ pub use laws::{
     components_stand_spread, ended_calls_are_logged, files_are_created, histories_are_sound,
     messages_are_numbered, ready_reads_are_plain,
 };
-pub use note_laws::{notes_have_causes, reaches_have_causes, refusals_are_told, stages_have_ends};
+pub use note_laws::{
+    founds_have_causes, heard_have_causes, notes_have_causes, reaches_have_causes,
+    refusals_are_told, stages_have_ends,
+};

@@ -22,4 +22,5 @@ returns c =
     c.ready_reads_are_plain.ensures c.headline_holds.ensures
     c.audits_find_none.ensures c.repairs_leave_none.ensures c.messages_are_numbered.ensures
     c.notes_have_causes.ensures c.stages_have_ends.ensures c.refusals_are_told.ensures c.reaches_have_causes.ensures
+    c.founds_have_causes.ensures c.heard_have_causes.ensures
     c.within_the_limit_are_few.ensures
