@@ -56,3 +56,9 @@ pub mod StageLaw
 pub mod Reaching
 pub mod ReachLaw
 pub mod RefusalLaw
+pub mod SpentNotes
+pub mod AuditJobs
+pub mod AuditSteps
+pub mod AuditLaw
+pub mod HeardSteps
+pub mod HeardLaw

@@ -127,9 +127,8 @@ module _ (s : Server) (ds : List Drive) (i : Input) (f z : File) where
   -- ---- a job that goes on
 
   module _ (j : Job) (runs : f.job ≡ Some j) where
-    goes_on_with : (heard : List Heard) → HasHeard s i f j heard → (work : Work) → j.work ≡ work → (ps : List Piece) (t : Tally)
-        → AuditOn z.kept heard work ps t
-        → GoesOnWith s i f z.kept ps t
+    pub goes_on_with : (heard : List Heard) → HasHeard s i f j heard → (work : Work) → j.work ≡ work → (ps : List Piece)
+        (t : Tally) → AuditOn z.kept heard work ps t → GoesOnWith s i f z.kept ps t
     goes_on_with heard h Lengths is _ _ OnLengths = Measured j runs is heard h
     goes_on_with heard h (Checks _ _) is _ _ (OnRows p ps t) = Checked j p ps t runs is heard h
     goes_on_with heard h (Checks _ _) is _ _ (OnNone t) = Ended j t runs is

@@ -117,7 +117,7 @@ audits_so g (p ∷ ps) t =
         }) (p ∷ ps) (tallied g.file.kept p t) refl refl refl
         (inl (reads_some g.file.kept p g.effects.nonce c cs e, refl, refl)) refl
 
-audits_kept : (g : Going) (ps : List Piece) (t : Tally) → (audits g ps t).file.kept ≡ g.file.kept
+pub audits_kept : (g : Going) (ps : List Piece) (t : Tally) → (audits g ps t).file.kept ≡ g.file.kept
 unfolding audits
 audits_kept g [] t = refl
 audits_kept g (p ∷ ps) t = by (reads g.file.kept p g.effects.nonce) (audits_kept g ps (tallied g.file.kept p t))

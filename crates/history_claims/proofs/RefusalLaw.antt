@@ -1,18 +1,19 @@
--- In each whole history an order that is refused on a file is told.
+-- In each whole history a job that is refused on a file is told.
 use Rattle.std.proofs.Common.{◌≡◌, ◌<◌, ℕ, List, ◌∷◌, ◌++◌, Option, Some, None, refl, sym, ap, subst, ◌∙◌, append_assoc, arith, inl}
 use Rattle.std.proofs.lemmas.Bool.{eq-eqb}
 use Rattle.scenario_text.specs.declared.names.TheConstants.{FILES}
 use Rattle.scenario_text.specs.declared.line.Line.{Line}
 use Rattle.scenario_text.specs.declared.line.Line.TheVariants as line
 use Rattle.server_rules.specs.declared.limits.TheConstants.{GREATEST_TAG}
-use Rattle.server_rules.specs.Files.{file_at}
+use Rattle.server_rules.specs.Files.{file_at, at_file}
 use Rattle.server_rules.specs.Get.{lowest}
 use Rattle.server_rules.specs.History.{Input, step}
-use Rattle.server_rules.specs.Laws.{In, Rests, AreSafe}
+use Rattle.server_rules.specs.Laws.{In, ConflictsAreExact, Rests, AreSafe}
 use Rattle.server_rules.specs.Messages.{awaited_by, on_message}
 use Rattle.server_rules.specs.Orders.{ordered}
+use Rattle.server_rules.specs.Requests.{serves}
 use Rattle.server_rules.proofs.FileLaws.{number_at}
-use Rattle.world_history.specs.ServerNames.{Server, File, Job, Awaited, Note, NoteKind, Busy, Spent, OrderKind, ToRecall, ToRevoke, ToDeclare, ToRebuild, ToAudit}
+use Rattle.world_history.specs.ServerNames.{Server, File, Job, Awaited, Note, NoteKind, Busy, Spent, ClientRequest, RequestArgs, OrderKind, ToRecall, ToRevoke, ToDeclare, ToRebuild, ToAudit}
 use Rattle.world_history.specs.Told.{told_note}
 use Rattle.world_history.specs.Sending.{move}
 use Rattle.world_history.specs.Book.{placed_in, server_seen}
@@ -39,8 +40,9 @@ use Rattle.cause_law.proofs.CauseInputs.{IsShown, at_inputs}
 use Rattle.cause_law.proofs.Grants.{sound_at}
 use Rattle.cause_law.proofs.Noting.{written_there}
 use Rattle.cause_law.proofs.Words.{job_waits}
-use Rattle.history_claims.specs.Notes.{IsBusy}
-use Rattle.history_claims.specs.Refusals.{IsSpent, RefusalsGo, EachRefusalIsTold}
+use Rattle.history_claims.specs.Notes.{IsBusy, NeedsOne, ByOrder, ByOpening, ByGet, ByReturn}
+use Rattle.history_claims.specs.Refusals.{RefusalsGo, EachRefusalIsTold}
+use Rattle.history_claims.proofs.SpentNotes.{spent_note, gets_note, returns_note, request_noted, opened_noted}
 use Rattle.history_claims.proofs.StageLaw.{told_so, line_told}
 
 -- ---- an order's step
@@ -102,46 +104,63 @@ module _ (s : Server) (chosen : List ℕ) (i : Input) (safe : AreSafe s.files) (
           (subst (λ (m : ℕ). In (record { file = f.kept.number; kind = Busy m }) (ordered s chosen b.kind n).step.notes)
           (sym low) (busy_noted s chosen n f found b.kind b.begins j runs))
 
-  is_spent : IsSpent s i f → In (record { file = f.kept.number; kind = Spent }) (step s chosen i).notes
-  is_spent b =
-      order_noted s chosen i b.kind n (record { file = f.kept.number; kind = Spent }) (subst (IsOrder i b.kind) here b.order)
-      b.takes (spent_noted s chosen n f found b.kind b.begins b.free b.tag)
+  module _ (exact : ConflictsAreExact) (g : File) (tag : f.kept.tag ≡ GREATEST_TAG) where
+    asked_file : (q : ClientRequest) → q.file ≡ f.kept.number → file_at s.files q.file ≡ Some f
+    asked_file q on = ap (file_at s.files) (on ∙ here) ∙ found
+
+    is_spent : NeedsOne s i f g → In (spent_note f) (step s chosen i).notes
+    is_spent (ByOrder kind begins order takes free) =
+        order_noted s chosen i kind n (spent_note f) (subst (IsOrder i kind) here order) takes
+        (spent_noted s chosen n f found kind begins free tag)
+    is_spent (ByOpening is low left) = opened_noted s chosen i f is low (in_at s.files n f found) left tag
+    is_spent (ByGet a iomode offset count args first) =
+        request_noted s chosen i a.now a.request a.new f (asked_file a.request a.on) (spent_note f)
+        (subst (λ (r : RequestArgs). In (spent_note f)
+        (serves (at_file s chosen f) s.next_grant s.format a.now a.request.client r).going.effects.notes) (sym args)
+        (gets_note exact s chosen f g (safe_in s.files safe f (in_at s.files n f found)).rests a.now a.request iomode offset
+        count first))
+    is_spent (ByReturn a report args some has lost) =
+        request_noted s chosen i a.now a.request a.new f (asked_file a.request a.on) (spent_note f)
+        (subst (λ (r : RequestArgs). In (spent_note f)
+        (serves (at_file s chosen f) s.next_grant s.format a.now a.request.client r).going.effects.notes) (sym args)
+        (returns_note exact s chosen f g (safe_in s.files safe f (in_at s.files n f found)).rests a.now a.request
+        (safe_in s.files safe f (in_at s.files n f found)).apart report some has lost tag))
 
 -- ---- in the lines
 
-module _ (safe : GrantsAreSafe) (moves : ServerMoves) (seen : SeenIsSound) (read : BookIsRead) where
-  shown : IsShown RefusalsGo
-  shown = record {
-    shows = λ w h k m d written front l after is i moved file f found.
-        let all : AreWritten ((h ++ front) ++ l ∷ after) =
-        subst AreWritten (ap (λ (ls : List Line). h ++ ls) is ∙ sym (append_assoc h front (l ∷ after))) written in
-        let behind : AreDistinct (step w.server (placed_in after) i).state.files =
-        subst (λ (s : Server). AreDistinct s.files) moved.state
-        (sound_at seen read (move w m).world (h ++ lines_in w m) (next_moment w h k m d) written).distinct in
-        let sound : IsSound w.server = sound_at seen read w h k (written_front h (lines_in w m) written) in
-        let there : file_at w.server.files file ≡ Some f =
-        subst (λ (s : Server). file_at s.files file ≡ Some f) moved.server found in
-        let own : f.kept.number ≡ file = number_at w.server.files file f there in
-        let low : f.kept.number < FILES =
-        each_at (λ (y : File). y.kept.number < FILES) w.server.files file f sound.files there in
-        let named = named_input (server_seen (h ++ front)) l i moved.comes
-        (named_line l (written_there (h ++ front) l after all)) in
-        record {
-          busy = λ n b.
-              subst (λ (x : ℕ). In (line.Note x (told_note (Busy n))) after) own
-              (line_told moves w h m front l after is i moved (safe_at safe w h k) sound named behind
-              (record { file = f.kept.number; kind = Busy n })
-              (is_busy w.server (placed_in after) i (safe_at safe w h k) file f there n
-              (subst (λ (s : Server). IsBusy s i f n) moved.server b)) low (told_so (Busy n)));
-          spent = λ b.
-              subst (λ (x : ℕ). In (line.Note x (told_note Spent)) after) own
-              (line_told moves w h m front l after is i moved (safe_at safe w h k) sound named behind
-              (record { file = f.kept.number; kind = Spent })
-              (is_spent w.server (placed_in after) i (safe_at safe w h k) file f there
-              (subst (λ (s : Server). IsSpent s i f) moved.server b)) low (told_so Spent));
-        };
-  }
+module _ (exact : ConflictsAreExact) (safe : GrantsAreSafe) (moves : ServerMoves) (seen : SeenIsSound) (read : BookIsRead)
+  where
+    shown : IsShown RefusalsGo
+    shown = record {
+      shows = λ w h k m d written front l after is i moved file f g found behind_it.
+          let all : AreWritten ((h ++ front) ++ l ∷ after) =
+          subst AreWritten (ap (λ (ls : List Line). h ++ ls) is ∙ sym (append_assoc h front (l ∷ after))) written in
+          let behind : AreDistinct (step w.server (placed_in after) i).state.files =
+          subst (λ (s : Server). AreDistinct s.files) moved.state
+          (sound_at seen read (move w m).world (h ++ lines_in w m) (next_moment w h k m d) written).distinct in
+          let sound : IsSound w.server = sound_at seen read w h k (written_front h (lines_in w m) written) in
+          let there : file_at w.server.files file ≡ Some f =
+          subst (λ (s : Server). file_at s.files file ≡ Some f) moved.server found in
+          let own : f.kept.number ≡ file = number_at w.server.files file f there in
+          let low : f.kept.number < FILES =
+          each_at (λ (y : File). y.kept.number < FILES) w.server.files file f sound.files there in
+          let named = named_input (server_seen (h ++ front)) l i moved.comes
+          (named_line l (written_there (h ++ front) l after all)) in
+          record {
+            busy = λ n b.
+                subst (λ (x : ℕ). In (line.Note x (told_note (Busy n))) after) own
+                (line_told moves w h m front l after is i moved (safe_at safe w h k) sound named behind
+                (record { file = f.kept.number; kind = Busy n })
+                (is_busy w.server (placed_in after) i (safe_at safe w h k) file f there n
+                (subst (λ (s : Server). IsBusy s i f n) moved.server b)) low (told_so (Busy n)));
+            spent = λ b tag.
+                subst (λ (x : ℕ). In (line.Note x (told_note Spent)) after) own
+                (line_told moves w h m front l after is i moved (safe_at safe w h k) sound named behind (spent_note f)
+                (is_spent w.server (placed_in after) i (safe_at safe w h k) file f there exact g tag
+                (subst (λ (s : Server). NeedsOne s i f g) moved.server b)) low (told_so Spent));
+          };
+    }
 
-  pub each_refusal_is_told : StepIsRead → OneEventMore → ServerGoesOn → EachRefusalIsTold
-  each_refusal_is_told step_read more on w h s written =
-      at_inputs read step_read moves more on RefusalsGo shown w h s written
+    pub each_refusal_is_told : StepIsRead → OneEventMore → ServerGoesOn → EachRefusalIsTold
+    each_refusal_is_told step_read more on w h s written =
+        at_inputs read step_read moves more on RefusalsGo shown w h s written

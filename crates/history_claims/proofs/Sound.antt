@@ -19,6 +19,8 @@ use Rattle.history_claims.specs.Spread.{ComponentsStandSpread}
 use Rattle.history_claims.specs.Created.{EachFileIsCreated}
 use Rattle.history_claims.specs.Sound.{HistoriesAreSound}
 use Rattle.history_claims.specs.Logged.{EndedAreLogged}
+use Rattle.history_claims.specs.Audits.{EachFoundHasItsCause}
+use Rattle.history_claims.specs.Heard.{EachHeardHasItsCause}
 use Rattle.history_claims.specs.Notes.{EachNoteHasItsCause}
 use Rattle.history_claims.specs.Numbered.{MessagesAreNumbered}
 use Rattle.history_claims.specs.Stored.{WritesAreStored}
@@ -96,12 +98,13 @@ pub histories_are_sound : HistoriesAreSafe → VerdictsAreAnswered → CommandsA
     → HeadlineHolds
     → AuditsFindNone → EachRepairLeavesNone → MessagesAreNumbered → WritesAreStored → MessagesAreReceived → EachEventDelivers
     → EachIsTimedOut → EachIsRefused → EachRecallIsCaused → RepliesCarryBytes → EachNoteHasItsCause → EachStageHasItsEnd
-    → EachRefusalIsTold → EachReachHasItsCause → EachEndedHasItsCause → WithinTheLimitAreFew
+    → EachRefusalIsTold → EachReachHasItsCause → EachEndedHasItsCause → EachFoundHasItsCause → EachHeardHasItsCause
+    → WithinTheLimitAreFew
     → HistoriesAreSound
 histories_are_sound safe answered issued listed fair ranges fronts apart spread created own fenced live given older barred exact
     allowed lanes lanes_own judged awaited low ends outcomes read bytes tags caused told changed gone lost raised waits until sent
     barred_by named objects said left unanswered borne ready leaves logged plain right audits mended numbered stored
-    received delivers silent refuses recalled carried noted stages refusals reached ended few = record {
+    received delivers silent refuses recalled carried noted stages refusals reached ended found heard few = record {
       sound = λ h l. record {
         safe = safe h l;
         answered = λ w s. answered w h s;
@@ -155,6 +158,8 @@ histories_are_sound safe answered issued listed fair ranges fronts apart spread 
         stages = λ w s a. stages w h s a;
         refusals = λ w s a. refusals w h s a;
         reached = λ w s a. reached w h s a;
+        found = λ w s a. found w h s a;
+        heard = λ w s a. heard w h s a;
         logged = λ written text few. logged h l written text few;
         said = λ w g k m rest d is. said w g k m d;
         left = λ w g k m rest d is. left w g k m d;

@@ -17,3 +17,5 @@ pub mod Carried
 pub mod Stages
 pub mod Reach
 pub mod Refusals
+pub mod Audits
+pub mod Heard

@@ -57,6 +57,8 @@ use Rattle.cause_law.specs.Numbers.{GrantsAreNamedOnce, ObjectsAreOwnAt}
 use Rattle.cause_law.specs.Reopened.{CrashesBarAt}
 use Rattle.component_law.specs.TagTags.{HaveTagsAt}
 use Rattle.headline_law.specs.Claim.{HasNoBadAudit, IsRightIfCalm, RepairedAt}
+use Rattle.history_claims.specs.Audits.{FoundsHaveCauses}
+use Rattle.history_claims.specs.Heard.{HeardHaveCauses}
 use Rattle.history_claims.specs.Notes.{NotesHaveCauses}
 use Rattle.history_claims.specs.Reach.{ReachesHaveCauses}
 use Rattle.history_claims.specs.Refusals.{RefusalsAreTold}
@@ -191,7 +193,11 @@ pub record IsSound (h : List Line) : Type 0 where
   -- and what the job of a file is at, its CREATEs, its fence, its repair, a component or its audit, ends with its note alone,
   -- unless the server crashes or is opened
   pub stages : (w : World) → StandsFor w h → AreWritten h → StagesHaveEnds h
-  -- an order that is refused since a job of the file waits, or since there is no further tag, is told
+  -- what an audit has left to read, and has found, it had before; or it goes on from what it has heard, or begins its piece again
+  pub found : (w : World) → StandsFor w h → AreWritten h → FoundsHaveCauses h
+  -- and what a job has heard it had heard before, or it is what a reply carries to a command that it awaited
+  pub heard : (w : World) → StandsFor w h → AreWritten h → HeardHaveCauses h
+  -- that a job is refused on a file since one waits, or that a fence is needed and there is no further tag, is told
   pub refusals : (w : World) → StandsFor w h → AreWritten h → RefusalsAreTold h
   -- `high` of a file stays, or rises to the end of a grant for writing that is live behind the step, and it reaches the end of
   -- each such grant that wasn't live before

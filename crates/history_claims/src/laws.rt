@@ -14,7 +14,8 @@ ghost use Rattle.history_claims.specs.Spread.{ComponentsStandSpread};
 ghost use Rattle.history_claims.specs.Stored.{WritesAreStored};
 
 use crate::note_laws::{
-    notes_have_causes, reaches_have_causes, refusals_are_told, stages_have_ends,
+    founds_have_causes, heard_have_causes, notes_have_causes, reaches_have_causes,
+    refusals_are_told, stages_have_ends,
 };
 use cause_law::{
     answers_are_of_replies, awaited_have_causes, awaited_have_ends, awaited_were_sent,
@@ -269,5 +270,7 @@ pub fn histories_are_sound()
     refusals_are_told();
     reaches_have_causes();
     ended_have_causes();
+    founds_have_causes();
+    heard_have_causes();
     within_the_limit_are_few();
 }

@@ -18,4 +18,7 @@ pub use laws::{
     messages_are_received, ready_reads_are_plain, recalls_are_caused, replies_carry_bytes,
     writes_are_stored,
 };
-pub use note_laws::{notes_have_causes, reaches_have_causes, refusals_are_told, stages_have_ends};
+pub use note_laws::{
+    founds_have_causes, heard_have_causes, notes_have_causes, reaches_have_causes,
+    refusals_are_told, stages_have_ends,
+};

@@ -1,4 +1,6 @@
 // What the server notes of files, and how far their grants for writing reached.
+ghost use Rattle.history_claims.specs.Audits.{EachFoundHasItsCause};
+ghost use Rattle.history_claims.specs.Heard.{EachHeardHasItsCause};
 ghost use Rattle.history_claims.specs.Notes.{EachNoteHasItsCause};
 ghost use Rattle.history_claims.specs.Reach.{EachReachHasItsCause};
 ghost use Rattle.history_claims.specs.Refusals.{EachRefusalIsTold};
@@ -43,11 +45,40 @@ pub fn stages_have_ends()
 }
 
 /// In such a history an order to revoke, rebuild or audit a file that comes while a job of the file waits is told as
-/// `busy` with the lowest component that this waits for, and one that comes where there is no further tag as `spent`.
+/// `busy` with the lowest component that this waits for; and where a fence of a file is needed and there is no further
+/// tag, that is told as `spent`.
 pub fn refusals_are_told()
     ensures { EachRefusalIsTold }
 {
+    conflicts_are_exact();
     grants_are_safe();
+    server_moves();
+    seen_is_sound();
+    book_is_read();
+    step_is_read();
+    one_event_more();
+    reading_goes_on();
+}
+
+/// In such a history what an audit has left to read, and has found, it had before the step; or it goes on from the piece
+/// whose rows, or from the lengths, that it has heard with a reply; or a component was lost, and its piece begins again.
+/// So it goes through its pieces, and counts the stripes that are short, and those that are bad.
+pub fn founds_have_causes()
+    ensures { EachFoundHasItsCause }
+{
+    server_moves();
+    seen_is_sound();
+    book_is_read();
+    step_is_read();
+    one_event_more();
+    reading_goes_on();
+}
+
+/// In such a history what a job has heard it had heard before the step, or it is what the reply that comes to a command
+/// that it awaited carries, for that command's component.
+pub fn heard_have_causes()
+    ensures { EachHeardHasItsCause }
+{
     server_moves();
     seen_is_sound();
     book_is_read();

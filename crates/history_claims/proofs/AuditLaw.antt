@@ -1,0 +1,48 @@
+-- In each whole history what an audit has left to read, and has found, goes on as its causes say.
+use Rattle.std.proofs.Common.{◌≡◌, ℕ, List, Some, sym, subst, ◌∙◌}
+use Rattle.server_rules.specs.Files.{file_at}
+use Rattle.server_rules.specs.History.{Input, step}
+use Rattle.server_rules.proofs.FileLaws.{number_at}
+use Rattle.world_history.specs.ServerNames.{Server, File, Piece, Tally}
+use Rattle.world_history.specs.Book.{placed_in}
+use Rattle.world_history.specs.History.{OneEventMore}
+use Rattle.world_history.specs.Laws.{ServerGoesOn}
+use Rattle.history_law.specs.BookMoments.{lines_in}
+use Rattle.history_law.specs.Doing.{ServerMoves}
+use Rattle.history_law.specs.Read.{BookIsRead, StepIsRead}
+use Rattle.history_law.proofs.Files.{in_at}
+use Rattle.history_law.proofs.Staying.{written_front}
+use Rattle.component_law.specs.Distinct.{AreDistinct}
+use Rattle.component_law.specs.Seeing.{SeenIsSound}
+use Rattle.cause_law.proofs.CauseInputs.{IsShown, at_inputs}
+use Rattle.cause_law.proofs.Changing.{at_place}
+use Rattle.cause_law.proofs.Grants.{sound_at}
+use Rattle.history_claims.specs.Audits.{HasFound, FoundGoes, FoundsGo, EachFoundHasItsCause}
+use Rattle.history_claims.proofs.AuditSteps.{founds_go}
+
+-- of the file of a number
+found_so : (s : Server) (chosen : List ℕ) (i : Input) → AreDistinct s.files → (n : ℕ) (g : File) (left : List Piece)
+    (found : Tally) → file_at (step s chosen i).state.files n ≡ Some g → HasFound g.job left found
+    → (f : File) × (file_at s.files n ≡ Some f) × FoundGoes s i f g.kept left found
+found_so s chosen i distinct n g left found there has =
+    let r = founds_go s chosen i g (in_at (step s chosen i).state.files n g there) left found has in (
+      r.0,
+      subst (λ (k : ℕ). file_at s.files k ≡ Some r.0) (sym r.2 ∙ number_at (step s chosen i).state.files n g there)
+          (at_place s.files r.0 distinct r.1),
+      r.3,
+    )
+
+module _ (moves : ServerMoves) (seen : SeenIsSound) (read : BookIsRead) where
+  shown : IsShown FoundsGo
+  shown = record {
+    shows = λ w h k m d written front l after is i moved file g left found there has.
+        subst (λ (s : Server). (f : File) × (file_at s.files file ≡ Some f) × FoundGoes s i f g.kept left found)
+        (sym moved.server)
+        (found_so w.server (placed_in after) i
+        (sound_at seen read w h k (written_front h (lines_in w m) written)).distinct file g left found
+        (subst (λ (s : Server). file_at s.files file ≡ Some g) moved.behind there) has);
+  }
+
+  pub each_found_has_its_cause : StepIsRead → OneEventMore → ServerGoesOn → EachFoundHasItsCause
+  each_found_has_its_cause step_read more on w h s written =
+      at_inputs read step_read moves more on FoundsGo shown w h s written
