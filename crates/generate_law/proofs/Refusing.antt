@@ -14,7 +14,8 @@ use Rattle.world_history.specs.ReadDrives.{DriveSeen, sees_drive, drive_after_li
 use Rattle.world_history.specs.Refusals.{refusal, unless_stopped}
 use Rattle.std.proofs.Math.Nat.{mod-lt}
 use Rattle.world_history.specs.Moves.{op_of}
-use Rattle.world_history.specs.State.{World, DriveAt, ClientAt, Sent, at_number}
+use Rattle.world_history.specs.State.{World, DriveAt, ClientAt, at_number}
+use Rattle.world_history.specs.declared.messages.Sent.{Sent}
 use Rattle.world_history.specs.declared.err.WorldErr.TheVariants.{Dead}
 use Rattle.history_law.specs.Drives.{DrivesAreRead}
 use Rattle.cause_law.specs.Ended.{ClientsAreRead}

@@ -1,7 +1,6 @@
 -- What replies carry that a call met are bytes, if the lines show bytes.
-use Rattle.std.proofs.Common.{◌≡◌, ◌==◌, ℕ, zero, suc, Bool, true, false, not, nat_lt, nat_eq, List, [], ◌∷◌, ◌++◌, drop, length, fold, find, Option, Some, None, Result, Ok, Err, is_some, slice_get, slice_set, slice_range, refl, sym, ap, subst, ◌∙◌, arith, if◌then◌else◌}
+use Rattle.std.proofs.Common.{◌≡◌, ◌==◌, ℕ, zero, suc, Bool, true, false, not, nat_lt, nat_eq, List, [], ◌∷◌, ◌++◌, drop, length, fold, find, Option, Some, None, Result, Ok, Err, is_some, slice_get, slice_set, slice_range, refl, subst, if◌then◌else◌}
 use Rattle.std.specs.Int.{w32, from_be_bytes}
-use Rattle.std.proofs.lemmas.List.Sums.{fold-append}
 use Rattle.osd_lists.specs.Blocks.{IsBytes, first_nonzero}
 use Rattle.osd_lists.specs.declared.node.Node.{Node}
 use Rattle.osd_lists.specs.declared.node.Node.TheVariants as node
@@ -12,7 +11,7 @@ use Rattle.osd_commands.specs.declared.commands.CommandErr.{CommandErr}
 use Rattle.osd_commands.specs.declared.commands.CommandErr.TheVariants.{Short, Magic, BadAction, Length}
 use Rattle.osd_commands.specs.declared.replies.TheConstants.{BLOCK, LAST_ACTION}
 use Rattle.osd_commands.specs.Replies as replies
-use Rattle.osd_commands.specs.Replies.{is_verdict, is_sized, action_at, verdict_at, sized, unless_reserved, reply_at}
+use Rattle.osd_commands.specs.Replies.{is_verdict, is_sized, action_at, verdict_at, unless_reserved, reply_at}
 use Rattle.client_rules.specs.Envelopes.{in_envelope, by_envelope, by_reply, message_in}
 use Rattle.client_rules.specs.History.{Input, Calls, Hears, TimesOut, Leaves, Resends}
 use Rattle.client_rules.specs.Messages.{Message, Answers, Recalls, Replies, Taken, TakesAnswer, TakesReply, TakesRecall, Step, answer_taken, reply_taken, awaited_of, takes}
@@ -32,14 +31,11 @@ use Rattle.world_history.specs.Moves.{op_of}
 use Rattle.world_history.specs.Reading.{arrived, left_out, changed_by, changed_at, sent_after_event, sent_after}
 use Rattle.cause_law.specs.Met.{Met, since, with_answer, with_taken, with_timeout, with_silence, met_after}
 use Rattle.cause_law.specs.ReadBytes.{CarryBytes}
-use Rattle.cause_law.specs.ReadCalls.{call_input, only_for, event_input, read_input, sent_input, line_input, LastStep, stepped, after_input, after_line, CallSeen, sees_call, call_seen}
+use Rattle.cause_law.specs.ReadCalls.{call_input, only_for, event_input, read_input, sent_input, line_input, LastStep, after_input, after_line, CallSeen, sees_call, call_seen}
 use Rattle.cause_law.specs.ReadClients.{is_client}
 use Rattle.history_claims.specs.Carried.{IsCarried, AreCarried, MetBytesAt, RepliesCarryBytes}
 
 -- ---- what is read in bytes
-
-none_bytes : IsBytes []
-none_bytes i = grind (arith)
 
 dropped_bytes : (n : ℕ) (bytes : List ℕ) → IsBytes bytes → IsBytes (drop n bytes)
 dropped_bytes zero bytes b = b

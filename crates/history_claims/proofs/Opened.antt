@@ -1,5 +1,5 @@
 -- The messages of some lines that are open from a number on, as messages are delivered and sent.
-use Rattle.std.proofs.Common.{◌≡◌, ◌≤◌, ◌<◌, ◌++◌, ◌∷◌, ◌&&◌, ◌+◌, ◌-◌, ℕ, zero, suc, Bool, true, false, true≢false, nat_le, not, List, [], length, filter, fold, map, append_assoc, Option, Some, None, slice_get, slice_set, refl, sym, ap, subst, ◌∙◌, arith, inl, inr, if◌then◌else◌}
+use Rattle.std.proofs.Common.{◌≡◌, ◌≤◌, ◌++◌, ◌∷◌, ◌&&◌, ◌+◌, ◌-◌, ℕ, zero, suc, Bool, true, false, nat_le, List, [], length, filter, fold, map, append_assoc, Option, Some, None, slice_get, refl, sym, ap, ◌∙◌, arith, inl, inr, if◌then◌else◌}
 use Rattle.std.specs.List.{range_with_len}
 use Rattle.std.proofs.lemmas.Bool.{cases_Bool}
 use Rattle.std.proofs.lemmas.Bool.Decides.{nat_tests}
@@ -11,7 +11,7 @@ use Rattle.world_history.specs.declared.messages.Sent.{Sent}
 use Rattle.world_history.specs.Plans.{is_pending, pending_from}
 use Rattle.world_history.specs.Reading.{arrived, changed_by, changed_at, sent_after}
 use Rattle.world_history.specs.Laws.{shown}
-use Rattle.history_claims.specs.Delivered.{delivered_at, delivered_in, is_open, is_open_or_new, open_from}
+use Rattle.history_claims.specs.Delivered.{delivered_in, is_open, is_open_or_new, open_from}
 use Rattle.history_claims.proofs.Plainly.{Plain}
 
 -- of messages that are numbered from k on those from `first` on that are open

@@ -1,5 +1,5 @@
 -- Lines that tell how a call ended, a note or a message: what a party tells in a step, and what it sends.
-use Rattle.std.proofs.Common.{◌≡◌, ℕ, ◌+◌, ◌++◌, ◌∷◌, ◌&&◌, [], List, Bool, true, false, true≢false, Option, Some, None, Result, Ok, Err, length, nat_lt, refl, sym, if◌then◌else◌}
+use Rattle.std.proofs.Common.{◌≡◌, ℕ, ◌+◌, ◌++◌, ◌∷◌, ◌&&◌, [], List, Bool, true, false, true≢false, Option, Some, None, Result, Ok, Err, length, nat_lt, sym, if◌then◌else◌}
 use Rattle.std.specs.List.{cons_option, filter_map}
 use Rattle.osd_lists.specs.declared.node.Node.{Node}
 use Rattle.osd_lists.specs.declared.node.Node.TheVariants as node
@@ -25,7 +25,7 @@ use Rattle.world_history.specs.Drives.{made_drive, is_deaf}
 use Rattle.world_history.specs.Handed.{Post, Handed, end_line, ended_by, server_takes, drive_hears, client_hears, client_takes, for_client, for_server, handed_to, client_goes, op_in}
 use Rattle.world_history.specs.Moves.{Act, gives, made_file, makes, has_algorithm, adds_drive, knows_drive, known_drive}
 use Rattle.world_history.specs.Reading.{is_head}
-use Rattle.world_history.specs.Sending.{sent_lines, sends_all}
+use Rattle.world_history.specs.Sending.{sent_lines}
 
 abbrev pub IsPlain : Line → Type 0
 IsPlain (line.Ended c o) = Unit {0}

@@ -2,12 +2,11 @@
 use Rattle.std.proofs.Common.{◌≡◌, ◌⊎◌, ℕ, Bool, true, false, List, [], ◌∷◌, Option, Some, None, is_some, refl, sym, ap, ◌∙◌, inl, inr, if◌then◌else◌}
 use Rattle.client_rules.specs.Messages.{awaited_of}
 use Rattle.client_rules.specs.Steps.{awaits_by, awaits}
-use Rattle.scenario_text.specs.declared.event.Event.{Event}
 use Rattle.world_history.specs.ClientNames as client_rules
 use Rattle.world_history.specs.ClientNames.{Client, Awaits, Awaited, Request}
 use Rattle.world_history.specs.State.{World, ClientAt, at_number}
-use Rattle.world_history.specs.Moves.{Action, Opens, Delivers, TimesOut, Pends}
-use Rattle.world_history.specs.Plans.{when_quiet, quiet_at, quiet_of, due_pending, next_pending}
+use Rattle.world_history.specs.Moves.{Action, Delivers, TimesOut, Pends}
+use Rattle.world_history.specs.Plans.{when_quiet, quiet_at, quiet_of, due_pending}
 
 -- a component that the client's call awaits times out, or the call is left pending
 pub data IsQuiet (w : World) (o : Option ℕ) (b : Action) : Type 0 where

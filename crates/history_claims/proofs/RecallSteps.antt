@@ -1,35 +1,32 @@
 -- What a step of the server recalls it has to.
-use Rattle.std.proofs.Common.{◌≡◌, ◌≢◌, ◌<◌, ◌≤◌, ◌==◌, ◌&&◌, ◌+◌, ◌++◌, ◌∷◌, ℕ, Bool, true, false, not, true≢false, nat_le, List, [], append_assoc, length, filter, find, flat_map, Option, Some, None, refl, sym, ap, subst, ◌∙◌, arith, inl, inr, if◌then◌else◌}
+use Rattle.std.proofs.Common.{◌≡◌, ◌≢◌, ◌<◌, ◌≤◌, ◌==◌, ◌+◌, ◌++◌, ◌∷◌, ℕ, Bool, true, false, List, [], append_assoc, length, flat_map, Option, Some, None, refl, sym, ap, subst, ◌∙◌, arith, inl, inr, if◌then◌else◌}
 use Rattle.std.proofs.lemmas.Bool.{eq-eqb, false≢true}
 use Rattle.std.proofs.lemmas.Bool.Decides.{nat_tests}
 use Rattle.osd_lists.specs.declared.node.Node.{Node}
 use Rattle.osd_lists.specs.declared.node.Node.TheVariants.{Server as FromServer, Drive as FromDrive, Client as FromClient}
-use Rattle.layout_ops.specs.declared.results.LayoutGetResult.TheVariants as get
-use Rattle.layout_ops.specs.declared.results.Results.TheVariants as results
 use Rattle.layout_ops.specs.declared.statuses.TheConstants.{LAYOUTIOMODE4_RW, NFS4ERR_LAYOUTTRYLATER, NFS4ERR_LAYOUTUNAVAILABLE}
-use Rattle.server_rules.specs.declared.limits.TheConstants.{MAX_CLIENT, GREATEST_TAG, NO_COMPONENT}
+use Rattle.server_rules.specs.declared.limits.TheConstants.{GREATEST_TAG, NO_COMPONENT}
 use Rattle.server_rules.specs.Answers.{recall_of, recalls_from, result_with}
 use Rattle.server_rules.specs.Commit.{Committed, NoGrant as NoCommit, Wrong, Sizes, commit_row, by_commit, commits}
 use Rattle.server_rules.specs.Files.{Step, still, file_at, at_file, to_drive, to_drives, step_at}
 use Rattle.server_rules.specs.Get as rows
-use Rattle.server_rules.specs.Get.{Early, Late, lowest, early, must_fence, by_first, by_lacked, lacked, late, by_late, give_or_refuse, after_fence, fence_then, fence_first, on_grants, by_early, gets}
+use Rattle.server_rules.specs.Get.{Early, Late, lowest, early, must_fence, late, by_late, give_or_refuse, after_fence, fence_then, fence_first, on_grants, by_early, gets}
 use Rattle.server_rules.specs.Going.{Going, noting}
 use Rattle.server_rules.specs.Grants.{conflicts, against, asked}
 use Rattle.server_rules.specs.History.{Input, Hears, Makes, Obeys, Adds, Zones, Formats, Resends, Crashes, Opens, step}
 use Rattle.server_rules.specs.Jobs.{fence_begins}
 use Rattle.server_rules.specs.Laws.{In, ConflictsAreExact, FilesArePut, AreSafe, is_taken_of}
-use Rattle.server_rules.specs.Messages.{Message, Asks, Replies, Orders, counters_have_room, handled, on_message, awaited_by}
+use Rattle.server_rules.specs.Messages.{Message, Asks, Replies, Orders, counters_have_room, on_message, awaited_by}
 use Rattle.server_rules.specs.Orders.{Ordered, begins_job, starts, recalls_on, declare, declares_known, ordered, with_result}
-use Rattle.server_rules.specs.Requests.{serves, answer_with, carried_out, only_answers, on_request}
+use Rattle.server_rules.specs.Requests.{serves, answer_with, carried_out, on_request}
 use Rattle.server_rules.specs.Return.{Returned, NoGrant, Clean, Taken, TooMany, Fencing, return_row, by_return, returns_on}
 use Rattle.server_rules.specs.Served.{Served, says}
 use Rattle.server_rules.specs.Slots.{New, slot_of, admit}
 use Rattle.server_rules.proofs.HandlerLaws.{fence_leaves_none}
 use Rattle.server_rules.proofs.Members.{in_either, in_mapped, in_filtered}
-use Rattle.world_history.specs.ServerNames.{Server, File, Drive, Grant, Awaited, Job, JobKind, Revoking, Rebuilding, Auditing, Answer, ClientRequest, RequestArgs, Get, Commit, Return, OrderKind, ToRecall, ToRevoke, ToDeclare, ToRebuild, ToAudit, HasStarted, IsSpent, Busy, Spent, Order, Recall, Outgoing, Recalls, Answers}
-use Rattle.history_law.specs.Steps.{IsAsked, IsOrder, Here, Sent, IsOrdered, StepCases}
+use Rattle.world_history.specs.ServerNames.{Server, File, Drive, Grant, Awaited, Job, JobKind, Revoking, Rebuilding, Auditing, Answer, ClientRequest, RequestArgs, Get, Commit, Return, OrderKind, ToRecall, ToRevoke, ToDeclare, ToRebuild, ToAudit, HasStarted, IsSpent, Busy, Spent, Recall, Outgoing, Recalls, Answers}
+use Rattle.history_law.specs.Steps.{IsAsked, IsOrder, Here, Sent}
 use Rattle.history_law.proofs.Steps.{each_request, each_step}
-use Rattle.cause_law.specs.Answers.{IsNew}
 use Rattle.cause_law.specs.Gets.{AreOpposed}
 use Rattle.cause_law.proofs.Causing.{Answered, request_answered}
 use Rattle.history_claims.specs.Recalled.{IsInTheWay, IsRecalled, ByOrder, InTheWay}

@@ -4,7 +4,6 @@ use Rattle.osd_lists.specs.declared.node.Node.TheVariants as node
 use Rattle.layout_ops.specs.declared.envelope.Envelope.TheVariants as envelope
 use Rattle.layout_ops.specs.Spelling.{envelope_item}
 use Rattle.client_rules.specs.History.{step as client_step}
-use Rattle.server_rules.specs.Answers.{recall_of}
 use Rattle.server_rules.specs.History.{Input, step}
 use Rattle.server_rules.specs.Laws.{In, ConflictsAreExact, FilesArePut, AreSafe}
 use Rattle.server_rules.proofs.Members.{in_either, in_mapped, in_filtered}

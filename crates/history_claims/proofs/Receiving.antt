@@ -1,5 +1,5 @@
 -- Each message that is delivered is taken by who hears, and its receiver is deaf else.
-use Rattle.std.proofs.Common.{◌≡◌, ◌++◌, ◌∷◌, ℕ, Bool, true, false, List, [], Option, Some, None, map, slice_get, refl, sym, ap, subst, ◌∙◌, if◌then◌else◌}
+use Rattle.std.proofs.Common.{◌≡◌, ◌++◌, ◌∷◌, ℕ, Bool, true, false, List, [], Option, Some, None, slice_get, refl, sym, ap, subst, ◌∙◌, if◌then◌else◌}
 use Rattle.std.proofs.lemmas.Option.{same_Some}
 use Rattle.osd_lists.specs.declared.node.Node.{Node}
 use Rattle.osd_lists.specs.declared.node.Node.TheVariants as node
@@ -16,12 +16,11 @@ use Rattle.world_history.specs.State.{World, DriveAt, ClientAt, at_number}
 use Rattle.world_history.specs.Spelled.{party_of}
 use Rattle.world_history.specs.Drives.{judges, command_in, is_deaf}
 use Rattle.world_history.specs.Handed.{Handed, quiet, drive_hears, drive_replies, server_hears, server_takes, for_server, client_hears, client_takes, for_client, handed_to}
-use Rattle.world_history.specs.Moves.{Action, Opens, Delivers, TimesOut, Pends, marked, acts}
-use Rattle.world_history.specs.Sending.{Move, move, sends_all}
-use Rattle.world_history.specs.Reading.{sent_in}
+use Rattle.world_history.specs.Moves.{Action, Opens, Delivers, TimesOut, Pends, marked}
+use Rattle.world_history.specs.Sending.{Move, move}
 use Rattle.world_history.specs.History.{OneEventMore}
 use Rattle.world_history.specs.Laws.{shown}
-use Rattle.history_law.specs.Moments.{IsMoment, with_event, lines_in}
+use Rattle.history_law.specs.Moments.{with_event, lines_in}
 use Rattle.history_law.specs.Moves.{number_in}
 use Rattle.history_law.proofs.DriveLines.{shown_get}
 use Rattle.history_law.proofs.Each.{EachBehind}

@@ -1,8 +1,7 @@
 -- A client refuses what it has to, and nothing else.
-use Rattle.std.proofs.Common.{◌≡◌, ◌≢◌, ◌⊎◌, ◌<◌, ◌++◌, ◌∷◌, ◌+◌, ◌||◌, ℕ, Bool, true, false, true≢false, nat_lt, List, [], Option, Some, None, Result, Ok, Err, is_some, is_err, refl, sym, ap, subst, ◌∙◌, arith, inl, inr, if◌then◌else◌}
-use Rattle.std.proofs.lemmas.Bool.{cases_Bool, cases_lt}
+use Rattle.std.proofs.Common.{◌≡◌, ◌≢◌, ◌++◌, ◌∷◌, ◌+◌, ℕ, Bool, true, false, true≢false, List, [], Option, Some, None, Result, Ok, Err, is_some, is_err, refl, sym, ap, subst, ◌∙◌, arith, inl, inr, if◌then◌else◌}
+use Rattle.std.proofs.lemmas.Bool.{cases_lt}
 use Rattle.std.proofs.lemmas.Bool.Decides.{nat_tests}
-use Rattle.data_map.specs.declared.ranges.TheConstants.{MAX_FILE_SIZE}
 use Rattle.client_rules.specs.declared.limits.TheConstants.{MAX_CALL}
 use Rattle.client_rules.specs.Calls.{span_of}
 use Rattle.client_rules.specs.Messages.{Step as ClientStep}
@@ -25,12 +24,12 @@ use Rattle.world_history.specs.Sending.{Move, move, sent_lines, sends_all}
 use Rattle.world_history.specs.Plans.{Alone, is_refused, rule_of}
 use Rattle.world_history.specs.Runs.{Carries}
 use Rattle.world_history.specs.History.{StandsFor, OneEventMore, Lawful}
-use Rattle.history_law.specs.Moments.{IsMoment, with_event, lines_in}
+use Rattle.history_law.specs.Moments.{with_event, lines_in}
 use Rattle.history_law.proofs.Each.{EachBehind}
-use Rattle.ready_law.specs.Events.{IsOver, StandsApart, EventsStandApart}
+use Rattle.ready_law.specs.Events.{StandsApart, EventsStandApart}
 use Rattle.cause_law.specs.ReadClients.{client_after}
 use Rattle.cause_law.proofs.CallHistories.{clients_are_read}
-use Rattle.history_claims.specs.Refused.{PassesALimit, RefusesCall, RefusesToLeave, IsRefused, RefusesIn, WasRefused, RefusedAt, RefusalsAreTold, EachIsRefused}
+use Rattle.history_claims.specs.Refused.{PassesALimit, RefusesCall, RefusesToLeave, RefusesIn, RefusedAt, RefusalsAreTold, EachIsRefused}
 use Rattle.history_claims.proofs.Plainly.{IsPlain, Plain}
 use Rattle.history_claims.proofs.Moved.{Refuses, Says, PlainLines, ADelivery, ATimeout, AVerdict, ARefusal, says}
 use Rattle.history_claims.proofs.Places.{at_lines}

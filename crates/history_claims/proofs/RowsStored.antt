@@ -2,8 +2,7 @@
 use Rattle.std.proofs.Common.{◌≡◌, ◌⊎◌, ◌<◌, ◌/◌, ◌+◌, ℕ, zero, suc, true, List, [], ◌∷◌, length, Some, refl, sym, ap, subst, ◌∙◌, inl, inr, arith}
 use Rattle.data_map.specs.declared.check.RawMap.{RawMap}
 use Rattle.data_map.specs.Striping.{stripe_of, column_of}
-use Rattle.osd_capability.specs.declared.keys.CapKey.TheVariants.{One}
-use Rattle.client_rules.specs.Commands.{no_capability, credential_of, command, sealed, awaited_for}
+use Rattle.client_rules.specs.Commands.{no_credential, credential_of, command, sealed, awaited_for}
 use Rattle.client_rules.specs.Calls.{file_of}
 use Rattle.client_rules.specs.Grants.{held_of, missing_from}
 use Rattle.world_history.specs.ClientNames.{CallOp, Write, Held, Listed, Awaited, Reply, WriteOk}
@@ -21,7 +20,7 @@ two = record { comps = 2; unit = 1; width = 0; depth = 0; mirrors = 0; algorithm
 abbrev listed : (k : ℕ) → Listed
 listed k = record {
   id = record { oid_device_id = []; oid_partition_id = 65536 + k; oid_object_id = 70000 + k };
-  credential = Some (record { drive = k; key = One []; capability = no_capability });
+  credential = Some (record no_credential { drive = k });
 }
 
 abbrev grant : Held

@@ -1,5 +1,5 @@
 -- An event behind whose first move nothing is due has just the lines of that move.
-use Rattle.std.proofs.Common.{◌≡◌, ℕ, ◌++◌, ◌∷◌, [], List, Some, None, refl, sym, ap, subst, ◌∙◌}
+use Rattle.std.proofs.Common.{◌≡◌, ℕ, ◌++◌, ◌∷◌, [], List, refl, sym, ap, subst, ◌∙◌}
 use Rattle.std.proofs.lemmas.List.{append-nil}
 use Rattle.scenario_text.specs.declared.event.Event.{Event}
 use Rattle.scenario_text.specs.declared.line.Line.{Line}
@@ -7,8 +7,8 @@ use Rattle.scenario_text.specs.declared.line.Line.TheVariants as line
 use Rattle.world_history.specs.State.{World}
 use Rattle.world_history.specs.Moves.{Action, Opens}
 use Rattle.world_history.specs.Sending.{Move, move}
-use Rattle.world_history.specs.Plans.{Rule, Alone, due, due_by, went_on, rule_after, rule_of, plan_of}
-use Rattle.world_history.specs.Runs.{lines_of, world_after, AreDue, plan_after, IsOver, Carries}
+use Rattle.world_history.specs.Plans.{Alone, due, due_by, rule_after, rule_of, plan_of}
+use Rattle.world_history.specs.Runs.{lines_of, AreDue, plan_after, IsOver, Carries}
 
 pub record IsSingle (v : World) (e : Event) (body : List Line) : Type 0 where
   pub chosen : List ℕ

@@ -1,12 +1,11 @@
 -- At each moment what is read off the lines is what stands in the world.
-use Rattle.std.proofs.Common.{◌≡◌, ℕ, false, ◌++◌, ◌∷◌, [], List, Option, map, sym, ap, ◌∙◌}
+use Rattle.std.proofs.Common.{◌≡◌, ℕ, false, ◌++◌, ◌∷◌, [], List, map, ap, ◌∙◌}
 use Rattle.std.specs.List.{fold}
 use Rattle.std.proofs.lemmas.List.Sums.{fold-append}
 use Rattle.scenario_text.specs.declared.event.Event.TheVariants as event
 use Rattle.scenario_text.specs.declared.line.Line.{Line}
 use Rattle.scenario_text.specs.declared.line.Line.TheVariants as line
-use Rattle.world_history.specs.declared.messages.Sent.{Sent}
-use Rattle.world_history.specs.State.{World, DriveAt, ClientAt, at_number}
+use Rattle.world_history.specs.State.{World, at_number}
 use Rattle.world_history.specs.Reading.{sent_after, sent_in}
 use Rattle.world_history.specs.ReadDrives.{DriveSeen, sees_drive, drive_after}
 use Rattle.world_history.specs.Laws.{shown}

@@ -1,10 +1,10 @@
 -- A component times out only where an event says so, or its client's call awaits it and no message is left.
-use Rattle.std.proofs.Common.{◌≡◌, ◌⊎◌, ◌≤◌, ◌<◌, ◌++◌, ◌∷◌, ◌+◌, ◌&&◌, ℕ, zero, suc, Bool, true, false, true≢false, nat_lt, nat_le, List, [], length, map, Option, Some, None, slice_get, is_err, refl, sym, ap, subst, ◌∙◌, arith, inl, inr, if◌then◌else◌}
-use Rattle.std.proofs.lemmas.Bool.{cases_Bool, cases_lt}
+use Rattle.std.proofs.Common.{◌≡◌, ◌⊎◌, ◌≤◌, ◌<◌, ◌++◌, ◌∷◌, ◌+◌, ◌&&◌, ℕ, zero, suc, Bool, true, false, nat_lt, nat_le, List, [], length, map, Option, Some, None, slice_get, refl, sym, ap, subst, ◌∙◌, arith, inl, inr, if◌then◌else◌}
+use Rattle.std.proofs.lemmas.Bool.{cases_Bool}
 use Rattle.std.proofs.lemmas.Bool.Decides.{nat_tests}
 use Rattle.std.proofs.lemmas.List.{length-map}
 use Rattle.client_rules.specs.Messages.{awaited_of}
-use Rattle.client_rules.specs.Steps.{calls, lowest_with, awaits_by, awaits}
+use Rattle.client_rules.specs.Steps.{lowest_with, awaits_by, awaits}
 use Rattle.scenario_text.specs.declared.event.Call.{Call as EventCall}
 use Rattle.scenario_text.specs.declared.event.Event.{Event}
 use Rattle.scenario_text.specs.declared.event.Event.TheVariants as event
@@ -13,31 +13,26 @@ use Rattle.scenario_text.specs.declared.line.Line.TheVariants as line
 use Rattle.server_rules.specs.Laws.{In}
 use Rattle.world_history.specs.ClientNames as client_rules
 use Rattle.world_history.specs.ClientNames.{Client, Awaited, Request}
-use Rattle.world_history.specs.declared.messages.Posted.{Posted}
 use Rattle.world_history.specs.declared.messages.Sent.{Sent}
 use Rattle.world_history.specs.Laws.{shown}
 use Rattle.world_history.specs.State.{World, ClientAt, at_number}
 use Rattle.world_history.specs.Moves.{Action, Opens, Delivers, TimesOut, Pends, op_of, begins}
 use Rattle.world_history.specs.Sending.{Move, move, sends_all}
-use Rattle.world_history.specs.Plans.{due_pending, next_pending, Rule, Alone, Prompt, Plan, due_by, due_in, due, is_refused, rule_of, plan_of}
+use Rattle.world_history.specs.Plans.{next_pending, Rule, Alone, Prompt, Plan, due_by, due_in, due, is_refused, rule_of, plan_of}
 use Rattle.world_history.specs.Reading.{sent_in}
-use Rattle.world_history.specs.Runs.{lines_of, AreDue, plan_after, Carries}
-use Rattle.world_history.specs.History.{StandsFor, OneEventMore, Lawful}
-use Rattle.world_history.proofs.ReadMessages.{never_opens}
-use Rattle.world_history.proofs.Runs.{no_opening}
+use Rattle.world_history.specs.Runs.{lines_of, plan_after}
+use Rattle.world_history.specs.History.{OneEventMore, Lawful}
 use Rattle.history_law.specs.Moments.{IsMoment, plan_at, with_event, lines_so_far, lines_in}
 use Rattle.history_law.proofs.Each.{EachBehind}
 use Rattle.component_law.proofs.Shapes.{IsHeaded}
 use Rattle.component_law.proofs.MoveOpening.{opens_headed}
-use Rattle.ready_law.specs.Events.{IsOver, StandsApart, EventsStandApart}
+use Rattle.ready_law.specs.Events.{StandsApart, EventsStandApart}
 use Rattle.cause_law.specs.Lines.{IsInDo}
-use Rattle.cause_law.specs.Pending.{IsTaken}
-use Rattle.cause_law.specs.ReadClients.{client_after}
 use Rattle.cause_law.proofs.CallHistories.{clients_are_read}
 use Rattle.cause_law.proofs.Eventless.{moves_plain}
-use Rattle.cause_law.proofs.PendingMoves.{rule_there, taken_rule}
+use Rattle.cause_law.proofs.PendingMoves.{rule_there}
 use Rattle.history_claims.specs.Delivered.{is_open}
-use Rattle.history_claims.specs.TimedOut.{EndWith, IsLowest, NoneLeft, IsSilent, TimedOutAt, NoneAwaited, TimeoutsAreTold, EachIsTimedOut}
+use Rattle.history_claims.specs.TimedOut.{IsLowest, IsSilent, TimedOutAt, NoneAwaited, TimeoutsAreTold, EachIsTimedOut}
 use Rattle.history_claims.proofs.Plainly.{IsPlain, Plain, not_plain}
 use Rattle.history_claims.proofs.Moved.{TimesOutAt, Says, PlainLines, ADelivery, ATimeout, AVerdict, ARefusal, says}
 use Rattle.history_claims.proofs.Opened.{opens, none_open}

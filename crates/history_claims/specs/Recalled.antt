@@ -1,5 +1,5 @@
 -- Why the server recalls a grant, in the words of its book.
-use Rattle.std.specs.Prelude.{◌≡◌, ◌⊎◌, ◌==◌, ◌<◌, ◌≤◌, ℕ, true, false, List, ◌++◌, Some}
+use Rattle.std.specs.Prelude.{◌≡◌, ◌⊎◌, ◌==◌, ◌<◌, ◌≤◌, ℕ, false, List, ◌++◌, Some}
 use Rattle.layout_ops.specs.declared.envelope.Envelope.TheVariants as envelope
 use Rattle.layout_ops.specs.declared.results.LayoutGetResult.TheVariants as get
 use Rattle.layout_ops.specs.declared.results.Results.TheVariants as results

@@ -198,7 +198,10 @@ pub fn ready_reads_are_plain()
 /// live or ends one but a fence. There a file's tag changes exactly with the note that a fence of it is over, its
 /// components as notes and declarations say, and what its job awaits was sent and isn't answered. A crash of the
 /// server bars each file that had a grant or a fence, until a fence of it is over, and no grant and no object number
-/// comes twice. Each call that is ready ends in ok if its event is over, within its bound of messages; a ready read
+/// comes twice. A recall is of a live grant, by an order or since a request is told to try later. A party is deaf to a
+/// message exactly if it failed, is down or was stopped, an event delivers just what it has to, and a component times
+/// out, and a client refuses, only where they have to.
+/// Each call that is ready ends in ok if its event is over, within its bound of messages; a ready read
 /// whose event is calm gives what the writes before it leave in order, if each of these was acknowledged; and as long
 /// as few drives fail no stripe is beyond its code. Up to each place up to which such a history is calm and
 /// unguessed, each answered read gave what was acknowledged before it, each stripe that isn't disturbed is whole, and
