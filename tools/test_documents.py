@@ -1,0 +1,151 @@
+#!/usr/bin/env python3
+"""Tries what the documents cite: python3 tools/test_documents.py"""
+import fnmatch
+import glob
+import os
+import re
+import sys
+import unittest
+from typing import Iterator, List, Tuple
+
+sys.dont_write_bytecode = True
+TOP = os.path.dirname(os.path.dirname(os.path.abspath(__file__)))
+PAGES = ["README.md", "CHANGELOG.md", "CONTRIBUTING.md", "SECURITY.md"]
+MOST_WORDS = 1200
+
+LINK = re.compile(r"\]\((?P<to>[^)\s]+)\)")
+#: Code in the midst of a sentence.
+CODE = re.compile(r"`([^`]+)`")
+#: A page and one of its headings, as in: `docs/TERMS.md`, "Ten words"
+HEADING_OF = re.compile(r"`(?P<page>[A-Za-z_./]+\.md)`, \"(?P<heading>[^\"]+)\"")
+#: Names that stand for many files, as in `crates/NAME`.
+PLACEHOLDER = re.compile(r"(^|/)[A-Z]+(/|$|\.(edit|txt)$)")
+PATH = re.compile(r"[A-Za-z0-9_.*-]+(/[A-Za-z0-9_.*-]+)*/?")
+#: What a path ends with that is one of this repository wherever it begins.
+SOURCES = (".md", ".rt", ".antt", ".py", ".edit", ".rows")
+#: Where a build, or a run, puts what isn't in the repository.
+MADE = {"out", ".git", "__pycache__"}
+
+
+def pages() -> List[str]:
+    """The documents, by their paths from the top."""
+    return PAGES + sorted(os.path.relpath(path, TOP) for path in glob.glob(os.path.join(TOP, "docs", "*.md")))
+
+
+def text_of(page: str) -> str:
+    """The text of a page."""
+    with open(os.path.join(TOP, page), encoding="utf-8") as file:
+        return file.read()
+
+
+def tree() -> List[str]:
+    """The paths of all files and folders, from the top, but for what is made."""
+    found = []
+    for folder, folders, files in os.walk(TOP):
+        folders[:] = [name for name in folders if name not in MADE]
+        found += [os.path.relpath(os.path.join(folder, name), TOP) for name in folders + files]
+    return found
+
+
+def cited(text: str) -> Iterator[str]:
+    """The words of code in a page, in sentences and in indented blocks."""
+    for line in text.splitlines():
+        codes = [line] if line.startswith("    ") else CODE.findall(line)
+        for code in codes:
+            yield from code.split()
+
+
+def anchor(heading: str) -> str:
+    """The name by which a link goes to a heading."""
+    return re.sub(r"[^a-z0-9 _-]", "", heading.lower()).replace(" ", "-")
+
+
+def headings(text: str) -> List[str]:
+    """The headings of a page."""
+    return [line.lstrip("#").strip() for line in text.splitlines() if line.startswith("#")]
+
+
+def titles(text: str) -> List[str]:
+    """What a page can be asked for by name: its headings, and the bold beginnings of its paragraphs."""
+    bold = re.findall(r"^\*\*([^*]+)\*\*", text, re.MULTILINE)
+    return headings(text) + [title.rstrip(".") for title in bold]
+
+
+class Documents(unittest.TestCase):
+    """What the documents cite exists, and README is short."""
+
+    @classmethod
+    def setUpClass(cls):
+        cls.paths = set(tree())
+        cls.tops = {path.split("/")[0] for path in cls.paths if "/" in path}
+        cls.ends = {"/".join(path.split("/")[at:]) for path in cls.paths for at in range(path.count("/") + 1)}
+
+    def exists(self, path: str) -> bool:
+        """Whether a path that a document cites is one of a file or folder here."""
+        first = path.split("/")[0]
+        known = self.paths if first in self.tops and "/" in path else self.ends
+        if "*" in path:
+            return any(fnmatch.fnmatch(one, path) for one in known)
+        return path in known
+
+    def is_path(self, word: str) -> bool:
+        """Whether a word of code names a file or folder of this repository."""
+        if not PATH.fullmatch(word) or PLACEHOLDER.search(word) or MADE & set(word.split("/")):
+            return False
+        return word.endswith(SOURCES) or ("/" in word and word.split("/")[0] in self.tops)
+
+    def paths_in(self, page: str) -> Iterator[str]:
+        """The paths that a page cites."""
+        for word in cited(text_of(page)):
+            word = re.sub(r"^\./", "", word.strip("(),;:'\""))
+            if self.is_path(word):
+                yield word.rstrip("/.")
+
+    def test_each_file_exists(self):
+        for page in pages():
+            for path in self.paths_in(page):
+                with self.subTest(page=page, path=path):
+                    self.assertTrue(self.exists(path), "no file or folder has this path")
+
+    def test_each_link_leads_somewhere(self):
+        for page, link in self.links():
+            with self.subTest(page=page, link=link):
+                to, _, place = link.partition("#")
+                path = os.path.normpath(os.path.join(os.path.dirname(page), to)) if to else page
+                self.assertTrue(path in self.paths, "no file or folder has this path")
+                if place:
+                    self.assertIn(place, [anchor(heading) for heading in headings(text_of(path))])
+
+    def links(self) -> Iterator[Tuple[str, str]]:
+        """Each page with each of its links to a file of this repository."""
+        for page in pages():
+            for link in LINK.finditer(text_of(page)):
+                if "://" not in link["to"]:
+                    yield page, link["to"]
+
+    def test_each_heading_exists(self):
+        for page in pages():
+            for place in HEADING_OF.finditer(text_of(page)):
+                with self.subTest(page=page, cited=place[0]):
+                    beside = os.path.join("docs", place["page"])
+                    self.assertIn(place["heading"], titles(text_of(beside if beside in self.paths else place["page"])))
+
+    def test_readme_is_short(self):
+        self.assertLessEqual(len(text_of("README.md").split()), MOST_WORDS)
+
+    def test_the_pages_are_read(self):
+        self.assertGreater(sum(1 for page in pages() for _ in self.paths_in(page)), 500)
+        self.assertTrue(list(self.links()))
+
+
+def main():
+    """Runs the tests that are named, or all. The last line has how many passed and failed."""
+    result = unittest.main(exit=False).result
+    failed = len(result.failures) + len(result.errors)
+    sys.stderr.flush()
+    print(f"tests: {result.testsRun - failed} passed, {failed} failed")
+    return 1 if failed or not result.testsRun else 0
+
+
+if __name__ == "__main__":
+    sys.exit(main())
