@@ -6,7 +6,7 @@ import os
 import re
 import sys
 import unittest
-from typing import Iterator, List, Tuple
+from typing import Dict, Iterator, List, Set, Tuple
 
 sys.dont_write_bytecode = True
 TOP = os.path.dirname(os.path.dirname(os.path.abspath(__file__)))
@@ -20,6 +20,10 @@ CODE = re.compile(r"`([^`]+)`")
 HEADING_OF = re.compile(r"`(?P<page>[A-Za-z_./]+\.md)`, \"(?P<heading>[^\"]+)\"")
 #: Names that stand for many files, as in `crates/NAME`.
 PLACEHOLDER = re.compile(r"(^|/)[A-Z]+(/|$|\.(edit|txt)$)")
+#: An item of a crate, as in `cause_law::crashes_bar`.
+ITEM = re.compile(r"`(?P<crate>[a-z0-9_]+)::(?P<names>[A-Za-z0-9_:]+)")
+#: A file of a crate and items of it, as in `world_history/specs/Moves.antt` (`Act`).
+ITEMS_OF = re.compile(r"`(?:crates/)?(?P<crate>[a-z0-9_]+)/(?:specs|src)/[A-Za-z0-9_/]+\.(?:rt|antt)` \((?P<names>[^)]*)\)")
 PATH = re.compile(r"[A-Za-z0-9_.*-]+(/[A-Za-z0-9_.*-]+)*/?")
 #: What a path ends with that is one of this repository wherever it begins.
 SOURCES = (".md", ".rt", ".antt", ".py", ".edit", ".rows")
@@ -50,7 +54,7 @@ def tree() -> List[str]:
 def cited(text: str) -> Iterator[str]:
     """The words of code in a page, in sentences and in indented blocks."""
     for line in text.splitlines():
-        codes = [line] if line.startswith("    ") else CODE.findall(line)
+        codes = CODE.findall(line) + [line] * line.startswith("    ")
         for code in codes:
             yield from code.split()
 
@@ -77,6 +81,7 @@ class Documents(unittest.TestCase):
     @classmethod
     def setUpClass(cls):
         cls.paths = set(tree())
+        cls.words: Dict[str, Set[str]] = {}
         cls.tops = {path.split("/")[0] for path in cls.paths if "/" in path}
         cls.ends = {"/".join(path.split("/")[at:]) for path in cls.paths for at in range(path.count("/") + 1)}
 
@@ -129,6 +134,31 @@ class Documents(unittest.TestCase):
                 with self.subTest(page=page, cited=place[0]):
                     beside = os.path.join("docs", place["page"])
                     self.assertIn(place["heading"], titles(text_of(beside if beside in self.paths else place["page"])))
+
+    def test_each_item_is_in_its_crate(self):
+        for page in pages():
+            for crate, name in self.items_in(page):
+                with self.subTest(page=page, crate=crate, name=name):
+                    self.assertTrue(name in self.words_of(crate), "the crate has no such name")
+
+    def items_in(self, page: str) -> Iterator[Tuple[str, str]]:
+        """The names that a page says are in a crate, each with the crate."""
+        text = text_of(page)
+        cited = [(item["crate"], item["names"].split("::")) for item in ITEM.finditer(text)]
+        cited += [(items["crate"], re.findall(r"`(\w+)`", items["names"])) for items in ITEMS_OF.finditer(text)]
+        for crate, names in cited:
+            if os.path.join("crates", crate) in self.paths:
+                yield from ((crate, name) for name in names if name)
+
+    @classmethod
+    def words_of(cls, crate: str) -> Set[str]:
+        """All words of a crate's code and definitions, and of the names of its files."""
+        if crate not in cls.words:
+            folder = os.path.join("crates", crate, "")
+            files = [path for path in cls.paths if path.startswith(folder)]
+            sources = [path for path in files if path.endswith((".rt", ".antt")) and "/proofs/" not in path]
+            cls.words[crate] = set(re.findall(r"\w+", " ".join(files + [text_of(path) for path in sources])))
+        return cls.words[crate]
 
     def test_readme_is_short(self):
         self.assertLessEqual(len(text_of("README.md").split()), MOST_WORDS)
