@@ -13,3 +13,4 @@ pub mod Example
 pub mod NotShort
 pub mod GoodMoments
 pub mod CalmSteps
+pub mod Grouping
