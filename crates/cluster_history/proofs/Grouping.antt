@@ -54,10 +54,6 @@ loose_only (l ∷ ls) n =
     let rest : ((grouped ls).loose ≡ ls) × ((grouped ls).steps ≡ []) = loose_only ls n.1 in
     rw n.0 (ap (λ (x : List Line). l ∷ x) rest.0, rest.1)
 
--- lines without a step
-pub no_steps : (ls : List Line) → EachLine NoHead ls → steps_of ls ≡ []
-no_steps ls n = (loose_only ls n).1
-
 -- those of one
 pub one_step : (t : Step) → is_head t.head ≡ true → EachLine NoHead t.rest → steps_of (t.head ∷ t.rest) ≡ t ∷ []
 unfolding grouped
@@ -73,6 +69,12 @@ one_step t h n =
 abbrev pub BeginStep : List Line → Type 0
 BeginStep [] = Unit {0}
 BeginStep (l ∷ ls) = is_head l ≡ true
+
+-- such lines have none before their first step
+pub none_loose : (ls : List Line) → BeginStep ls → (grouped ls).loose ≡ []
+unfolding grouped
+none_loose [] b = refl
+none_loose (l ∷ ls) b = ap (λ (h : Bool). (grouped_with h l (grouped ls)).loose) b
 
 pub flat_begins : (ts : List Step) → AreSteps ts → BeginStep (flat ts)
 flat_begins [] a = tt

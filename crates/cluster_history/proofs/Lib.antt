@@ -14,3 +14,6 @@ pub mod NotShort
 pub mod GoodMoments
 pub mod CalmSteps
 pub mod Grouping
+pub mod CalmInputs
+pub mod CalmHistories
+pub mod CalmRuns
