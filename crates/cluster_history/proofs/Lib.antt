@@ -13,3 +13,7 @@ pub mod Example
 pub mod NotShort
 pub mod GoodMoments
 pub mod CalmSteps
+pub mod Grouping
+pub mod CalmInputs
+pub mod CalmHistories
+pub mod CalmRuns

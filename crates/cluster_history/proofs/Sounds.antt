@@ -28,7 +28,7 @@ use Rattle.cluster_history.specs.Deeds.{order_event}
 use Rattle.cluster_history.specs.History.{AreSteps, cluster_after, history_of}
 use Rattle.cluster_history.specs.Like.{LeadsTo}
 use Rattle.cluster_history.specs.Laws.{EachRunHasAHistory, EachRunIsSound, AreFewSent, IsRun, EachRunIsOfScenario, UnhitRunsAreUnguessed, CalmRunsAreRight}
-use Rattle.cluster_history.proofs.Telling.{EachLine, OfEvent, history_each}
+use Rattle.cluster_history.proofs.Telling.{EachLine, OfEvent, by_events, history_each}
 
 -- ---- lawful, and sound
 
@@ -80,7 +80,7 @@ few_of read steps l few =
 pub each_run_is_of_scenario : EachRunHasAHistory → MessagesAreRead → EachRunIsOfScenario
 each_run_is_of_scenario has read steps run =
     let text : AreOfText (history_of empty_cluster steps) =
-    text_of (history_of empty_cluster steps) (history_each Fits empty_cluster steps run.spelled) in
+    text_of (history_of empty_cluster steps) (history_each (OfEvent Fits) (by_events Fits) empty_cluster steps run.spelled) in
     record {
       written = text_written (history_of empty_cluster steps) text;
       text = text;
@@ -142,7 +142,7 @@ all_guarded g (l ∷ ls) n e = all_guarded (guards g l) ls n.1 (one_guarded g l 
 pub unhit_runs_are_unguessed : UnhitRunsAreUnguessed
 unhit_runs_are_unguessed steps n =
     all_guarded (record { keys = []; sent = []; unguessed = true }) (history_of empty_cluster steps)
-    (history_each IsNoInject empty_cluster steps (none_in_any steps n)) refl
+    (history_each (OfEvent IsNoInject) (by_events IsNoInject) empty_cluster steps (none_in_any steps n)) refl
 
 -- ---- the headline
 
