@@ -12,7 +12,7 @@ use Rattle.server_rules.specs.Laws.{In}
 use Rattle.server_rules.specs.Making.{refusal}
 use Rattle.server_rules.specs.History.{Input, Makes, Hears, Obeys, Adds, Zones, Formats, Resends, Crashes, Opens, step}
 use Rattle.world_history.specs.ServerNames.{File, Component}
-use Rattle.world_history.specs.State.{Sent}
+use Rattle.world_history.specs.declared.messages.Sent.{Sent}
 use Rattle.world_history.specs.Reading.{is_head, Step, grouped, steps_of, sent_in, sent_after}
 use Rattle.world_history.specs.Book.{ServerSeen, placed_in, input_at, step_by, server_step, server_behind, sees_server, server_at_first, server_seen, server_after, book_of}
 use Rattle.world_history.specs.Calm.{Seen, noted, failed_after, sees, first_seen, calm}

@@ -9,7 +9,9 @@ use Rattle.scenario_text.specs.declared.line.Line.{Line}
 use Rattle.scenario_text.specs.declared.line.Line.TheVariants as line
 use Rattle.world_history.specs.ServerNames.{Order, OrderKind, ToRecall, ToRevoke, ToDeclare, ToRebuild, ToAudit}
 use Rattle.world_history.specs.ClientNames.{Outcome, WriteOk, ReadOk, NoFile, HeldBy, Fencing, Degraded, Spent, Status, Refused, Silent, Lost, BadLayout}
-use Rattle.world_history.specs.State.{World, Posted, Sent, empty_world}
+use Rattle.world_history.specs.declared.messages.Posted.{Posted}
+use Rattle.world_history.specs.declared.messages.Sent.{Sent}
+use Rattle.world_history.specs.State.{World, empty_world}
 use Rattle.world_history.specs.Told.{told_outcome}
 use Rattle.world_history.specs.Reading.{sent_in}
 use Rattle.world_history.specs.Calm.{calm}

@@ -10,7 +10,9 @@ use Rattle.scenario_text.specs.declared.event.Event.TheVariants as event
 use Rattle.scenario_text.specs.declared.event.Machine.TheVariants as machine
 use Rattle.scenario_text.specs.declared.line.Line.{Line}
 use Rattle.scenario_text.specs.declared.line.Line.TheVariants as line
-use Rattle.world_history.specs.State.{World, DriveAt, Message, Posted, at_number, with_number, with_drive}
+use Rattle.world_history.specs.declared.messages.Message.{Message}
+use Rattle.world_history.specs.declared.messages.Posted.{Posted}
+use Rattle.world_history.specs.State.{World, DriveAt, at_number, with_number, with_drive}
 use Rattle.world_history.specs.Drives as world_drive
 use Rattle.world_history.specs.Drives.{Judged, judges, command_in, at_time, is_deaf}
 use Rattle.world_history.specs.Handed.{drive_replies}

@@ -17,7 +17,8 @@ use Rattle.scenario_text.specs.declared.line.Line.{Line}
 use Rattle.scenario_text.specs.declared.line.Line.TheVariants as line
 use Rattle.server_rules.specs.Files.{Step as ServerStep}
 use Rattle.server_rules.specs.Making.{create_file}
-use Rattle.world_history.specs.State.{World, DriveAt, Message, at_number, with_number}
+use Rattle.world_history.specs.declared.messages.Message.{Message}
+use Rattle.world_history.specs.State.{World, DriveAt, at_number, with_number}
 use Rattle.world_history.specs.Names.{known_note_line}
 use Rattle.world_history.specs.Drives.{is_deaf}
 use Rattle.world_history.specs.Moves.{has_algorithm}

@@ -9,7 +9,7 @@ use Rattle.scenario_text.specs.declared.line.Ending.TheVariants as ending
 use Rattle.scenario_text.specs.declared.line.Outcome.TheVariants.{Failed}
 use Rattle.scenario_text.specs.declared.line.Line.{Line}
 use Rattle.scenario_text.specs.declared.line.Line.TheVariants as line
-use Rattle.world_history.specs.State.{Sent}
+use Rattle.world_history.specs.declared.messages.Sent.{Sent}
 use Rattle.world_history.specs.Reading.{is_head, Step, Grouped, grouped_with, grouped, steps_of, arrived, left_out, changed_by, changed_at, sent_after}
 use Rattle.history_law.specs.StepEnds.{BeginNone, BeginNext}
 use Rattle.cluster_history.proofs.Telling.{EachLine}

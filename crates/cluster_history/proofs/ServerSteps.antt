@@ -20,7 +20,9 @@ use Rattle.scenario_text.specs.declared.line.Delivery.TheVariants as delivery
 use Rattle.scenario_text.specs.declared.line.Line.{Line}
 use Rattle.scenario_text.specs.declared.line.Line.TheVariants as line
 use Rattle.world_history.specs.ServerNames.{Server, File, Drive, Order, OrderKind, ToRecall, ToRevoke, ToDeclare, ToRebuild, ToAudit, Outgoing}
-use Rattle.world_history.specs.State.{World, DriveAt, Message, Posted, at_number, and_drive, with_down}
+use Rattle.world_history.specs.declared.messages.Message.{Message}
+use Rattle.world_history.specs.declared.messages.Posted.{Posted}
+use Rattle.world_history.specs.State.{World, DriveAt, at_number, and_drive, with_down}
 use Rattle.world_history.specs.Spelled.{spelled}
 use Rattle.world_history.specs.Drives.{made_drive}
 use Rattle.world_history.specs.Names.{is_named}

@@ -29,7 +29,8 @@ use Rattle.client_rules.specs.History as client_input
 use Rattle.data_map.specs.declared.check.RawMap.{RawMap}
 use Rattle.world_history.specs.ClientNames.{CallOp, CallErr, Outcome}
 use Rattle.world_history.specs.ServerNames.{Note, Order, Refusal}
-use Rattle.world_history.specs.State.{Message, at_number}
+use Rattle.world_history.specs.declared.messages.Message.{Message}
+use Rattle.world_history.specs.State.{at_number}
 use Rattle.world_history.specs.Names.{known_note_line, note_line, is_tellable_note, is_tellable}
 use Rattle.world_history.specs.Spelled.{spelled}
 use Rattle.world_history.specs.Told.{kind_of, told_outcome}
