@@ -188,10 +188,12 @@ module _ (servers : ServerGoesOn) (lines : AllLinesGoOn) (h : List Line) (causes
     to_others : (n : ℕ) (m : Sent) → slice_get s.server.sent n ≡ Some m → m.from ≡ party.Server → m.to ≡ party.Server → ⊥
     to_others n m e from to =
         let later : GoesOn (fold sent_after (sent_in before) (t.head ∷ (t.rest ++ flat ts))) n m =
-        message_goes (sent_in before) (t.head ∷ (t.rest ++ flat ts)) n m (ap (λ (l : List Sent). slice_get l n) (sym x.sent) ∙ e) in
+        message_goes (sent_in before) (t.head ∷ (t.rest ++ flat ts)) n m
+        (ap (λ (l : List Sent). slice_get l n) (sym x.sent) ∙ e) in
         let whole : fold sent_after (sent_in before) (t.head ∷ (t.rest ++ flat ts)) ≡ sent_in h =
         sym (sent_more lines before (t.head ∷ (t.rest ++ flat ts))) ∙ ap sent_in (sym is) in
-        apart n later.message (ap (λ (l : List Sent). slice_get l n) (sym whole) ∙ later.found) (later.from ∙ from) (later.to ∙ to)
+        apart n later.message (ap (λ (l : List Sent). slice_get l n) (sym whole) ∙ later.found) (later.from ∙ from)
+        (later.to ∙ to)
 
     declares_none : (i : Input) → input_at s.server t.head ≡ Some i → (o : Option ℕ) → declared_in i ≡ o → o ≡ None
     declares_none i e None q = refl
@@ -227,8 +229,10 @@ module _ (servers : ServerGoesOn) (lines : AllLinesGoOn) (h : List Line) (causes
         let behind : server_after upto ≡ (step s.server.server (placed_in t.rest) i).state =
         ap (λ (y : ServerSeen). y.server) (sym seen_server)
         ∙ ap (λ (o : Option Input). server_behind s.server.server (step_by s.server.server (placed_in t.rest) o)) e in
-        let first : Goes i (taken_out (server_after before) i) t.rest n (book_of before n) (book_of (before ++ t.head ∷ t.rest) n) =
-        subst (λ (ls : List Line). Goes i (taken_out (server_after before) i) ls n (book_of before n) (book_of (before ++ t.head ∷ ls) n))
+        let first : Goes i (taken_out (server_after before) i) t.rest n (book_of before n)
+        (book_of (before ++ t.head ∷ t.rest) n) =
+        subst (λ (ls : List Line).
+        Goes i (taken_out (server_after before) i) ls n (book_of before n) (book_of (before ++ t.head ∷ ls) n))
         (sym same) (it.holds n) in
         let second : Goes i None t.rest n (book_of before n) (book_of (before ++ t.head ∷ t.rest) n) =
         subst (λ (o : Option ℕ). Goes i o t.rest n (book_of before n) (book_of (before ++ t.head ∷ t.rest) n)) out first in

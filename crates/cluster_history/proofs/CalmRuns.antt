@@ -159,7 +159,8 @@ lossless_runs_are_calm has sound scenario read servers lines others steps run lo
     let l : LeadsTo (history_of empty_cluster steps) (cluster_after empty_cluster steps) = has steps run.steps_are in
     let causes : ComponentsHaveCauses (history_of empty_cluster steps) =
     (sound steps run.steps_are).components l.world l.stands (scenario steps run).written in
-    let sent : sent_in (history_of empty_cluster steps) ≡ map shown l.world.network.messages = read l.world (history_of empty_cluster steps) l.stands in
+    let sent : sent_in (history_of empty_cluster steps) ≡ map shown l.world.network.messages =
+    read l.world (history_of empty_cluster steps) l.stands in
     lossless_is_calm servers lines (history_of empty_cluster steps) causes
     (λ n m e from to. others l.world (history_of empty_cluster steps) [] l.stands n m
     (sym (ap (λ (ss : List Sent). slice_get ss n) sent) ∙ e) from to)

@@ -35,7 +35,8 @@ use Rattle.world_history.specs.Told.{verdict_with}
 use Rattle.world_history.specs.Drives.{judges}
 
 unfoldable pub opened_text : ℕ
-unfolding optional_part enum_part members_of list_part list_item whole_of u32_part u64_part i64_part bool_part fixed_part opaque_part
+unfolding optional_part enum_part members_of list_part list_item whole_of u32_part u64_part i64_part bool_part fixed_part
+    opaque_part
     count_part u32_item u64_item i64_item fixed_item opaque_item u32_in u64_in i64_in bool_in count_in body_in opaque_in end_of
     u32_field u64_field bool_field opaque_field count_field layout_type_in file_kind_in recall_op_in operation_in members list_in
     whole stateid_part time_part stateid_field optional_u64_field optional_time_field optional_stateid_field get_args_in
@@ -47,7 +48,8 @@ opened_text = 0
 unfoldable pub opened_server : ℕ
 unfolding label is_meant to_each key_at file_at put_file add_file lowest_after early must_fence late give_or_refuse fence_first
     on_grants gets overlaps conflicts asked joined merged making fenced fence_begins goes_on loses declares add_drive checked_64
-    refusal are_of places components_on create_file counters_have_room heard_at on_drive_reply on_message among marked opens_fenced
+    refusal are_of places components_on create_file counters_have_room heard_at on_drive_reply on_message among marked
+    opens_fenced
     opens opens_each reopen offline declares_each declare ordered on_request admit_after admit keep lose_on any_on stood_on
     checked_map recalls_from
 opened_server = 0

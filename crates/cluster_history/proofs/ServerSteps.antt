@@ -128,7 +128,8 @@ module _ (w : World) (h : List Line) (s : StandsFor w h) (stored : AreStored w.d
     abbrev heard : Option ServerMessage → ServerStep
     heard m = server_bytes.on_message_in w.server time chosen p.message.from m
 
-    hears_act : delivers later chosen n ≡ told_delivered n (server_takes (marked later n p) chosen p.message.from (for_server p.message))
+    hears_act : delivers later chosen n
+        ≡ told_delivered n (server_takes (marked later n p) chosen p.message.from (for_server p.message))
     unfolding delivers
     hears_act = rw (there, to, up) refl
 
