@@ -12,11 +12,11 @@ use Rattle.server_rules.specs.Laws.{In}
 use Rattle.server_rules.specs.Making.{refusal}
 use Rattle.server_rules.specs.History.{Input, Makes, Hears, Obeys, Adds, Zones, Formats, Resends, Crashes, Opens, step}
 use Rattle.world_history.specs.ServerNames.{File, Component}
-use Rattle.world_history.specs.State.{Sent}
+use Rattle.world_history.specs.declared.messages.Sent.{Sent}
 use Rattle.world_history.specs.Reading.{is_head, Step, grouped, steps_of, sent_in, sent_after}
 use Rattle.world_history.specs.Book.{ServerSeen, placed_in, input_at, step_by, server_step, server_behind, sees_server, server_at_first, server_seen, server_after, book_of}
 use Rattle.world_history.specs.Calm.{Seen, noted, failed_after, sees, first_seen, calm}
-use Rattle.world_history.proofs.Going.{server_goes_on, lines_go_on}
+use Rattle.world_history.specs.Laws.{ServerGoesOn, AllLinesGoOn}
 use Rattle.history_law.proofs.Files.{Each, in_at}
 use Rattle.exchange_law.proofs.Shapes.{Shaped, step_shaped}
 use Rattle.exchange_law.proofs.Making.{good_map}
@@ -155,12 +155,12 @@ module _ (s : Server) (there : AreThere s.files) (shaped : Each (Shaped IsWhole)
 
 -- ---- messages
 
-sent_more : (before more : List Line) → sent_in (before ++ more) ≡ fold sent_after (sent_in before) more
-sent_more before more = (lines_go_on before more).messages
+sent_more : AllLinesGoOn → (before more : List Line) → sent_in (before ++ more) ≡ fold sent_after (sent_in before) more
+sent_more lines before more = (lines before more).messages
 
 -- ---- the walk
 
-module _ (h : List Line) (causes : ComponentsHaveCauses h)
+module _ (servers : ServerGoesOn) (lines : AllLinesGoOn) (h : List Line) (causes : ComponentsHaveCauses h)
     (apart : (n : ℕ) (m : Sent) → slice_get (sent_in h) n ≡ Some m → m.from ≡ party.Server → m.to ≡ party.Server → ⊥) where
   -- what was seen of a front of the history
   record Sees (before : List Line) (s : Seen) : Type 0 where
@@ -183,15 +183,17 @@ module _ (h : List Line) (causes : ComponentsHaveCauses h)
     seen_server =
         ap (λ (y : ServerSeen). sees_server y t) x.server
         ∙ sym (ap (λ (us : List Step). fold sees_server (server_seen before) us) (one_step t are.0 are.1))
-        ∙ sym (server_goes_on before (t.head ∷ t.rest) are.0)
+        ∙ sym (servers before (t.head ∷ t.rest) are.0)
 
     to_others : (n : ℕ) (m : Sent) → slice_get s.server.sent n ≡ Some m → m.from ≡ party.Server → m.to ≡ party.Server → ⊥
     to_others n m e from to =
         let later : GoesOn (fold sent_after (sent_in before) (t.head ∷ (t.rest ++ flat ts))) n m =
-        message_goes (sent_in before) (t.head ∷ (t.rest ++ flat ts)) n m (ap (λ (l : List Sent). slice_get l n) (sym x.sent) ∙ e) in
+        message_goes (sent_in before) (t.head ∷ (t.rest ++ flat ts)) n m
+        (ap (λ (l : List Sent). slice_get l n) (sym x.sent) ∙ e) in
         let whole : fold sent_after (sent_in before) (t.head ∷ (t.rest ++ flat ts)) ≡ sent_in h =
-        sym (sent_more before (t.head ∷ (t.rest ++ flat ts))) ∙ ap sent_in (sym is) in
-        apart n later.message (ap (λ (l : List Sent). slice_get l n) (sym whole) ∙ later.found) (later.from ∙ from) (later.to ∙ to)
+        sym (sent_more lines before (t.head ∷ (t.rest ++ flat ts))) ∙ ap sent_in (sym is) in
+        apart n later.message (ap (λ (l : List Sent). slice_get l n) (sym whole) ∙ later.found) (later.from ∙ from)
+        (later.to ∙ to)
 
     declares_none : (i : Input) → input_at s.server t.head ≡ Some i → (o : Option ℕ) → declared_in i ≡ o → o ≡ None
     declares_none i e None q = refl
@@ -227,8 +229,10 @@ module _ (h : List Line) (causes : ComponentsHaveCauses h)
         let behind : server_after upto ≡ (step s.server.server (placed_in t.rest) i).state =
         ap (λ (y : ServerSeen). y.server) (sym seen_server)
         ∙ ap (λ (o : Option Input). server_behind s.server.server (step_by s.server.server (placed_in t.rest) o)) e in
-        let first : Goes i (taken_out (server_after before) i) t.rest n (book_of before n) (book_of (before ++ t.head ∷ t.rest) n) =
-        subst (λ (ls : List Line). Goes i (taken_out (server_after before) i) ls n (book_of before n) (book_of (before ++ t.head ∷ ls) n))
+        let first : Goes i (taken_out (server_after before) i) t.rest n (book_of before n)
+        (book_of (before ++ t.head ∷ t.rest) n) =
+        subst (λ (ls : List Line).
+        Goes i (taken_out (server_after before) i) ls n (book_of before n) (book_of (before ++ t.head ∷ ls) n))
         (sym same) (it.holds n) in
         let second : Goes i None t.rest n (book_of before n) (book_of (before ++ t.head ∷ t.rest) n) =
         subst (λ (o : Option ℕ). Goes i o t.rest n (book_of before n) (book_of (before ++ t.head ∷ t.rest) n)) out first in
@@ -250,7 +254,7 @@ module _ (h : List Line) (causes : ComponentsHaveCauses h)
         record {
           server = seen_server;
           sent =
-              ap (λ (l : List Sent). fold sent_after l (t.head ∷ t.rest)) x.sent ∙ sym (sent_more before (t.head ∷ t.rest));
+              ap (λ (l : List Sent). fold sent_after l (t.head ∷ t.rest)) x.sent ∙ sym (sent_more lines before (t.head ∷ t.rest));
           calm = good.0;
           failed = good.1;
           there = go.there;
@@ -269,9 +273,9 @@ module _ (h : List Line) (causes : ComponentsHaveCauses h)
   unfolding file_at sent_in grouped
   lossless_is_calm begins fine =
       let u : Ungrouped h = ungroup h in
-      let lines : h ≡ flat (grouped h).steps =
+      let all : h ≡ flat (grouped h).steps =
       u.lines ∙ ap (λ (l : List Line). l ++ flat (grouped h).steps) (none_loose h begins) in
-      walk [] first_seen (grouped h).steps lines u.steps (subst (EachLine IsLossless) lines fine)
+      walk [] first_seen (grouped h).steps all u.steps (subst (EachLine IsLossless) all fine)
       (record {
         server = refl;
         sent = refl;

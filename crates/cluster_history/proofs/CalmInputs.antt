@@ -16,7 +16,7 @@ use Rattle.scenario_text.specs.declared.line.Line.TheVariants as line
 use Rattle.server_rules.specs.declared.server.Server.{Server}
 use Rattle.server_rules.specs.Messages.{Message, counters_have_room}
 use Rattle.server_rules.specs.History.{Input, Hears, Makes, Obeys, Adds, Zones, Formats, Resends, Crashes, Opens}
-use Rattle.world_history.specs.State.{Sent}
+use Rattle.world_history.specs.declared.messages.Sent.{Sent}
 use Rattle.world_history.specs.Moves.{raw_of, has_algorithm}
 use Rattle.world_history.specs.Book.{ServerSeen, heard_from, heard_for, heard, made_of, input_of, input_at}
 use Rattle.component_law.specs.Going.{declared_in, if_known, taken_out}

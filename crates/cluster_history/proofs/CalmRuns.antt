@@ -9,13 +9,15 @@ use Rattle.scenario_text.specs.declared.line.Line.{Line}
 use Rattle.scenario_text.specs.declared.line.Line.TheVariants as line
 use Rattle.world_history.specs.ServerNames.{Order, OrderKind, ToRecall, ToRevoke, ToDeclare, ToRebuild, ToAudit}
 use Rattle.world_history.specs.ClientNames.{Outcome, WriteOk, ReadOk, NoFile, HeldBy, Fencing, Degraded, Spent, Status, Refused, Silent, Lost, BadLayout}
-use Rattle.world_history.specs.State.{World, Posted, Sent, empty_world}
+use Rattle.world_history.specs.declared.messages.Posted.{Posted}
+use Rattle.world_history.specs.declared.messages.Sent.{Sent}
+use Rattle.world_history.specs.State.{World, empty_world}
 use Rattle.world_history.specs.Told.{told_outcome}
 use Rattle.world_history.specs.Reading.{sent_in}
 use Rattle.world_history.specs.Calm.{calm}
 use Rattle.world_history.specs.History.{Step as CarriedStep, AreCarried, lines_of_steps, StandsFor}
-use Rattle.world_history.specs.Laws.{MessagesAreRead, shown}
-use Rattle.component_law.proofs.Others.{server_writes_to_others}
+use Rattle.world_history.specs.Laws.{ServerGoesOn, AllLinesGoOn, MessagesAreRead, shown}
+use Rattle.component_law.specs.Moments.{ServerWritesToOthers}
 use Rattle.cause_law.specs.Components.{ComponentsHaveCauses}
 use Rattle.cluster_history.specs.State.{empty_cluster}
 use Rattle.cluster_history.specs.Steps.{Step, Knows, Raises, Makes, Hears, Obeys, Passes, Resends, Crashes, Opens, Takes, IsHit, Falls, Rises, IsLost, Begins, Calls, Learns, Misses, Leaves, SendsAgain, Ends}
@@ -151,14 +153,16 @@ steps_begin w (s ∷ steps) c =
 
 -- ---- the laws
 
-pub lossless_runs_are_calm : EachRunHasAHistory → EachRunIsSound → EachRunIsOfScenario → MessagesAreRead → LosslessRunsAreCalm
-lossless_runs_are_calm has sound scenario read steps run lossless =
+pub lossless_runs_are_calm : EachRunHasAHistory → EachRunIsSound → EachRunIsOfScenario → MessagesAreRead → ServerGoesOn
+    → AllLinesGoOn → ServerWritesToOthers → LosslessRunsAreCalm
+lossless_runs_are_calm has sound scenario read servers lines others steps run lossless =
     let l : LeadsTo (history_of empty_cluster steps) (cluster_after empty_cluster steps) = has steps run.steps_are in
     let causes : ComponentsHaveCauses (history_of empty_cluster steps) =
     (sound steps run.steps_are).components l.world l.stands (scenario steps run).written in
-    let sent : sent_in (history_of empty_cluster steps) ≡ map shown l.world.network.messages = read l.world (history_of empty_cluster steps) l.stands in
-    lossless_is_calm (history_of empty_cluster steps) causes
-    (λ n m e from to. server_writes_to_others l.world (history_of empty_cluster steps) [] l.stands n m
+    let sent : sent_in (history_of empty_cluster steps) ≡ map shown l.world.network.messages =
+    read l.world (history_of empty_cluster steps) l.stands in
+    lossless_is_calm servers lines (history_of empty_cluster steps) causes
+    (λ n m e from to. others l.world (history_of empty_cluster steps) [] l.stands n m
     (sym (ap (λ (ss : List Sent). slice_get ss n) sent) ∙ e) from to)
     (subst BeginStep (sym l.stands.lines_are) (steps_begin empty_world l.stands.steps l.stands.carried))
     (all_lossless (history_of empty_cluster steps)

@@ -9,7 +9,7 @@ use Rattle.scenario_text.specs.declared.line.Ending.TheVariants as ending
 use Rattle.scenario_text.specs.declared.line.Outcome.TheVariants.{Failed}
 use Rattle.scenario_text.specs.declared.line.Line.{Line}
 use Rattle.scenario_text.specs.declared.line.Line.TheVariants as line
-use Rattle.world_history.specs.State.{Sent}
+use Rattle.world_history.specs.declared.messages.Sent.{Sent}
 use Rattle.world_history.specs.Reading.{is_head, Step, Grouped, grouped_with, grouped, steps_of, arrived, left_out, changed_by, changed_at, sent_after}
 use Rattle.history_law.specs.StepEnds.{BeginNone, BeginNext}
 use Rattle.cluster_history.proofs.Telling.{EachLine}
@@ -141,8 +141,10 @@ set_goes (s ∷ ss) (suc k) y z at from to (suc n) x e =
     let it : GoesOn (slice_set ss k z) n x = set_goes ss k y z at from to n x e in
     record { message = it.message; found = it.found; from = it.from; to = it.to }
 
-changed_goes : (ss : List Sent) (k : ℕ) (change : Sent → Sent) → ((s : Sent) → ((change s).from ≡ s.from) × ((change s).to ≡ s.to))
-    → (o : Option Sent) → slice_get ss k ≡ o → (n : ℕ) (x : Sent) → slice_get ss n ≡ Some x → GoesOn (changed_by ss k change o) n x
+changed_goes : (ss : List Sent) (k : ℕ) (change : Sent → Sent)
+    → ((s : Sent) → ((change s).from ≡ s.from) × ((change s).to ≡ s.to))
+    → (o : Option Sent) → slice_get ss k ≡ o → (n : ℕ) (x : Sent) → slice_get ss n ≡ Some x
+    → GoesOn (changed_by ss k change o) n x
 changed_goes ss k change keeps None at n x e = as_it_is ss n x e
 changed_goes ss k change keeps (Some s) at n x e =
     set_goes ss k s (change s) at (keeps s).0 (keeps s).1 n x e
@@ -160,7 +162,8 @@ line_goes ss (line.Delivered k d) n x e = changed_goes ss k arrived (λ s. (refl
 line_goes ss l n x e = as_it_is ss n x e
 
 -- through further lines
-pub message_goes : (ss : List Sent) (ls : List Line) (n : ℕ) (x : Sent) → slice_get ss n ≡ Some x → GoesOn (fold sent_after ss ls) n x
+pub message_goes : (ss : List Sent) (ls : List Line) (n : ℕ) (x : Sent) → slice_get ss n ≡ Some x
+    → GoesOn (fold sent_after ss ls) n x
 message_goes ss [] n x e = as_it_is ss n x e
 message_goes ss (l ∷ ls) n x e =
     let one : GoesOn (sent_after ss l) n x = line_goes ss l n x e in

@@ -9,6 +9,7 @@ pub mod FileSteps
 pub mod Runs
 pub mod Telling
 pub mod Sounds
+pub mod Opened
 pub mod Example
 pub mod NotShort
 pub mod GoodMoments

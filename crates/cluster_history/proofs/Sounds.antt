@@ -10,7 +10,10 @@ use Rattle.scenario_text.specs.declared.line.Line.TheVariants as line
 use Rattle.scenario_text.specs.Spelling.{Fits}
 use Rattle.world_history.specs.ServerNames.{Order, OrderKind, ToRecall, ToRevoke, ToDeclare, ToRebuild, ToAudit}
 use Rattle.world_history.specs.declared.limits.TheConstants.{MAX_KEPT}
-use Rattle.world_history.specs.State.{World, Posted, Sent, Message}
+use Rattle.world_history.specs.declared.messages.Posted.{Posted}
+use Rattle.world_history.specs.declared.messages.Sent.{Sent}
+use Rattle.world_history.specs.declared.messages.Message.{Message}
+use Rattle.world_history.specs.State.{World}
 use Rattle.world_history.specs.Calm.{calm}
 use Rattle.world_history.specs.Guesses.{Guarded, guards, guarded, unguessed}
 use Rattle.world_history.specs.Reading.{sent_in}

@@ -29,7 +29,8 @@ use Rattle.client_rules.specs.History as client_input
 use Rattle.data_map.specs.declared.check.RawMap.{RawMap}
 use Rattle.world_history.specs.ClientNames.{CallOp, CallErr, Outcome}
 use Rattle.world_history.specs.ServerNames.{Note, Order, Refusal}
-use Rattle.world_history.specs.State.{Message, at_number}
+use Rattle.world_history.specs.declared.messages.Message.{Message}
+use Rattle.world_history.specs.State.{at_number}
 use Rattle.world_history.specs.Names.{known_note_line, note_line, is_tellable_note, is_tellable}
 use Rattle.world_history.specs.Spelled.{spelled}
 use Rattle.world_history.specs.Told.{kind_of, told_outcome}
@@ -143,7 +144,8 @@ module _ (Q : Line → Type 0) (says : Says Q) where
 
   went_timed : (k : Cluster) (c : ℕ) (h : ClientHere) (i : client_input.Input) (e : Event) (component : ℕ) (s : ClientStep)
       → P e → Each (lines_of (went k c h i (line.Event e ∷ line.TimedOut c component ∷ []) s))
-  went_timed k c h i e component s p = went_each k c h i (line.Event e ∷ line.TimedOut c component ∷ []) s (p, (says.timed c component, tt))
+  went_timed k c h i e component s p =
+      went_each k c h i (line.Event e ∷ line.TimedOut c component ∷ []) s (p, (says.timed c component, tt))
 
   rests_each : (k : Cluster) → Each (lines_of (rests k))
   unfolding message_lines
@@ -209,7 +211,8 @@ module _ (Q : Line → Type 0) (says : Says Q) where
 
   takes_each : (k : Cluster) (d time n : ℕ) (h : Option DriveHere) (m : Option Message) → EachEvent P (Takes d time n)
       → Each (lines_of (takes_found k d time n h m))
-  takes_each k d time n (Some h) (Some m) p = deed_each (takes_found k d time n (Some h) (Some m)) (p.0, (p.1, (says.delivered n _, tt))) tt
+  takes_each k d time n (Some h) (Some m) p =
+      deed_each (takes_found k d time n (Some h) (Some m)) (p.0, (p.1, (says.delivered n _, tt))) tt
   takes_each k d time n (Some h) None p = rests_each k
   takes_each k d time n None m p = rests_each k
 
