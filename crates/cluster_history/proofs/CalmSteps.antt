@@ -103,7 +103,8 @@ server_there s told (Some did) b a maps = middle_there _ s.files did.state.files
 
 -- ---- a step
 
-pub step_good : (s : Seen) (t : Step) → s.calm ≡ true → s.moment.failed ≡ [] → failed_after s.moment.failed t.head ≡ s.moment.failed
+pub step_good : (s : Seen) (t : Step) → s.calm ≡ true → s.moment.failed ≡ []
+    → failed_after s.moment.failed t.head ≡ s.moment.failed
     → EachLine TellsNoLoss t.rest → AreThere s.server.server.files → AreThere (sees_server s.server t).server.files
     → SameMaps s.server.server.files (sees_server s.server t).server.files
     → ((sees s t).calm ≡ true) × ((sees s t).moment.failed ≡ [])
@@ -112,7 +113,8 @@ step_good s t calm failed head told b a maps =
     let start : AreThere (begins s t did).server.files =
     server_there s.server.server (is_told_taken t.rest) (server_step s.server t) b a maps in
     let good : IsGood (through s t did) =
-    all_good (mended_in (server_step s.server t)) (watched (record { moment = s.moment; calm = s.calm }) (begins s t did)) t.rest told
+    all_good (mended_in (server_step s.server t)) (watched (record { moment = s.moment; calm = s.calm }) (begins s t did))
+    t.rest told
     (record {
       there = start;
       failed = head ∙ failed;

@@ -14,7 +14,9 @@ use Rattle.scenario_text.specs.declared.line.Delivery.TheVariants as delivery
 use Rattle.scenario_text.specs.declared.line.Line.{Line}
 use Rattle.scenario_text.specs.declared.line.Line.TheVariants as line
 use Rattle.world_history.specs.ClientNames.{Call, CallOp, CallErr, Write, Read, Outgoing}
-use Rattle.world_history.specs.State.{World, ClientAt, Message, Posted, at_number, with_number, with_client}
+use Rattle.world_history.specs.declared.messages.Message.{Message}
+use Rattle.world_history.specs.declared.messages.Posted.{Posted}
+use Rattle.world_history.specs.State.{World, ClientAt, at_number, with_number, with_client}
 use Rattle.world_history.specs.Names.{is_named}
 use Rattle.world_history.specs.Handed.{Handed, Post, is_addressed, is_write_out, client_post, client_posts, client_did, client_goes, client_takes, for_client, wrote_in, op_in, data_in}
 use Rattle.world_history.specs.Moves as world

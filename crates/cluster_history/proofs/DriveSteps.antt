@@ -10,7 +10,9 @@ use Rattle.scenario_text.specs.declared.event.Event.TheVariants as event
 use Rattle.scenario_text.specs.declared.event.Machine.TheVariants as machine
 use Rattle.scenario_text.specs.declared.line.Line.{Line}
 use Rattle.scenario_text.specs.declared.line.Line.TheVariants as line
-use Rattle.world_history.specs.State.{World, DriveAt, Message, Posted, at_number, with_number, with_drive}
+use Rattle.world_history.specs.declared.messages.Message.{Message}
+use Rattle.world_history.specs.declared.messages.Posted.{Posted}
+use Rattle.world_history.specs.State.{World, DriveAt, at_number, with_number, with_drive}
 use Rattle.world_history.specs.Drives as world_drive
 use Rattle.world_history.specs.Drives.{Judged, judges, command_in, at_time, is_deaf}
 use Rattle.world_history.specs.Handed.{drive_replies}
@@ -189,7 +191,8 @@ module _ (w : World) (h : List Line) (s : StandsFor w h) (stored : AreStored w.d
   takes d time n m =
       let t : DriveThere w d m.0.here = drive_there w d m.0.here m.0.found in
       let p : MessageThere w n (node.Drive d) = message_there w n (node.Drive d) m.1 in
-      by_deed h (cluster_of w) (Takes d time n) (takes_found (cluster_of w) d time n (Some (drive_of t.at)) (Some p.posted.message))
+      by_deed h (cluster_of w) (Takes d time n)
+      (takes_found (cluster_of w) d time n (Some (drive_of t.at)) (Some p.posted.message))
       (rw (t.shown, p.shown) refl)
       (takes_goes w h s stored d time n t.at t.found (ap (λ (x : DriveHere). x.lost) t.same ∙ m.0.kept)
       (not_true t.at.down (ap (λ (x : DriveHere). x.up) t.same ∙ m.0.up)) p.posted p.found p.receiver p.allowed)

@@ -5,10 +5,7 @@ use Rattle.osd_lists.specs.declared.node.Node.TheVariants as node
 use Rattle.data_map.specs.declared.check.RawMap.{RawMap}
 use Rattle.world_history.specs.ServerNames.{ToDeclare}
 use Rattle.world_history.specs.ClientNames.{Read}
-use Rattle.world_history.proofs.Opened.{opened}
-use Rattle.world_history.proofs.OpenedText.{opened_text}
-use Rattle.world_history.proofs.OpenedServer.{opened_server}
-use Rattle.world_history.proofs.OpenedClient.{opened_client}
+use Rattle.cluster_history.proofs.Opened.{opened_world, opened_server, opened_client, opened_text}
 use Rattle.cluster_history.specs.State.{Cluster, empty_cluster}
 use Rattle.cluster_history.specs.Steps.{Step, Knows, Raises, Makes, Hears, Obeys, Passes, Resends, Crashes, Opens, Takes, IsHit, Falls, Rises, IsLost, Begins, Calls, Learns, Misses, Leaves, SendsAgain, Ends}
 use Rattle.cluster_history.specs.Deeds.{up_drives, unheard}
@@ -22,7 +19,7 @@ abbrev first : List Step
 first = Raises 1 ∷ Knows 0 [] 20000 ∷ Begins 0 ∷ Leaves 0 ∷ Makes [] 0 map ∷ []
 
 first_may : AreSteps empty_cluster first
-unfolding opened opened_server opened_client opened_text deed message_lines up_drives unheard
+unfolding opened_world opened_server opened_client opened_text deed message_lines up_drives unheard
 first_may = (
   refl,
   (
@@ -53,7 +50,7 @@ second =
     []
 
 second_may : AreSteps made second
-unfolding opened opened_server opened_client opened_text deed message_lines up_drives unheard
+unfolding opened_world opened_server opened_client opened_text deed message_lines up_drives unheard
 second_may = (
   (
     record { here = _; found = refl; up = refl; kept = refl },
@@ -99,7 +96,7 @@ third =
     []
 
 third_may : AreSteps asked third
-unfolding opened opened_server opened_client opened_text deed message_lines up_drives unheard
+unfolding opened_world opened_server opened_client opened_text deed message_lines up_drives unheard
 third_may = (
   record { here = _; found = refl; up = refl; kept = refl },
   (

@@ -20,7 +20,9 @@ use Rattle.server_rules.specs.Making.{create_file, unless_refused, makes_file, u
 use Rattle.server_rules.specs.Making as making
 use Rattle.server_rules.specs.Jobs as jobs
 use Rattle.world_history.specs.ServerNames.{Server, File, Drive, Awaited, Refusal}
-use Rattle.world_history.specs.State.{World, Network, DriveAt, Message, Posted, at_number}
+use Rattle.world_history.specs.declared.messages.Message.{Message}
+use Rattle.world_history.specs.declared.messages.Posted.{Posted}
+use Rattle.world_history.specs.State.{World, Network, DriveAt, at_number}
 use Rattle.world_history.specs.Drives.{is_deaf}
 use Rattle.world_history.specs.Names.{is_named, known_note_line}
 use Rattle.world_history.specs.Handed.{Post, is_addressed, server_post, server_did, drive_hears, quiet}

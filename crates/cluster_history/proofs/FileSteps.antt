@@ -17,7 +17,8 @@ use Rattle.scenario_text.specs.declared.line.Line.{Line}
 use Rattle.scenario_text.specs.declared.line.Line.TheVariants as line
 use Rattle.server_rules.specs.Files.{Step as ServerStep}
 use Rattle.server_rules.specs.Making.{create_file}
-use Rattle.world_history.specs.State.{World, DriveAt, Message, at_number, with_number}
+use Rattle.world_history.specs.declared.messages.Message.{Message}
+use Rattle.world_history.specs.State.{World, DriveAt, at_number, with_number}
 use Rattle.world_history.specs.Names.{known_note_line}
 use Rattle.world_history.specs.Drives.{is_deaf}
 use Rattle.world_history.specs.Moves.{has_algorithm}
@@ -56,7 +57,8 @@ all_lines a l n m u r =
 abbrev down_at : (k : Cluster) (d : ℕ) → IsUp k d → Cluster
 down_at k d u = with_drive k d (fallen u.here)
 
-turned_goes : (h : List Line) (k : Cluster) (l : Line) (d : Deed) → d ≡ record { cluster = k; lines = l ∷ []; gives = []; behind = [] }
+turned_goes : (h : List Line) (k : Cluster) (l : Line) (d : Deed)
+    → d ≡ record { cluster = k; lines = l ∷ []; gives = []; behind = [] }
     → LeadsTo (h ++ lines_of d) (sending d) → LeadsTo (h ++ l ∷ []) k
 unfolding message_lines
 turned_goes h k l d is x =
@@ -240,7 +242,8 @@ makes_file w h s stored chosen f m may =
     let k : Cluster = cluster_of w in
     by_deed h (cluster_of w) (Makes chosen f m) (makes (cluster_of w) f m (Ok may.1.step)) (rw may.1.made refl)
     (subst (λ (ls : List Line). LeadsTo (h ++ ls) (sending (makes (cluster_of w) f m (Ok may.1.step))))
-    (all_lines (map falls (up_drives (cluster_of w))) (line.Event (event.File f (map_of m) 1)) (notes chosen f m may.1.step may.1.algorithm)
+    (all_lines (map falls (up_drives (cluster_of w))) (line.Event (event.File f (map_of m) 1))
+    (notes chosen f m may.1.step may.1.algorithm)
     (message_lines (length (cluster_of w).sent) (gives chosen f m may.1.step may.1.algorithm))
     (unheard (length (cluster_of w).sent) (gives chosen f m may.1.step may.1.algorithm)) (all_rise (up_drives (cluster_of w))))
     (makes_all chosen f m may.1.step may.1.algorithm (up_drives (cluster_of w)) h (cluster_of w) may.0 may.1.made

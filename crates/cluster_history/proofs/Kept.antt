@@ -8,7 +8,9 @@ use Rattle.std.specs.BTreeMap.{is_at}
 use Rattle.std.proofs.lemmas.Bool.Decides.{nat_tests}
 use Rattle.std.proofs.lemmas.Option.{slice_get_within}
 use Rattle.world_history.specs.declared.err.WorldErr.{WorldErr}
-use Rattle.world_history.specs.State.{World, DriveAt, ClientAt, Message, Posted, at_number, with_number, and_number}
+use Rattle.world_history.specs.declared.messages.Message.{Message}
+use Rattle.world_history.specs.declared.messages.Posted.{Posted}
+use Rattle.world_history.specs.State.{World, DriveAt, ClientAt, at_number, with_number, and_number}
 use Rattle.world_history.specs.Refusals.{of_message}
 use Rattle.history_law.specs.Said.{said}
 use Rattle.osd_lists.specs.declared.node.Node.{Node}

@@ -20,7 +20,9 @@ use Rattle.scenario_text.specs.declared.line.Delivery.TheVariants as delivery
 use Rattle.scenario_text.specs.declared.line.Line.{Line}
 use Rattle.scenario_text.specs.declared.line.Line.TheVariants as line
 use Rattle.world_history.specs.ServerNames.{Server, File, Drive, Order, OrderKind, ToRecall, ToRevoke, ToDeclare, ToRebuild, ToAudit, Outgoing}
-use Rattle.world_history.specs.State.{World, DriveAt, Message, Posted, at_number, and_drive, with_down}
+use Rattle.world_history.specs.declared.messages.Message.{Message}
+use Rattle.world_history.specs.declared.messages.Posted.{Posted}
+use Rattle.world_history.specs.State.{World, DriveAt, at_number, and_drive, with_down}
 use Rattle.world_history.specs.Spelled.{spelled}
 use Rattle.world_history.specs.Drives.{made_drive}
 use Rattle.world_history.specs.Names.{is_named}
@@ -126,7 +128,8 @@ module _ (w : World) (h : List Line) (s : StandsFor w h) (stored : AreStored w.d
     abbrev heard : Option ServerMessage → ServerStep
     heard m = server_bytes.on_message_in w.server time chosen p.message.from m
 
-    hears_act : delivers later chosen n ≡ told_delivered n (server_takes (marked later n p) chosen p.message.from (for_server p.message))
+    hears_act : delivers later chosen n
+        ≡ told_delivered n (server_takes (marked later n p) chosen p.message.from (for_server p.message))
     unfolding delivers
     hears_act = rw (there, to, up) refl
 

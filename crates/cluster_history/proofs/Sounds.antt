@@ -10,7 +10,10 @@ use Rattle.scenario_text.specs.declared.line.Line.TheVariants as line
 use Rattle.scenario_text.specs.Spelling.{Fits}
 use Rattle.world_history.specs.ServerNames.{Order, OrderKind, ToRecall, ToRevoke, ToDeclare, ToRebuild, ToAudit}
 use Rattle.world_history.specs.declared.limits.TheConstants.{MAX_KEPT}
-use Rattle.world_history.specs.State.{World, Posted, Sent, Message}
+use Rattle.world_history.specs.declared.messages.Posted.{Posted}
+use Rattle.world_history.specs.declared.messages.Sent.{Sent}
+use Rattle.world_history.specs.declared.messages.Message.{Message}
+use Rattle.world_history.specs.State.{World}
 use Rattle.world_history.specs.Calm.{calm}
 use Rattle.world_history.specs.Guesses.{Guarded, guards, guarded, unguessed}
 use Rattle.world_history.specs.Reading.{sent_in}
@@ -28,7 +31,7 @@ use Rattle.cluster_history.specs.Deeds.{order_event}
 use Rattle.cluster_history.specs.History.{AreSteps, cluster_after, history_of}
 use Rattle.cluster_history.specs.Like.{LeadsTo}
 use Rattle.cluster_history.specs.Laws.{EachRunHasAHistory, EachRunIsSound, AreFewSent, IsRun, EachRunIsOfScenario, UnhitRunsAreUnguessed, CalmRunsAreRight}
-use Rattle.cluster_history.proofs.Telling.{EachLine, OfEvent, history_each}
+use Rattle.cluster_history.proofs.Telling.{EachLine, OfEvent, by_events, history_each}
 
 -- ---- lawful, and sound
 
@@ -80,7 +83,7 @@ few_of read steps l few =
 pub each_run_is_of_scenario : EachRunHasAHistory → MessagesAreRead → EachRunIsOfScenario
 each_run_is_of_scenario has read steps run =
     let text : AreOfText (history_of empty_cluster steps) =
-    text_of (history_of empty_cluster steps) (history_each Fits empty_cluster steps run.spelled) in
+    text_of (history_of empty_cluster steps) (history_each (OfEvent Fits) (by_events Fits) empty_cluster steps run.spelled) in
     record {
       written = text_written (history_of empty_cluster steps) text;
       text = text;
@@ -142,7 +145,7 @@ all_guarded g (l ∷ ls) n e = all_guarded (guards g l) ls n.1 (one_guarded g l 
 pub unhit_runs_are_unguessed : UnhitRunsAreUnguessed
 unhit_runs_are_unguessed steps n =
     all_guarded (record { keys = []; sent = []; unguessed = true }) (history_of empty_cluster steps)
-    (history_each IsNoInject empty_cluster steps (none_in_any steps n)) refl
+    (history_each (OfEvent IsNoInject) (by_events IsNoInject) empty_cluster steps (none_in_any steps n)) refl
 
 -- ---- the headline
 

@@ -11,7 +11,11 @@ use Rattle.scenario_text.specs.declared.line.Delivery.{Delivery}
 use Rattle.scenario_text.specs.declared.line.Delivery.TheVariants as delivery
 use Rattle.scenario_text.specs.declared.line.Line.{Line}
 use Rattle.scenario_text.specs.declared.line.Line.TheVariants as line
-use Rattle.scenario_text.specs.declared.line.Outcome.{Outcome as ToldOutcome}
+use Rattle.scenario_text.specs.declared.line.CallKind.{CallKind}
+use Rattle.scenario_text.specs.declared.line.Note.{Note as ToldNote}
+use Rattle.scenario_text.specs.declared.line.Party.{Party}
+use Rattle.scenario_text.specs.declared.line.Refusal.{Refusal as Refused}
+use Rattle.scenario_text.specs.declared.line.Verdict.{Verdict}
 use Rattle.server_rules.specs.Files.{Step as ServerStep, still}
 use Rattle.server_rules.specs.Messages.{counters_have_room, resend}
 use Rattle.server_rules.specs.Openings.{reopen}
@@ -25,10 +29,11 @@ use Rattle.client_rules.specs.History as client_input
 use Rattle.data_map.specs.declared.check.RawMap.{RawMap}
 use Rattle.world_history.specs.ClientNames.{CallOp, CallErr, Outcome}
 use Rattle.world_history.specs.ServerNames.{Note, Order, Refusal}
-use Rattle.world_history.specs.State.{Message, at_number}
-use Rattle.world_history.specs.Names.{known_note_line, note_line, is_tellable_note, known_outcome, where_known}
+use Rattle.world_history.specs.declared.messages.Message.{Message}
+use Rattle.world_history.specs.State.{at_number}
+use Rattle.world_history.specs.Names.{known_note_line, note_line, is_tellable_note, is_tellable}
 use Rattle.world_history.specs.Spelled.{spelled}
-use Rattle.world_history.specs.Told.{kind_of}
+use Rattle.world_history.specs.Told.{kind_of, told_outcome}
 use Rattle.world_history.specs.Handed.{ended_by, end_line, for_client, op_in}
 use Rattle.cluster_history.specs.State.{DriveHere, ClientHere, Cluster, with_client}
 use Rattle.cluster_history.specs.Steps.{Step, Knows, Raises, Makes, Hears, Obeys, Passes, Resends, Crashes, Opens, Takes, IsHit, Falls, Rises, IsLost, Begins, Calls, Learns, Misses, Leaves, SendsAgain, Ends}
@@ -52,56 +57,70 @@ pub each_both : (P : Line → Type 0) (xs ys : List Line) → EachLine P xs → 
 each_both P [] ys p q = q
 each_both P (x ∷ xs) ys p q = (p.0, each_both P xs ys p.1 q)
 
-module _ (P : Event → Type 0) where
+-- so is each line that isn't an event, and that may tell of a step
+pub record Says (Q : Line → Type 0) : Type 0 where
+  pub message : (number : ℕ) (from to : Party) (bytes : List ℕ) → Q (line.Message number from to bytes)
+  pub delivered : (number : ℕ) (d : Delivery) → Q (line.Delivered number d)
+  pub judged : (drive : ℕ) (v : Verdict) → Q (line.Judged drive v)
+  pub timed : (client component : ℕ) → Q (line.TimedOut client component)
+  pub ended : (client : ℕ) (k : CallKind) (o : Outcome) → Q (line.Ended client (told_outcome k o))
+  pub refused : (client : ℕ) (why : Refused) → Q (line.Refused client why)
+  pub noted : (file : ℕ) (what : ToldNote) → Q (line.Note file what)
+
+module _ (Q : Line → Type 0) (says : Says Q) where
+  abbrev P : Event → Type 0
+  P e = Q (line.Event e)
+
   abbrev Each : List Line → Type 0
-  Each ls = EachLine (OfEvent P) ls
+  Each ls = EachLine Q ls
 
   messages_each : (n : ℕ) (ms : List Message) → Each (message_lines n ms)
   unfolding message_lines
   messages_each n [] = tt
-  messages_each n (m ∷ ms) = (tt, messages_each (n + 1) ms)
+  messages_each n (m ∷ ms) = (says.message n _ _ _, messages_each (n + 1) ms)
 
   unheard_each : (n : ℕ) (ms : List Message) → Each (unheard n ms)
   unfolding unheard
   unheard_each n [] = tt
-  unheard_each n (m ∷ ms) = (tt, unheard_each (n + 1) ms)
+  unheard_each n (m ∷ ms) = (says.delivered n delivery.Deaf, unheard_each (n + 1) ms)
 
   note_each : (known : Bool) (n : Note) (ls : List Line) → Each ls
       → Each (cons_option (if known then Some (note_line n) else None) ls)
-  note_each true n ls rest = (tt, rest)
+  note_each true n ls rest = (says.noted n.file _, rest)
   note_each false n ls rest = rest
 
   notes_each : (ns : List Note) → Each (filter_map known_note_line ns)
   notes_each [] = tt
   notes_each (n ∷ ns) = note_each (nat_lt n.file FILES && is_tellable_note n.kind) n _ (notes_each ns)
 
-  end_each : (c : ℕ) (o : Option ToldOutcome) → Each (end_line c o)
-  end_each c None = tt
-  end_each c (Some o) = (tt, tt)
+  end_each : (c : ℕ) (k : CallKind) (o : Outcome) (known : Bool)
+      → Each (end_line c (if known then Some (told_outcome k o) else None))
+  end_each c k o true = (says.ended c k o, tt)
+  end_each c k o false = tt
 
   ended_each : (c : ℕ) (op : Option CallOp) (o : Option Outcome) → Each (ended_by c op o)
   ended_each c None o = tt
   ended_each c (Some op) None = tt
-  ended_each c (Some op) (Some o) = end_each c (known_outcome (kind_of op) o)
+  ended_each c (Some op) (Some o) = end_each c (kind_of op) o (is_tellable o)
 
   -- ---- a deed
 
   -- the lines in front are so, and those behind
   deed_each : (d : Deed) → Each d.lines → Each d.behind → Each (lines_of d)
   deed_each d front behind =
-      each_both (OfEvent P) d.lines _ front
-      (each_both (OfEvent P) (message_lines (length d.cluster.sent) d.gives) d.behind
+      each_both Q d.lines _ front
+      (each_both Q (message_lines (length d.cluster.sent) d.gives) d.behind
       (messages_each (length d.cluster.sent) d.gives) behind)
 
   served_each : (k : Cluster) (lines : List Line) (s : ServerStep) → Each lines → Each (lines_of (served k lines s))
   served_each k lines s front =
-      deed_each (served k lines s) (each_both (OfEvent P) lines _ front (notes_each s.notes)) tt
+      deed_each (served k lines s) (each_both Q lines _ front (notes_each s.notes)) tt
 
   went_each : (k : Cluster) (c : ℕ) (h : ClientHere) (i : client_input.Input) (lines : List Line) (s : ClientStep)
       → Each lines → Each (lines_of (went k c h i lines s))
   went_each k c h i lines s front =
       deed_each (went k c h i lines s)
-      (each_both (OfEvent P) lines _ front (ended_each c (op_in h.state i) s.outcome)) tt
+      (each_both Q lines _ front (ended_each c (op_in h.state i) s.outcome)) tt
 
   served_one : (k : Cluster) (e : Event) (s : ServerStep) → P e → Each (lines_of (served k (line.Event e ∷ []) s))
   served_one k e s p = served_each k (line.Event e ∷ []) s (p, tt)
@@ -113,7 +132,7 @@ module _ (P : Event → Type 0) where
   served_delivered : (k : Cluster) (e f : Event) (n : ℕ) (d : Delivery) (s : ServerStep) → P e → P f
       → Each (lines_of (served k (line.Event e ∷ line.Event f ∷ line.Delivered n d ∷ []) s))
   served_delivered k e f n d s p q =
-      served_each k (line.Event e ∷ line.Event f ∷ line.Delivered n d ∷ []) s (p, (q, (tt, tt)))
+      served_each k (line.Event e ∷ line.Event f ∷ line.Delivered n d ∷ []) s (p, (q, (says.delivered n d, tt)))
 
   went_one : (k : Cluster) (c : ℕ) (h : ClientHere) (i : client_input.Input) (e : Event) (s : ClientStep) → P e
       → Each (lines_of (went k c h i (line.Event e ∷ []) s))
@@ -121,11 +140,12 @@ module _ (P : Event → Type 0) where
 
   went_delivered : (k : Cluster) (c : ℕ) (h : ClientHere) (i : client_input.Input) (e : Event) (n : ℕ) (d : Delivery)
       (s : ClientStep) → P e → Each (lines_of (went k c h i (line.Event e ∷ line.Delivered n d ∷ []) s))
-  went_delivered k c h i e n d s p = went_each k c h i (line.Event e ∷ line.Delivered n d ∷ []) s (p, (tt, tt))
+  went_delivered k c h i e n d s p = went_each k c h i (line.Event e ∷ line.Delivered n d ∷ []) s (p, (says.delivered n d, tt))
 
   went_timed : (k : Cluster) (c : ℕ) (h : ClientHere) (i : client_input.Input) (e : Event) (component : ℕ) (s : ClientStep)
       → P e → Each (lines_of (went k c h i (line.Event e ∷ line.TimedOut c component ∷ []) s))
-  went_timed k c h i e component s p = went_each k c h i (line.Event e ∷ line.TimedOut c component ∷ []) s (p, (tt, tt))
+  went_timed k c h i e component s p =
+      went_each k c h i (line.Event e ∷ line.TimedOut c component ∷ []) s (p, (says.timed c component, tt))
 
   rests_each : (k : Cluster) → Each (lines_of (rests k))
   unfolding message_lines
@@ -148,7 +168,7 @@ module _ (P : Event → Type 0) where
 
   falls_at : (b : Bool) (d : ℕ) (ds : List ℕ) → FallsAndRises P d → AreLines ds → AreLines (cond b (d ∷ ds) ds)
   falls_at true d ds p rest =
-      ((p.0, rest.0), each_both (OfEvent P) (all_rise ds) (line.Event (event.Reopen (machine.Drive d)) ∷ []) rest.1 (p.1, tt))
+      ((p.0, rest.0), each_both Q (all_rise ds) (line.Event (event.Reopen (machine.Drive d)) ∷ []) rest.1 (p.1, tt))
   falls_at false d ds p rest = rest
 
   falls_each : ((d : ℕ) → d < DRIVES → FallsAndRises P d) → (test : ℕ → Bool) → (n a : ℕ) → a + n ≡ DRIVES
@@ -168,8 +188,8 @@ module _ (P : Event → Type 0) where
   makes_each k f m (Ok s) p =
       let up : AreLines (up_drives k) = up_each k p.1 in
       deed_each (makes k f m (Ok s))
-      (each_both (OfEvent P) (map falls (up_drives k)) _ up.0 (p.0, notes_each s.notes))
-      (each_both (OfEvent P) (unheard (length k.sent) _) (all_rise (up_drives k)) (unheard_each (length k.sent) _) up.1)
+      (each_both Q (map falls (up_drives k)) _ up.0 (p.0, notes_each s.notes))
+      (each_both Q (unheard (length k.sent) _) (all_rise (up_drives k)) (unheard_each (length k.sent) _) up.1)
 
   -- ---- each step
 
@@ -191,23 +211,24 @@ module _ (P : Event → Type 0) where
 
   takes_each : (k : Cluster) (d time n : ℕ) (h : Option DriveHere) (m : Option Message) → EachEvent P (Takes d time n)
       → Each (lines_of (takes_found k d time n h m))
-  takes_each k d time n (Some h) (Some m) p = deed_each (takes_found k d time n (Some h) (Some m)) (p.0, (p.1, (tt, tt))) tt
+  takes_each k d time n (Some h) (Some m) p =
+      deed_each (takes_found k d time n (Some h) (Some m)) (p.0, (p.1, (says.delivered n _, tt))) tt
   takes_each k d time n (Some h) None p = rests_each k
   takes_each k d time n None m p = rests_each k
 
   hit_each : (k : Cluster) (d time : ℕ) (bytes : List ℕ) (h : Option DriveHere) → EachEvent P (IsHit d time bytes)
       → Each (lines_of (hit_found k d time bytes h))
   hit_each k d time bytes None p = rests_each k
-  hit_each k d time bytes (Some h) p = deed_each (hit_found k d time bytes (Some h)) (p.0, (p.1, (tt, tt))) tt
+  hit_each k d time bytes (Some h) p = deed_each (hit_found k d time bytes (Some h)) (p.0, (p.1, (says.judged d _, tt))) tt
 
   called_each : (k : Cluster) (c : ℕ) (h : ClientHere) (op : CallOp) (r : Result ClientStep CallErr)
       → P (event.Call c (call_of op)) → Each (lines_of (called k c h op r))
-  called_each k c h op (Err e) p = deed_each (called k c h op (Err e)) (p, (tt, tt)) tt
+  called_each k c h op (Err e) p = deed_each (called k c h op (Err e)) (p, (says.refused c _, tt)) tt
   called_each k c h op (Ok s) p = went_one k c h (client_input.Calls op) (event.Call c (call_of op)) s p
 
   learnt_each : (k : Cluster) (c n : ℕ) (h : ClientHere) (from : Node) (m : Option ClientMessage)
       → P (event.Deliver n) → Each (lines_of (learnt k c n h from m))
-  learnt_each k c n h from None p = deed_each (learnt k c n h from None) (p, (tt, tt)) tt
+  learnt_each k c n h from None p = deed_each (learnt k c n h from None) (p, (says.delivered n delivery.Taken, tt)) tt
   learnt_each k c n h from (Some m) p =
       went_delivered k c h (client_input.Hears from m) (event.Deliver n) n delivery.Taken
       (client_input.step h.state (client_input.Hears from m)) p
@@ -263,5 +284,17 @@ module _ (P : Event → Type 0) where
   pub history_each : (k : Cluster) (steps : List Step) → EachStep (EachEvent P) steps → Each (history_of k steps)
   history_each k [] p = tt
   history_each k (s ∷ steps) p =
-      each_both (OfEvent P) (told k s) (history_of (after k s) steps) (told_each k s p.0)
+      each_both Q (told k s) (history_of (after k s) steps) (told_each k s p.0)
       (history_each (after k s) steps p.1)
+
+-- where only events are asked of
+pub by_events : (P : Event → Type 0) → Says (OfEvent P)
+by_events P = record {
+  message = λ number from to bytes. tt;
+  delivered = λ number d. tt;
+  judged = λ drive v. tt;
+  timed = λ client component. tt;
+  ended = λ client k o. tt;
+  refused = λ client why. tt;
+  noted = λ file what. tt;
+}

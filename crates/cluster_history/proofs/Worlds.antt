@@ -5,7 +5,9 @@ use Rattle.std.proofs.lemmas.List.{append-nil, map-append, length-map}
 use Rattle.scenario_text.specs.declared.event.Event.{Event}
 use Rattle.scenario_text.specs.declared.line.Line.{Line}
 use Rattle.scenario_text.specs.declared.line.Line.TheVariants as line
-use Rattle.world_history.specs.State.{World, Network, Message, Posted}
+use Rattle.world_history.specs.declared.messages.Message.{Message}
+use Rattle.world_history.specs.declared.messages.Posted.{Posted}
+use Rattle.world_history.specs.State.{World, Network}
 use Rattle.world_history.specs.Handed.{Post}
 use Rattle.world_history.specs.Moves.{Act, Opens, begins}
 use Rattle.world_history.specs.Sending.{Move, move, fresh, with_posts, sent_line, sent_lines, sends_all}

@@ -33,7 +33,9 @@ use Rattle.scenario_text.specs.declared.names.TheConstants.{DRIVES}
 use Rattle.world_history.specs.ServerNames.{Server, RawMap, Order, OrderKind, ToRecall, ToRevoke, ToDeclare, ToRebuild, ToAudit, Outgoing as ServerSends, Refusal}
 use Rattle.world_history.specs.ClientNames.{CallOp, CallErr, Outgoing as ClientSends}
 use Rattle.world_history.specs.ClientNames as client_rules
-use Rattle.world_history.specs.State.{Message, OfReply, at_number}
+use Rattle.world_history.specs.declared.messages.Message.{Message}
+use Rattle.world_history.specs.declared.messages.Body.TheVariants.{Reply as OfReply}
+use Rattle.world_history.specs.State.{at_number}
 use Rattle.world_history.specs.Spelled.{spelled}
 use Rattle.world_history.specs.Names.{is_named, known_note_line}
 use Rattle.world_history.specs.Told.{told_refusal}

@@ -11,7 +11,8 @@ use Rattle.scenario_text.specs.declared.event.Machine.TheVariants as machine
 use Rattle.scenario_text.specs.declared.event.Sender.TheVariants as sender
 use Rattle.scenario_text.specs.declared.line.Line.{Line}
 use Rattle.scenario_text.specs.declared.line.Line.TheVariants as line
-use Rattle.world_history.specs.State.{Message, at_number}
+use Rattle.world_history.specs.declared.messages.Message.{Message}
+use Rattle.world_history.specs.State.{at_number}
 use Rattle.world_history.specs.Moves.{known_drive}
 use Rattle.world_history.specs.Sending.{sent_line}
 use Rattle.cluster_history.specs.State.{Cluster, and_drive, and_client, with_client}

@@ -5,6 +5,7 @@ use Rattle.scenario_text.specs.declared.line.Line.{Line}
 use Rattle.scenario_text.specs.declared.line.Line.TheVariants as line
 use Rattle.scenario_text.specs.declared.line.Note.TheVariants as note
 use Rattle.world_history.specs.ServerNames.{OrderKind, ToDeclare}
+use Rattle.server_rules.specs.Laws.{In}
 use Rattle.world_history.specs.Calm.{calm}
 use Rattle.world_history.specs.Guesses.{unguessed}
 use Rattle.file_simulation.specs.Claim.{IsOfScenario, IsRight}
@@ -69,3 +70,17 @@ abbrev pub LosesNone : Step → Type 0
 LosesNone (IsLost d) = ⊥
 LosesNone (Obeys time chosen o) = DeclaresNone o.order
 LosesNone s = Unit {0}
+
+-- a run in which no drive is lost, none is declared, and no component is told to be missing
+pub record LosesNothing (steps : List Step) : Type 0 where
+  pub drives : EachStep LosesNone steps
+  pub components : (l : Line) → In l (history_of empty_cluster steps) → TellsNoLoss l
+
+-- Each such run is calm. So if moreover no bytes but messages of the parties come to a drive, each answered read gave, in order
+-- of start, the acknowledged writes before it.
+abbrev pub LosslessRunsAreCalm : Type 0
+LosslessRunsAreCalm = (steps : List Step) → IsRun steps → LosesNothing steps → calm (history_of empty_cluster steps) ≡ true
+
+abbrev pub LosslessRunsAreRight : Type 0
+LosslessRunsAreRight =
+    (steps : List Step) → IsRun steps → EachStep IsNoHit steps → LosesNothing steps → IsRight (history_of empty_cluster steps)

@@ -4,7 +4,8 @@ use Rattle.osd_drive.specs.State.{DriveState}
 use Rattle.server_rules.specs.Making.{new_server}
 use Rattle.world_history.specs.ServerNames.{Server}
 use Rattle.world_history.specs.ClientNames.{Client}
-use Rattle.world_history.specs.State.{Message, with_number, and_number}
+use Rattle.world_history.specs.declared.messages.Message.{Message}
+use Rattle.world_history.specs.State.{with_number, and_number}
 
 -- a drive as its rules have it, whether a process of it is up, and whether it is lost for good
 pub record DriveHere : Type 0 where

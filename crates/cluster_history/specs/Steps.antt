@@ -8,7 +8,8 @@ use Rattle.server_rules.specs.Making.{create_file}
 use Rattle.server_rules.specs.Envelopes.{on_bytes}
 use Rattle.world_history.specs.ServerNames.{Server, RawMap, Order, OrderKind, ToDeclare}
 use Rattle.world_history.specs.ClientNames.{CallOp}
-use Rattle.world_history.specs.State.{Message, at_number}
+use Rattle.world_history.specs.declared.messages.Message.{Message}
+use Rattle.world_history.specs.State.{at_number}
 use Rattle.world_history.specs.Moves.{has_algorithm, knows_drive}
 use Rattle.cluster_history.specs.State.{DriveHere, ClientHere, Cluster}
 

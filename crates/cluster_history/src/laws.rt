@@ -1,9 +1,11 @@
 // What holds of every run of a cluster.
 ghost use Rattle.cluster_history.specs.Laws.{EachRunHasAHistory, EachRunIsSound};
 ghost use Rattle.cluster_history.specs.Laws.{EachRunIsOfScenario, UnhitRunsAreUnguessed, CalmRunsAreRight};
+ghost use Rattle.cluster_history.specs.Laws.{LosslessRunsAreCalm, LosslessRunsAreRight};
 
+use component_law::server_writes_to_others;
 use history_claims::histories_are_sound;
-use world_history::messages_are_read;
+use world_history::{messages_are_read, reading_goes_on};
 
 /// Each run of a cluster has a lawful history. Its lines are those of the run's steps, in order, and it leads to a
 /// world that has each party as the cluster has it then, and the same messages.
@@ -41,4 +43,25 @@ pub fn calm_runs_are_right()
     each_run_is_sound();
     each_run_is_of_scenario();
     unhit_runs_are_unguessed();
+}
+
+/// A run in which no drive is lost, none is declared, and no component is told to be missing, is calm.
+pub fn lossless_runs_are_calm()
+    ensures { LosslessRunsAreCalm }
+{
+    each_run_has_a_history();
+    each_run_is_sound();
+    each_run_is_of_scenario();
+    messages_are_read();
+    reading_goes_on();
+    server_writes_to_others();
+}
+
+/// So if moreover no bytes but messages of the parties come to a drive, each answered read gives, in order of start,
+/// the acknowledged writes before it, an unfinished write's bytes being old or new, once for all.
+pub fn lossless_runs_are_right()
+    ensures { LosslessRunsAreRight }
+{
+    lossless_runs_are_calm();
+    calm_runs_are_right();
 }

@@ -10,5 +10,5 @@ mod laws;
 
 pub use laws::{
     calm_runs_are_right, each_run_has_a_history, each_run_is_of_scenario, each_run_is_sound,
-    unhit_runs_are_unguessed,
+    lossless_runs_are_calm, lossless_runs_are_right, unhit_runs_are_unguessed,
 };

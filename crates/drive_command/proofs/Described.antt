@@ -14,7 +14,7 @@ use Rattle.cluster_text.specs.declared.errors.ClusterErr.TheVariants.{Refused}
 use Rattle.cluster_text.specs.declared.errors.ClusterKind.TheVariants.{Unknown, Missing, WrongType, Repeated}
 use Rattle.cluster_text.specs.declared.fields.TheConstants.{MAX_DRIVES}
 use Rattle.cluster_text.specs.Fields.{◌>>=◌, address_at, drive_in, file_in, format_in, in_range, key_in, natural_of, number_at}
-use Rattle.cluster_text.specs.Document.{all_in, cluster_in, cluster_of, document_of, has_good_counts, judged, judged_document, repeats, unrepeated}
+use Rattle.cluster_text.specs.Document.{all_in, cluster_in, cluster_of, document_of, has_good_counts, has_twice, judged, judged_document, unrepeated}
 use Rattle.cluster_text.specs.Shape.{has_unknown, is_drive, is_number, is_wrong, is_wrong_drive, lacks, lacks_drive_key}
 use Rattle.cluster_text.specs.Tables.{has, integer_at, tables_at, text_at}
 use Rattle.cluster_text.proofs.Keys.{bound, key_there, has_text}
@@ -44,7 +44,7 @@ from_tests false false false (Some x) c h = (
   refl,
   refl,
   ap (λ (y : Cluster). Some y)
-      (from_unrepeated (repeats (map (λ d. d.number) x.drives) || repeats (map (λ f. f.number) x.files)) x c h),
+      (from_unrepeated (has_twice x) x c h),
 )
 
 -- the drives of the tables

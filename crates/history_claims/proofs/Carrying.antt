@@ -9,7 +9,6 @@ use Rattle.layout_ops.specs.declared.envelope.Envelope.TheVariants as envelope
 use Rattle.layout_ops.specs.Reading.{envelope_of}
 use Rattle.osd_commands.specs.declared.commands.CommandErr.{CommandErr}
 use Rattle.osd_commands.specs.declared.commands.CommandErr.TheVariants.{Short, Magic, BadAction, Length}
-use Rattle.osd_commands.specs.declared.replies.TheConstants.{BLOCK, LAST_ACTION}
 use Rattle.osd_commands.specs.Replies as replies
 use Rattle.osd_commands.specs.Replies.{is_verdict, is_sized, action_at, verdict_at, unless_reserved, reply_at}
 use Rattle.client_rules.specs.Envelopes.{in_envelope, by_envelope, by_reply, message_in}
@@ -36,6 +35,13 @@ use Rattle.cause_law.specs.ReadClients.{is_client}
 use Rattle.history_claims.specs.Carried.{IsCarried, AreCarried, MetBytesAt, RepliesCarryBytes}
 
 -- ---- what is read in bytes
+
+-- the bytes before a reply's payload, and the greatest action: constants that `osd_commands` keeps to itself
+abbrev BLOCK : ℕ
+BLOCK = 40
+
+abbrev LAST_ACTION : ℕ
+LAST_ACTION = 6
 
 dropped_bytes : (n : ℕ) (bytes : List ℕ) → IsBytes bytes → IsBytes (drop n bytes)
 dropped_bytes zero bytes b = b

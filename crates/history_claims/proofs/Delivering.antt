@@ -86,14 +86,14 @@ refused_still v chosen c x is ss = found (at_number v.clients c) is
   where
     by : (a : ClientAt) (r : Result ClientStep CallErr) → is_err r ≡ true
         → fold sent_after ss (sends_all (called v c a (op_of x) r)).lines ≡ ss
-    by a (Err e) no = refl
-    by a (Ok s) no = absurd (true≢false (sym no))
+    by a (Err e) err = refl
+    by a (Ok s) err = absurd (true≢false (sym err))
 
     found : (o : Option ClientAt) → is_refused o (op_of x) ≡ true
         → fold sent_after ss
         (sends_all (by_client v (λ (a : ClientAt). called v c a (op_of x) (calls a.state (op_of x))) o)).lines ≡ ss
-    found None no = refl
-    found (Some a) no = by a (calls a.state (op_of x)) no
+    found None err = refl
+    found (Some a) err = by a (calls a.state (op_of x)) err
 
 refused_rule : (v : World) (c : ℕ) (x : Call) → is_refused (at_number v.clients c) (op_of x) ≡ true
     → rule_of v (event.Do c x) ≡ Alone

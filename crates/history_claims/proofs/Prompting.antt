@@ -5,6 +5,7 @@ use Rattle.std.proofs.lemmas.List.Sums.{fold-append}
 use Rattle.std.proofs.lemmas.Option.{same_Some}
 use Rattle.client_rules.specs.Messages.{awaited_of}
 use Rattle.scenario_text.specs.declared.event.Event.{Event}
+use Rattle.scenario_text.specs.declared.line.Delivery.{Delivery}
 use Rattle.scenario_text.specs.declared.line.Line.{Line}
 use Rattle.scenario_text.specs.declared.line.Line.TheVariants as line
 use Rattle.world_history.specs.declared.messages.Sent.{Sent}
@@ -21,7 +22,7 @@ use Rattle.history_law.specs.Moments.{IsMoment, with_event, lines_so_far, lines_
 use Rattle.history_law.proofs.Moments.{so_far_more}
 use Rattle.component_law.specs.Opening.{is_opening}
 use Rattle.history_claims.specs.Delivered.{delivered_in, sent_by_end}
-use Rattle.history_claims.proofs.Moved.{Says, PlainLines, ADelivery, ATimeout, AVerdict, ARefusal, says}
+use Rattle.history_claims.proofs.Moved.{receipt_of, Says, PlainLines, ADelivery, ATimeout, AVerdict, ARefusal, says}
 use Rattle.history_claims.proofs.Plainly.{Plain}
 use Rattle.history_claims.proofs.Opened.{opens, next_open, none_open, Sends, plain_sends}
 use Rattle.cause_law.specs.ReadClients.{ClientSeen, sees_client, client_seen, client_after}
@@ -186,11 +187,12 @@ module _ (more : OneEventMore) (v : World) (h : List Line) (s : StandsFor v h) (
             sends_so (subst Sends (sym (in_lines (Delivers n) is _ refl)) (plain_sends _ b)) (stays (Delivers n) is refl)
         by (ADelivery j p number found rest b are) =
             let same : n ≡ j = cc number in
-            let ls : lines_in w m ≡ line.Delivered n _ ∷ rest =
-            in_lines (Delivers n) is _ (are ∙ ap (λ (i : ℕ). line.Delivered i _ ∷ rest) (sym same)) in
-            delivered _ rest b ls
+            let ls : lines_in w m ≡ line.Delivered n (receipt_of w m.chosen j p) ∷ rest =
+            in_lines (Delivers n) is (line.Delivered n (receipt_of w m.chosen j p) ∷ rest)
+            (are ∙ ap (λ (i : ℕ). line.Delivered i (receipt_of w m.chosen j p) ∷ rest) (sym same)) in
+            delivered (receipt_of w m.chosen j p) rest b ls
           where
-            delivered : (r : _) (rest : List Line) → Plain rest → lines_in w m ≡ line.Delivered n r ∷ rest → At (ms ++ m ∷ [])
+            delivered : (r : Delivery) (rest : List Line) → Plain rest → lines_in w m ≡ line.Delivered n r ∷ rest → At (ms ++ m ∷ [])
             delivered r rest b ls =
                 let more_told : (lines_so_far v e ms ++ line.Delivered n r ∷ []) ++ rest ≡ lines_so_far v e ms ++ lines_in w m =
                 append_assoc (lines_so_far v e ms) (line.Delivered n r ∷ []) rest
@@ -301,8 +303,8 @@ module _ (more : OneEventMore) (v : World) (h : List Line) (s : StandsFor v h) (
       ap (λ (l : List Move). (plan_after plan l).opening) is ∙ no_opening (went_on plan m.action) ms refl,
     )
 
-    lines_are : lines_so_far v e c.moves ≡ line.Event e ∷ body
-    lines_are = (some c.moves refl).0
+    own_lines : lines_so_far v e c.moves ≡ line.Event e ∷ body
+    own_lines = (some c.moves refl).0
 
     moment_then : IsMoment (world_after v c.moves) (h ++ lines_so_far v e c.moves)
     moment_then = record {
@@ -352,13 +354,13 @@ module _ (more : OneEventMore) (v : World) (h : List Line) (s : StandsFor v h) (
         rests (Some j) i = client j (at_number next.clients j) refl i
 
     pub rests_then : Rests o (h ++ line.Event e ∷ body)
-    rests_then = subst (λ (ls : List Line). Rests o (h ++ ls)) lines_are closed.1
+    rests_then = subst (λ (ls : List Line). Rests o (h ++ ls)) own_lines closed.1
 
     pub delivers_all : delivered_in body ≡ will (sent_by_end h e body)
     unfolding delivered_in
     delivers_all =
-        ap delivered_in (sym lines_are)
+        ap delivered_in (sym own_lines)
         ∙ sym (append-nil (delivered_in (lines_so_far v e c.moves)))
         ∙ ap (λ (l : List ℕ). delivered_in (lines_so_far v e c.moves) ++ l) (sym closed.0)
         ∙ ended.all
-        ∙ ap (λ (ls : List Line). will (length (sent_in (h ++ ls)))) lines_are
+        ∙ ap (λ (ls : List Line). will (length (sent_in (h ++ ls)))) own_lines

@@ -73,8 +73,10 @@ module _ (x : Client) (op : CallOp) where
   abbrev first : Bool → Result ClientStep CallErr
   first pending = if pending then Err client_rules.Busy else ranged (is_bad_range (span_of op))
 
-  err_is : (a e : CallErr) → RefusesCall x op (told_refusal a) → (Err a ≡ Err e) → RefusesCall x op (told_refusal e)
-  err_is a e r is = let same : a ≡ e = cc is in subst (λ (y : CallErr). RefusesCall x op (told_refusal y)) same r
+  err_is : (t : Result ClientStep CallErr) (a e : CallErr) → RefusesCall x op (told_refusal a) → t ≡ Err a → t ≡ Err e
+      → RefusesCall x op (told_refusal e)
+  err_is t a e r one other =
+      let same : a ≡ e = cc (sym one ∙ other) in subst (λ (y : CallErr). RefusesCall x op (told_refusal y)) same r
 
   not_bad : is_bad_range (span_of op) ≡ false → PassesALimit (span_of op) → ⊥
   not_bad f p = true≢false (sym (is_bad (span_of op) p) ∙ f)
@@ -85,16 +87,16 @@ module _ (x : Client) (op : CallOp) where
     where
       by_spent : (b : Bool) → is_spent x.next ≡ b → x.call ≡ None → is_bad_range (span_of op) ≡ false → late b ≡ Err e
           → RefusesCall x op (told_refusal e)
-      by_spent true s none good i = err_is client_rules.SlotSpent e (none, not_bad good, s) i
+      by_spent true s none good i = err_is (late true) client_rules.SlotSpent e (none, not_bad good, s) refl i
       by_spent false s none good i = absurd (cc i)
 
       by_range : (b : Bool) → is_bad_range (span_of op) ≡ b → x.call ≡ None → ranged b ≡ Err e
           → RefusesCall x op (told_refusal e)
-      by_range true bad none i = err_is client_rules.BadRange e (none, passes (span_of op) bad) i
+      by_range true bad none i = err_is (ranged true) client_rules.BadRange e (none, passes (span_of op) bad) refl i
       by_range false good none i = by_spent (is_spent x.next) refl none good i
 
       by_pending : (b : Bool) → is_some x.call ≡ b → first b ≡ Err e → RefusesCall x op (told_refusal e)
-      by_pending true some i = err_is client_rules.Busy e (has_call x.call some) i
+      by_pending true some i = err_is (first true) client_rules.Busy e (has_call x.call some) refl i
       by_pending false none i = by_range (is_bad_range (span_of op)) refl (no_call x.call none) i
 
   -- and the other way
@@ -184,10 +186,10 @@ module _ (w : World) (h : List Line) (s : IsStanding w h) (m : Move) where
         where
           not_there : (x : Action) → ((e : Event) → x ≡ Opens e → ⊥) → (c : ℕ) (a : ClientAt) (why : Refusal)
               → Refuses x c a.state why → ⊥
-          not_there (Opens e) no c a why r = no e refl
-          not_there (Delivers n) no c a why r = r
-          not_there (TimesOut x y) no c a why r = r
-          not_there (Pends x) no c a why r = r
+          not_there (Opens e) other c a why r = other e refl
+          not_there (Delivers n) other c a why r = r
+          not_there (TimesOut x y) other c a why r = r
+          not_there (Pends x) other c a why r = r
 
       by : (b : Action) → m.action ≡ b → EachBehind RefusedAt h (with_event b (move w m).lines)
       by (Opens e) is = (

@@ -123,23 +123,23 @@ awaits_lowest x k e = lowest_is (awaited_of x.call) x.outstanding k e
 
 -- ---- no message is left
 
+closed : (first k : ℕ) (s : Sent) (ss : List Sent) → opens first k (s ∷ ss) ≡ []
+    → ((nat_le first k && is_open s) ≡ false) × (opens first (k + 1) ss ≡ [])
+unfolding opens
+closed first k s ss none = elim (cases_Bool (nat_le first k && is_open s)) [
+  | inl t ↦ absurd (cc (sym (ap (λ (b : Bool). if b then k ∷ opens first (k + 1) ss else opens first (k + 1) ss) t) ∙ none))
+  | inr f ↦ (f, sym (ap (λ (b : Bool). if b then k ∷ opens first (k + 1) ss else opens first (k + 1) ss) f) ∙ none)
+]
+
 none_left : (first k : ℕ) (ss : List Sent) → opens first k ss ≡ [] → (i : ℕ) (m : Sent) → first ≤ k + i → slice_get ss i ≡ Some m
     → is_open m ≡ false
-unfolding opens
 none_left first k [] none i m l e = absurd (cc e)
-none_left first k (s ∷ ss) none i m l e = elim (cases_Bool (nat_le first k && is_open s)) [
-  | inl t ↦ absurd (cc (sym (ap (λ (b : Bool). if b then k ∷ opens first (k + 1) ss else opens first (k + 1) ss) t) ∙ none))
-  | inr f ↦
-      by i l e f (sym (ap (λ (b : Bool). if b then k ∷ opens first (k + 1) ss else opens first (k + 1) ss) f) ∙ none)
-]
-  where
-    by : (j : ℕ) → first ≤ k + j → slice_get (s ∷ ss) j ≡ Some m → (nat_le first k && is_open s) ≡ false
-        → opens first (k + 1) ss ≡ [] → is_open m ≡ false
-    by zero l e f rest =
-        let low : nat_le first k ≡ true = grind (arith, nat_tests, l) in
-        let same : s ≡ m = cc e in
-        ap is_open (sym same) ∙ sym (ap (λ (b : Bool). b && is_open s) low) ∙ f
-    by (suc j) l e f rest = none_left first (k + 1) ss rest j m (omega (arith, l)) e
+none_left first k (s ∷ ss) none zero m l e =
+    let low : nat_le first k ≡ true = grind (arith, nat_tests, l) in
+    let same : s ≡ m = cc e in
+    ap is_open (sym same) ∙ sym (ap (λ (b : Bool). b && is_open s) low) ∙ (closed first k s ss none).0
+none_left first k (s ∷ ss) none (suc j) m l e =
+    none_left first (k + 1) ss (closed first k s ss none).1 j m (omega (arith, l)) e
 
 -- ---- the rule of a call's event
 

@@ -16,7 +16,7 @@ use Rattle.cluster_text.specs.declared.errors.ClusterErr.TheVariants.{Refused}
 use Rattle.cluster_text.specs.declared.errors.ClusterKind.TheVariants.{Unknown, Missing, WrongType, Repeated}
 use Rattle.cluster_text.specs.declared.fields.TheConstants.{MAX_DRIVES, MAX_FILES}
 use Rattle.cluster_text.specs.Fields.{◌>>=◌, address_at, drive_in, file_in, format_in, in_range, is_good_map, key_in, map_in, natural_of, number_at}
-use Rattle.cluster_text.specs.Document.{all_in, cluster_in, cluster_of, document_of, has_good_counts, judged, judged_document, repeats, unrepeated}
+use Rattle.cluster_text.specs.Document.{all_in, cluster_in, cluster_of, document_of, has_good_counts, judged, judged_document, repeats, shares, unrepeated}
 use Rattle.cluster_text.specs.Shape.{has_unknown, is_wrong, is_wrong_drive, lacks, lacks_drive_key}
 use Rattle.cluster_text.specs.Tables.{has, integer_at, tables_at, text_at}
 use Rattle.cluster_text.proofs.Keys.{bound, key_there, has_text}
@@ -142,11 +142,12 @@ from_document : (o : Option Members) (c : Cluster) → judged_document Server o 
 from_document None c h = cc h
 from_document (Some top) c h = (top, h)
 
-from_unrepeated : (a b : Bool) (x c : Cluster) → (if a || b then Err (Refused Repeated) else Ok x) ≡ Ok c →
+from_unrepeated : (a s b : Bool) (x c : Cluster) → (if a || s || b then Err (Refused Repeated) else Ok x) ≡ Ok c →
     (a ≡ false) × (b ≡ false) × (x ≡ c)
-from_unrepeated true b x c h = cc h
-from_unrepeated false true x c h = cc h
-from_unrepeated false false x c h = (refl, refl, cc h)
+from_unrepeated true s b x c h = cc h
+from_unrepeated false true b x c h = cc h
+from_unrepeated false false true x c h = cc h
+from_unrepeated false false false x c h = (refl, refl, cc h)
 
 -- no number of a drive and none of a file stands twice
 abbrev Unrepeated : Cluster → Type 0
@@ -161,7 +162,9 @@ from_tests false true wrong o c h = cc h
 from_tests false false true o c h = cc h
 from_tests false false false None c h = cc h
 from_tests false false false (Some x) c h =
-    let u = from_unrepeated (repeats (map (λ d. d.number) x.drives)) (repeats (map (λ f. f.number) x.files)) x c h in
+    let u =
+    from_unrepeated (repeats (map (λ d. d.number) x.drives)) (shares (map (λ d. d.address) x.drives))
+    (repeats (map (λ f. f.number) x.files)) x c h in
     (refl, refl, ap (λ (y : Cluster). Some y) u.2, rw (← u.2) (u.0, u.1))
 
 -- the drives and files of the tables
