@@ -106,8 +106,8 @@ has_target s kind f = is_some (file_at s.files f)
 abbrev pub obeys : Cluster → (time : ℕ) → (chosen : List ℕ) → Order → Deed
 obeys k time chosen o =
     if counters_have_room k.server && has_target k.server o.order o.target then
-      served k (line.Event (event.Clock machine.Server time) ∷ line.Event (order_event o.order o.target) ∷ [])
-        (ordered k.server chosen o.order o.target).step
+    served k (line.Event (event.Clock machine.Server time) ∷ line.Event (order_event o.order o.target) ∷ [])
+    (ordered k.server chosen o.order o.target).step
     else rests k
 
 -- the map of a file, as an event has it

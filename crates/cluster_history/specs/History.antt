@@ -47,7 +47,7 @@ deed k (Calls c op) = at_client k (λ h. called k c h op (calls h.state op)) (at
 deed k (Learns c n) = at_client k (λ h. learns_found k c n h (slice_get k.sent n)) (at_number k.clients c)
 deed k (Misses c component) =
     at_client k (λ h. goes k c h (client_input.TimesOut component)
-      (line.Event (event.Timeout c component) ∷ line.TimedOut c component ∷ [])) (at_number k.clients c)
+    (line.Event (event.Timeout c component) ∷ line.TimedOut c component ∷ [])) (at_number k.clients c)
 deed k (Leaves c) =
     at_client k (λ h. goes k c h client_input.Leaves (line.Event (event.Leave c) ∷ [])) (at_number k.clients c)
 deed k (SendsAgain c) =
