@@ -62,3 +62,6 @@ pub mod AuditSteps
 pub mod AuditLaw
 pub mod HeardSteps
 pub mod HeardLaw
+pub mod ShortParts
+pub mod ShortSteps
+pub mod ShortLaw

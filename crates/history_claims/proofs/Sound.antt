@@ -18,6 +18,7 @@ use Rattle.component_law.specs.OnDrives.{StandApart, ComponentsStandApart}
 use Rattle.history_claims.specs.Spread.{ComponentsStandSpread}
 use Rattle.history_claims.specs.Created.{EachFileIsCreated}
 use Rattle.history_claims.specs.Sound.{HistoriesAreSound}
+use Rattle.history_claims.specs.LeftShort.{RepairsLeaveShort}
 use Rattle.history_claims.specs.Logged.{EndedAreLogged}
 use Rattle.history_claims.specs.Audits.{EachFoundHasItsCause}
 use Rattle.history_claims.specs.Heard.{EachHeardHasItsCause}
@@ -99,12 +100,12 @@ pub histories_are_sound : HistoriesAreSafe → VerdictsAreAnswered → CommandsA
     → AuditsFindNone → EachRepairLeavesNone → MessagesAreNumbered → WritesAreStored → MessagesAreReceived → EachEventDelivers
     → EachIsTimedOut → EachIsRefused → EachRecallIsCaused → RepliesCarryBytes → EachNoteHasItsCause → EachStageHasItsEnd
     → EachRefusalIsTold → EachReachHasItsCause → EachEndedHasItsCause → EachFoundHasItsCause → EachHeardHasItsCause
-    → WithinTheLimitAreFew
+    → RepairsLeaveShort → WithinTheLimitAreFew
     → HistoriesAreSound
 histories_are_sound safe answered issued listed fair ranges fronts apart spread created own fenced live given older barred exact
     allowed lanes lanes_own judged awaited low ends outcomes read bytes tags caused told changed gone lost raised waits until sent
     barred_by named objects said left unanswered borne ready leaves logged plain right audits mended numbered stored
-    received delivers silent refuses recalled carried noted stages refusals reached ended found heard few = record {
+    received delivers silent refuses recalled carried noted stages refusals reached ended found heard short few = record {
       sound = λ h l. record {
         safe = safe h l;
         answered = λ w s. answered w h s;
@@ -173,6 +174,7 @@ histories_are_sound safe answered issued listed fair ranges fronts apart spread 
         mended = λ before last after is.
             mended before last (fronts (before ++ last ∷ []) after
             (subst Lawful (is ∙ sym (append_assoc before (last ∷ []) after)) l));
+        left_short = short h l;
       };
       text = events_make_text;
       few = few;

@@ -19,3 +19,4 @@ pub mod Reach
 pub mod Refusals
 pub mod Audits
 pub mod Heard
+pub mod LeftShort

@@ -16,6 +16,7 @@ use Rattle.component_law.specs.OnDrives.{AreComponentsApart}
 use Rattle.history_claims.specs.Spread.{AreComponentsSpread}
 use Rattle.history_claims.specs.Created.{FilesAreCreated}
 use Rattle.history_claims.specs.Lanes.{HaveFairLanes, HaveOwnLanes}
+use Rattle.history_claims.specs.LeftShort.{LeftShortAt}
 use Rattle.history_claims.specs.Logged.{IsLoggedAt}
 use Rattle.history_claims.specs.Numbered.{NumberedAt}
 use Rattle.history_claims.specs.Stored.{StoredAt}
@@ -248,6 +249,8 @@ pub record IsSound (h : List Line) : Type 0 where
   -- right behind each note that a repair is over: the note stands for a repair that counted the stripes of the grants that fences
   -- ended by the book, so many, and left so many short; and if it left none short, no stripe that it counted is disturbed there
   pub mended : AtEachLine RepairedAt h
+  -- and each stripe that it left short it counted, and a position of it has no present replica by the book there
+  pub left_short : AtEachLine LeftShortAt h
 
 -- Each lawful history is sound, whatever its events name. Where a text may have the events, it is one of a scenario's text;
 -- and where a world that stands for it is within the limit of kept bytes, it has few messages. A history that is cut at that

@@ -1,6 +1,7 @@
 // What holds of every history, for the crates above.
 ghost use Rattle.history_claims.specs.Carried.{RepliesCarryBytes};
 ghost use Rattle.history_claims.specs.Created.{EachFileIsCreated};
+ghost use Rattle.history_claims.specs.LeftShort.{RepairsLeaveShort};
 ghost use Rattle.history_claims.specs.Logged.{EndedAreLogged};
 ghost use Rattle.history_claims.specs.Numbered.{MessagesAreNumbered};
 ghost use Rattle.history_claims.specs.Delivered.{EachEventDelivers};
@@ -28,7 +29,7 @@ use component_law::{
     answers_are_live, components_stand_apart, each_object_is_owned, each_step_is_apart,
     each_step_is_sound, each_step_spreads, each_step_zones, each_tag_is_its_files, given_is_barred,
     given_was_live, grants_are_in_order, grants_are_older, keys_are_known, no_tag_is_ahead,
-    no_tag_is_behind, nothing_due_rests, one_zone_is_borne, sizes_agree,
+    no_tag_is_behind, nothing_due_rests, one_zone_is_borne, seen_is_sound, sizes_agree,
 };
 use exchange_law::{
     awaited_are_taken, commands_are_issued_exactly, counters_stay_low, files_have_shape,
@@ -138,6 +139,14 @@ pub fn recalls_are_caused()
 pub fn replies_carry_bytes()
     ensures { RepliesCarryBytes }
 {}
+
+/// Right behind each note that a repair is over, in every lawful history whose events a text may have: each stripe that
+/// the repair left short it counted, and a position of it has no present replica by the book.
+pub fn repairs_leave_counted_short()
+    ensures { RepairsLeaveShort }
+{
+    seen_is_sound();
+}
 
 /// In a lawful history of a scenario's text with few messages, where a line tells that a read was answered, or that some
 /// bytes were written, the log of the file has an entry of this call, with its range, or its bytes.
@@ -275,5 +284,6 @@ pub fn histories_are_sound()
     ended_have_causes();
     founds_have_causes();
     heard_have_causes();
+    repairs_leave_counted_short();
     within_the_limit_are_few();
 }

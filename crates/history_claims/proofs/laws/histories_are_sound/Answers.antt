@@ -27,4 +27,5 @@ returns c =
     c.notes_have_causes.ensures c.stages_have_ends.ensures c.refusals_are_told.ensures c.reaches_have_causes.ensures
     c.ended_have_causes.ensures
     c.founds_have_causes.ensures c.heard_have_causes.ensures
+    c.repairs_leave_counted_short.ensures
     c.within_the_limit_are_few.ensures
