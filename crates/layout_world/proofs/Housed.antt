@@ -22,7 +22,8 @@ use Rattle.server_journal.specs.declared.errors.JournalFileErr.TheVariants as ma
 use Rattle.server_journal.specs.declared.server.JournaledServer.{JournaledServer}
 use Rattle.server_journal.specs.Calls.{IsRefused, MakesNot, Stays}
 use Rattle.server_journal.specs.Errors.{HasErrCause, HasJournalCause, IsOfDisk, NotAJournalSays, NotEmptySays, file_told_by}
-use Rattle.server_journal.specs.Journals.{IsKept, KeepsServer, core_of, is_over_in}
+use Rattle.server_journal.specs.declared.made.MadeObject.{MadeObject}
+use Rattle.server_journal.specs.Journals.{IsKept, KeepsServer, core_of, is_over_in, made_of}
 use Rattle.layout_world.specs.Machine.{IsWell, told_back}
 
 -- ---- a journal whose disk doesn't fail, and whose contents aren't refused, wants memory
@@ -60,8 +61,9 @@ module _ (k : Ghosts Medium) where
   -- a call that was refused leaves its log
   pub well_still : (old new : JournaledServer Medium) → IsKept k old → Stays old new → IsWell k new
   well_still old new kept s = λ on.
-      subst (λ (l : GateLog Medium). KeepsServer k (crash (core_of new)) l) (sym s.log)
-      (subst (λ (x : Server). KeepsServer k (crash x) old.log) (sym s.server) kept)
+      subst (λ (l : GateLog Medium). KeepsServer k (crash (core_of new)) (made_of new) l) (sym s.log)
+      (subst (λ (ms : List MadeObject). KeepsServer k (crash (core_of new)) ms old.log) (sym s.made)
+      (subst (λ (x : Server). KeepsServer k (crash x) (made_of old) old.log) (sym s.server) kept))
 
   -- ---- a file that isn't made
 

@@ -1,5 +1,5 @@
 -- How a journal goes from one server to the next, and what a crash leaves meanwhile.
-use Rattle.std.proofs.Common.{◌≡◌, ◌⊎◌, inl, inr, ⊎_elim, ℕ, List, [], ◌∷◌, ◌++◌, length, Bool, false, Some, Result, Ok, Err, OnErr, refl, sym, ◌∙◌, ap, subst, arith}
+use Rattle.std.proofs.Common.{◌≡◌, ◌⊎◌, inl, inr, ⊎_elim, ℕ, List, [], ◌∷◌, ◌++◌, length, Bool, false, None, Some, Result, Ok, Err, OnErr, refl, sym, ◌∙◌, ap, subst, arith}
 use Rattle.osd_disk.specs.Crashes.{LeavesOnly}
 use Rattle.osd_disk.specs.declared.disk.Disk.{Ghosts}
 use Rattle.gate_log.specs.declared.log.GateLog.{GateLog}
@@ -26,11 +26,13 @@ use Rattle.server_journal.specs.Calls.{Answered, CutOff, MakesNot, Stays, after_
 use Rattle.server_journal.specs.Counters.{CountsOn}
 use Rattle.server_journal.specs.Errors.{HasErrCause, HasJournalCause, file_told_by}
 use Rattle.server_journal.specs.Header.{journal_header}
-use Rattle.server_journal.specs.Journals.{IsKept, KeepsServer, LeavesEither, StandForEither, core_of, disk_in}
+use Rattle.server_journal.specs.Journals.{IsJournalWith, IsKept, KeepsServer, LeavesEither, StandForEither, core_of, disk_in}
+use Rattle.server_journal.specs.Made.{made_by, made_in}
+use Rattle.server_journal.specs.declared.made.MadeObject.{MadeObject}
 use Rattle.server_journal.specs.Records.{LeadTo, after_record}
-use Rattle.server_journal.specs.Resting.{kept_leaves}
+use Rattle.server_journal.specs.Resting.{kept_leaves, leaves_with}
 use Rattle.server_journal.proofs.CounterLaws.{entries_count}
-use Rattle.server_journal.proofs.RecordLaws.{entries_lead, lead_more, none_lead}
+use Rattle.server_journal.proofs.RecordLaws.{entries_lead, lead_more, none_lead, none_more, object_leads, one_more}
 
 -- what holds anyhow holds at an error
 pub at_error : {T E : Type 0} (r : Result T E) (P : Type 0) → P → OnErr r P
@@ -65,6 +67,20 @@ with_or_without records s t bytes lead one c (inr log) = inr (record {
   lead = lead_more records s t bytes lead one;
 })
 
+-- contents with another object or without
+with_object : (records : List (List ℕ)) (s : Server) (made : List MadeObject) (bytes : List ℕ) (m : MadeObject)
+    → LeadTo records s → made_by records ≡ made → made_in bytes ≡ Some m
+    → (c : List ℕ) → IsLog journal_header records c ⊎ IsLog journal_header (records ++ bytes ∷ []) c
+    → IsJournalWith s made c ⊎ IsJournalWith s (made ++ m ∷ []) c
+with_object records s made bytes m lead objects one c (inl log) =
+    inl (record { records = records; log = log; lead = lead; objects = objects })
+with_object records s made bytes m lead objects one c (inr log) = inr (record {
+  records = records ++ bytes ∷ [];
+  log = log;
+  lead = object_leads records s bytes m lead one;
+  objects = one_more records bytes m one ∙ ap (λ (ms : List MadeObject). ms ++ m ∷ []) objects;
+})
+
 module _ {D : Type 0} (k : Ghosts D) where
   -- what has P has Q
   pub weaker : (old new : D) (P Q : List ℕ → Type 0) → LeavesOnly k.moment k.left_since old new P → ((c : List ℕ) → P c → Q c)
@@ -87,52 +103,90 @@ module _ {D : Type 0} (k : Ghosts D) where
 
   -- where no call is made
   pub still : ((disk : D) (c : List ℕ) → k.left_since disk (k.moment disk) c → k.may_leave disk c) →
-      (s t : Server) (log : GateLog D)
-      → KeepsServer k s log → LeavesEither k (disk_of log) (disk_of log) s t
-  still only_now s t log kept = record {
+      (s t : Server) (made : List MadeObject) (log : GateLog D)
+      → KeepsServer k s made log → LeavesEither k (disk_of log) (disk_of log) s t
+  still only_now s t made log kept = record {
     later = omega arith;
-    each = λ c left. inl (kept_leaves k s log kept c (only_now (disk_of log) c left));
+    each = λ c left. inl (kept_leaves k s made log kept c (only_now (disk_of log) c left));
     before = λ t c le left. inl left;
   }
 
   -- the record of what a call changed is added, or isn't
-  pub added_or_not : (was : Server) (now : Keeping) (old : GateLog D) (new : D) (bytes : List ℕ) →
-      whole record_in bytes ≡ Ok now.changes
+  pub added_or_not : (was : Server) (made : List MadeObject) (now : Keeping) (old : GateLog D) (new : D) (bytes : List ℕ) →
+      whole record_in bytes ≡ Ok now.changes → made_in bytes ≡ None
       → ((header : List ℕ) (bodies : List (List ℕ)) → IsAtRest k.tells k.seen k.may_leave header bodies old
       → LeavesOnly k.moment k.left_since (disk_of old) new (λ c. IsLog header bodies c ⊎ IsLog header (bodies ++ bytes ∷ []) c))
-      → Follows was now → KeepsServer k was old → LeavesEither k (disk_of old) new was (crash now.server)
-  added_or_not was now old new bytes spelled leaves follows kept =
+      → Follows was now → KeepsServer k was made old → LeavesEither k (disk_of old) new was (crash now.server)
+  added_or_not was made now old new bytes spelled plain leaves follows kept =
       weaker (disk_of old) new _ (StandForEither was (crash now.server)) (leaves journal_header kept.records kept.rest)
       (with_or_without kept.records was (crash now.server) bytes kept.lead
-      (entries_lead was (crash now.server) now.changes bytes spelled follows))
+      (entries_lead was (crash now.server) now.changes bytes plain spelled follows))
 
   -- and once it was, the disk has the server after the call
-  pub added : (was : Server) (now : Keeping) (old new : GateLog D) (bytes : List ℕ) → whole record_in bytes ≡ Ok now.changes
+  pub added : (was : Server) (made : List MadeObject) (now : Keeping) (old new : GateLog D) (bytes : List ℕ)
+      → whole record_in bytes ≡ Ok now.changes → made_in bytes ≡ None
       → ((header : List ℕ) (bodies : List (List ℕ)) → IsAtRest k.tells k.seen k.may_leave header bodies old
       → IsAtRest k.tells k.seen k.may_leave header (bodies ++ bytes ∷ []) new)
-      → Follows was now → KeepsServer k was old → KeepsServer k (crash now.server) new
-  added was now old new bytes spelled rests follows kept = record {
+      → Follows was now → KeepsServer k was made old → KeepsServer k (crash now.server) made new
+  added was made now old new bytes spelled plain rests follows kept = record {
     records = kept.records ++ bytes ∷ [];
     rest = rests journal_header kept.records kept.rest;
     lead = lead_more kept.records was (crash now.server) bytes kept.lead
-        (entries_lead was (crash now.server) now.changes bytes spelled follows);
+        (entries_lead was (crash now.server) now.changes bytes plain spelled follows);
+    objects = none_more kept.records bytes plain ∙ kept.objects;
+  }
+
+  -- the record of an object is added, or isn't
+  pub told_or_not : (s : Server) (made : List MadeObject) (old : GateLog D) (new : D) (m : MadeObject) (bytes : List ℕ)
+      → made_in bytes ≡ Some m
+      → ((header : List ℕ) (bodies : List (List ℕ)) → IsAtRest k.tells k.seen k.may_leave header bodies old
+      → LeavesOnly k.moment k.left_since (disk_of old) new (λ c. IsLog header bodies c ⊎ IsLog header (bodies ++ bytes ∷ []) c))
+      → KeepsServer k s made old
+      → LeavesOnly k.moment k.left_since (disk_of old) new (λ c. IsJournalWith s made c ⊎ IsJournalWith s (made ++ m ∷ []) c)
+  told_or_not s made old new m bytes one leaves kept =
+      weaker (disk_of old) new _ (λ c. IsJournalWith s made c ⊎ IsJournalWith s (made ++ m ∷ []) c)
+      (leaves journal_header kept.records kept.rest)
+      (with_object kept.records s made bytes m kept.lead kept.objects one)
+
+  -- and once it was, the disk tells of it
+  pub told : (s : Server) (made : List MadeObject) (old new : GateLog D) (m : MadeObject) (bytes : List ℕ)
+      → made_in bytes ≡ Some m
+      → ((header : List ℕ) (bodies : List (List ℕ)) → IsAtRest k.tells k.seen k.may_leave header bodies old
+      → IsAtRest k.tells k.seen k.may_leave header (bodies ++ bytes ∷ []) new)
+      → KeepsServer k s made old → KeepsServer k s (made ++ m ∷ []) new
+  told s made old new m bytes one rests kept = record {
+    records = kept.records ++ bytes ∷ [];
+    rest = rests journal_header kept.records kept.rest;
+    lead = object_leads kept.records s bytes m kept.lead one;
+    objects = one_more kept.records bytes m one ∙ ap (λ (ms : List MadeObject). ms ++ m ∷ []) kept.objects;
+  }
+
+  -- no call was made
+  pub told_nothing : ((disk : D) (c : List ℕ) → k.left_since disk (k.moment disk) c → k.may_leave disk c)
+      → (s : Server) (made : List MadeObject) (m : MadeObject) (log : GateLog D) → KeepsServer k s made log
+      → LeavesOnly k.moment k.left_since (disk_of log) (disk_of log)
+      (λ c. IsJournalWith s made c ⊎ IsJournalWith s (made ++ m ∷ []) c)
+  told_nothing only_now s made m log kept = record {
+    later = omega arith;
+    each = λ c left. inl (leaves_with k s made log kept c (only_now (disk_of log) c left));
+    before = λ t c le left. inl left;
   }
 
   -- where there are no entries, the disk has it already
-  pub unchanged : (was : Server) (now : Keeping) (log : GateLog D) → length now.changes.entries ≡ 0 → Follows was now →
-      KeepsServer k was log
-      → KeepsServer k (crash now.server) log
-  unchanged was now log none follows kept =
-      subst (λ (s : Server). KeepsServer k s log) (none_lead was (crash now.server) now.changes none follows) kept
+  pub unchanged : (was : Server) (made : List MadeObject) (now : Keeping) (log : GateLog D) → length now.changes.entries ≡ 0
+      → Follows was now → KeepsServer k was made log
+      → KeepsServer k (crash now.server) made log
+  unchanged was made now log none follows kept =
+      subst (λ (s : Server). KeepsServer k s made log) (none_lead was (crash now.server) now.changes none follows) kept
 
   -- ---- calls
 
   -- one that was answered; `kept` is the server that it made
   pub answered : (old new : JournaledServer D) (kept : Keeping) → Keeps old.kept kept → IsQuiet old.kept kept →
       kept.is_over ≡ false → new.kept ≡ kept
-      → ((was : Server) → Follows was kept → KeepsServer k was old.log →
+      → ((was : Server) → Follows was kept → KeepsServer k was old.made old.log →
       LeavesEither k (disk_in old) (disk_in new) was (crash kept.server))
-      → ((was : Server) → Follows was kept → KeepsServer k was old.log → IsKept k new) →
+      → ((was : Server) → Follows was kept → KeepsServer k was old.made old.log → IsKept k new) →
       (kept.changes.entries ≡ [] → disk_in new ≡ disk_in old) → Answered k old new
   answered old new kept keeps quiet runs same leaves keeps_on still = record {
     any_moment =
@@ -154,7 +208,7 @@ module _ {D : Type 0} (k : Ghosts D) where
     any_moment =
         λ is. subst (λ (log : GateLog D). LeavesEither k (disk_in old) (disk_of log) (crash (core_of old)) (crash (after [])))
         (sym same)
-        (still only_now (crash (core_of old)) (crash (after [])) old.log is);
+        (still only_now (crash (core_of old)) (crash (after [])) old.made old.log is);
     idle = λ is. ap (λ (log : GateLog D). disk_of log) same;
   }
 
@@ -162,7 +216,7 @@ module _ {D : Type 0} (k : Ghosts D) where
   pub cut_off : (old new : JournaledServer D) (kept : Keeping) (after : List ℕ → Server) (chosen : List ℕ) →
       kept.server ≡ after chosen
       → Keeps old.kept kept → IsQuiet old.kept kept → kept.is_over ≡ false
-      → ((was : Server) → Follows was kept → KeepsServer k was old.log →
+      → ((was : Server) → Follows was kept → KeepsServer k was old.made old.log →
       LeavesEither k (disk_in old) (disk_in new) was (crash kept.server))
       → (kept.changes.entries ≡ [] → disk_in new ≡ disk_in old) → CutOff k old new after
   cut_off old new kept after chosen is_after keeps quiet runs leaves still = record {

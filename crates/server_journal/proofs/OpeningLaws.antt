@@ -1,5 +1,6 @@
 -- Reading the records of a journal, one after the other.
-use Rattle.std.proofs.Common.{◌≡◌, ◌⊎◌, inl, inr, ℕ, List, [], ◌∷◌, ◌++◌, Some, None, refl, sym, ◌∙◌, subst}
+use Rattle.std.proofs.Common.{◌≡◌, ◌⊎◌, inl, inr, ℕ, List, [], ◌∷◌, ◌++◌, Some, None, refl, sym, ◌∙◌, ap, subst}
+use Rattle.std.proofs.lemmas.List.Elements.{filter_map-append}
 use Rattle.osd_disk.specs.Crashes.{OnlyRead}
 use Rattle.osd_disk.specs.declared.disk.Disk.{Ghosts}
 use Rattle.osd_disk.proofs.Moments.{leaves_as_before, read_again}
@@ -17,10 +18,12 @@ use Rattle.server_journal.specs.declared.errors.JournalErr.{JournalErr}
 use Rattle.server_journal.specs.declared.errors.JournalErr.TheVariants as journal
 use Rattle.server_journal.specs.Errors.{IsOfDisk, NotAJournalSays, NotEmptySays, told_by}
 use Rattle.server_journal.specs.Header.{journal_header}
-use Rattle.server_journal.specs.Journals.{IsJournalOf, KeepsServer, LeavesEither}
+use Rattle.server_journal.specs.Journals.{IsJournalWith, KeepsServer, LeavesEither}
+use Rattle.server_journal.specs.Made.{made_by, made_in}
+use Rattle.server_journal.specs.declared.made.MadeObject.{MadeObject}
 use Rattle.server_journal.specs.Opening.{HasTaken, IsNoJournalAt, IsOfOpening, LeavesOpening, StandBefore}
 use Rattle.server_journal.specs.Records.{after_record}
-use Rattle.server_journal.specs.Resting.{stands}
+use Rattle.server_journal.specs.Resting.{journal_of, stands}
 use Rattle.server_journal.proofs.JournalLaws.{on_and_on, weaker}
 use Rattle.server_journal.proofs.RecordLaws.{lead_more}
 
@@ -36,6 +39,13 @@ no_place P (journal.NotEmpty size) of_disk = of_disk
 no_place P journal.DiskFault of_disk = tt
 no_place P (journal.NotAJournal at) of_disk = absurd of_disk
 no_place P journal.Memory of_disk = tt
+
+-- a refusal of contents says what follows of that
+pub says_so : (P Q : ℕ → Type 0) (e : JournalErr) → ((at : ℕ) → P at → Q at) → NotAJournalSays P e → NotAJournalSays Q e
+says_so P Q (journal.NotEmpty size) so says = says
+says_so P Q journal.DiskFault so says = says
+says_so P Q (journal.NotAJournal at) so says = so at says
+says_so P Q journal.Memory so says = says
 
 module _ {D : Type 0} (k : Ghosts D) where
   abbrev Reads : (old new : LogReader D) (bytes : List ℕ) → Type 0
@@ -68,36 +78,45 @@ module _ {D : Type 0} (k : Ghosts D) where
   -- before the first record
   pub taken_first : (header : List ℕ) (reader : LogReader D) → header ≡ journal_header →
       HasRead k.tells k.seen k.may_leave header [] reader
-      → HasTaken k (new_server []) reader
+      → HasTaken k (new_server []) [] reader
   taken_first header reader is read = record {
     records = [];
     lead = refl;
+    objects = refl;
     read = subst (λ (h : List ℕ). HasRead k.tells k.seen k.may_leave h [] reader) is read;
   }
 
   -- one record more
-  pub taken_more : (s t : Server) (bytes : List ℕ) (old new : LogReader D) → HasTaken k s old → after_record s bytes ≡ Some t →
-      Reads old new bytes
-      → HasTaken k t new
-  taken_more s t bytes old new taken leads reads = record {
+  pub taken_more : (s t : Server) (made now : List MadeObject) (bytes : List ℕ) (old new : LogReader D)
+      → HasTaken k s made old → after_record s bytes ≡ Some t → now ≡ made ++ made_by (bytes ∷ [])
+      → Reads old new bytes
+      → HasTaken k t now new
+  taken_more s t made now bytes old new taken leads tells reads = record {
     records = taken.records ++ bytes ∷ [];
     lead = lead_more taken.records s t bytes taken.lead leads;
+    objects = filter_map-append made_in taken.records (bytes ∷ [])
+        ∙ ap (λ (ms : List MadeObject). ms ++ made_by (bytes ∷ [])) taken.objects ∙ sym tells;
     read = reads journal_header taken.records taken.read;
   }
 
   -- none more
-  pub taken_none : (s : Server) (old new : LogReader D) → HasTaken k s old
+  pub taken_none : (s : Server) (made : List MadeObject) (old new : LogReader D) → HasTaken k s made old
       → ((header : List ℕ) (bodies : List (List ℕ)) → HasRead k.tells k.seen k.may_leave header bodies old →
       HasRead k.tells k.seen k.may_leave header bodies new)
-      → HasTaken k s new
-  taken_none s old new taken reads =
-      record { records = taken.records; lead = taken.lead; read = reads journal_header taken.records taken.read }
+      → HasTaken k s made new
+  taken_none s made old new taken reads = record {
+    records = taken.records;
+    lead = taken.lead;
+    objects = taken.objects;
+    read = reads journal_header taken.records taken.read;
+  }
 
   -- one of which nothing can be made
-  pub not_taken : (s : Server) (bytes : List ℕ) (old new : LogReader D) (c : List ℕ) (at : ℕ) → HasTaken k s old →
+  pub not_taken : (s : Server) (made : List MadeObject) (bytes : List ℕ) (old new : LogReader D) (c : List ℕ) (at : ℕ)
+      → HasTaken k s made old →
       after_record s bytes ≡ None
       → Reads old new bytes → k.seen (read_disk old) ≡ c → k.seen (read_disk new) ≡ c → at ≡ place_of old → IsNoJournalAt c at
-  not_taken s bytes old new c at taken none reads seen_old seen_new is =
+  not_taken s made bytes old new c at taken none reads seen_old seen_new is =
       let behind = reads journal_header taken.records taken.read in
       subst (λ (n : ℕ). IsNoJournalAt c n) (sym is) (inr (inr (record {
         records = taken.records;
@@ -111,51 +130,58 @@ module _ {D : Type 0} (k : Ghosts D) where
       })))
 
   -- the log's error is one of the journal
-  pub broken_told : (s : Server) (reader : LogReader D) (c : List ℕ) (e : LogErr) (T : Type 0) → (T → HasTaken k s reader)
+  pub broken_told : (s : Server) (made : List MadeObject) (reader : LogReader D) (c : List ℕ) (e : LogErr) (T : Type 0)
+      → (T → HasTaken k s made reader)
       → NotALogSays
       (λ at. (header : List ℕ) (bodies : List (List ℕ)) → HasRead k.tells k.seen k.may_leave header bodies reader →
       IsBrokenAt (k.seen (read_disk reader)) at) e
       → k.seen (read_disk reader) ≡ c → NotAJournalSays (λ at. T → IsNoJournalAt c at) (told_by e)
-  broken_told s reader c (log.NotEmpty size) T taken says same = says
-  broken_told s reader c (log.NotALog at) T taken says same =
+  broken_told s made reader c (log.NotEmpty size) T taken says same = says
+  broken_told s made reader c (log.NotALog at) T taken says same =
       λ t. let has = taken t in inl (subst (λ (x : List ℕ). IsBrokenAt x at) same (says journal_header has.records has.read))
-  broken_told s reader c log.DiskFault T taken says same = says
-  broken_told s reader c log.Memory T taken says same = says
+  broken_told s made reader c log.DiskFault T taken says same = says
+  broken_told s made reader c log.Memory T taken says same = says
 
   -- a log that was read to its end has the server
-  pub taken_kept : (s : Server) (reader : LogReader D) (log : GateLog D) → HasTaken k s reader
+  pub taken_kept : (s : Server) (made : List MadeObject) (reader : LogReader D) (log : GateLog D) → HasTaken k s made reader
       → ((header : List ℕ) (bodies : List (List ℕ)) → HasRead k.tells k.seen k.may_leave header bodies reader →
       IsAtRest k.tells k.seen k.may_leave header bodies log)
-      → KeepsServer k s log
-  taken_kept s reader log taken rests =
-      record { records = taken.records; rest = rests journal_header taken.records taken.read; lead = taken.lead }
+      → KeepsServer k s made log
+  taken_kept s made reader log taken rests = record {
+    records = taken.records;
+    rest = rests journal_header taken.records taken.read;
+    lead = taken.lead;
+    objects = taken.objects;
+  }
 
   -- a new log has the server without drives and files
   pub new_kept : (header : List ℕ) (log : GateLog D) → header ≡ journal_header →
-      IsAtRest k.tells k.seen k.may_leave header [] log → KeepsServer k (new_server []) log
+      IsAtRest k.tells k.seen k.may_leave header [] log → KeepsServer k (new_server []) [] log
   new_kept header log is rest = record {
     records = [];
     rest = subst (λ (h : List ℕ). IsAtRest k.tells k.seen k.may_leave h [] log) is rest;
     lead = refl;
+    objects = refl;
   }
 
   -- what was read is a journal of the server
-  pub stood_for : (disk : D) (s : Server) (log : GateLog D) →
-      OnlyRead k.tells k.seen k.may_leave k.moment k.left_since disk (disk_of log) → KeepsServer k s log
-      → IsJournalOf s (k.seen disk)
-  stood_for disk s log read kept = subst (λ (c : List ℕ). IsJournalOf s c) read.seen_same (stands k s log kept)
+  pub stood_for : (disk : D) (s : Server) (made : List MadeObject) (log : GateLog D) →
+      OnlyRead k.tells k.seen k.may_leave k.moment k.left_since disk (disk_of log) → KeepsServer k s made log
+      → IsJournalWith s made (k.seen disk)
+  stood_for disk s made log read kept =
+      subst (λ (c : List ℕ). IsJournalWith s made c) read.seen_same (stands k s made log kept)
 
   -- and then what the step of the opening changed was added, or wasn't
   pub opening_leaves : ((d : D) (c : List ℕ) → k.left_since d (k.moment d) c → k.may_leave d c) →
-      (disk new : D) (s : Server) (log : GateLog D)
-      → OnlyRead k.tells k.seen k.may_leave k.moment k.left_since disk (disk_of log) → KeepsServer k s log
+      (disk new : D) (s : Server) (made : List MadeObject) (log : GateLog D)
+      → OnlyRead k.tells k.seen k.may_leave k.moment k.left_since disk (disk_of log) → KeepsServer k s made log
       → LeavesEither k (disk_of log) new s (crash (reopen s).state) → LeavesOpening k disk new
-  opening_leaves only_now disk new s log read kept leaves =
+  opening_leaves only_now disk new s made log read kept leaves =
       on_and_on k disk (disk_of log) new (λ c. k.may_leave disk c ⊎ IsOfOpening (k.seen disk) c)
       (leaves_as_before k.tells k.seen k.may_leave k.moment k.left_since disk (disk_of log)
       (λ c. k.may_leave disk c ⊎ IsOfOpening (k.seen disk) c) read only_now (λ c left. inl left))
       (weaker k (disk_of log) new _ (λ c. k.may_leave disk c ⊎ IsOfOpening (k.seen disk) c) leaves
-      (λ c either. inr (s, stood_for disk s log read kept, either)))
+      (λ c either. inr (s, journal_of s made (k.seen disk) (stood_for disk s made log read kept), either)))
 
   -- where it was only read, a crash left nothing else than before
   pub read_leaves : ((d : D) (c : List ℕ) → k.left_since d (k.moment d) c → k.may_leave d c) → (disk read new : D) → new ≡ read

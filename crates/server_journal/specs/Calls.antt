@@ -14,7 +14,7 @@ use Rattle.server_journal.specs.declared.errors.JournalFileErr.TheVariants as ma
 use Rattle.server_journal.specs.declared.server.JournaledServer.{JournaledServer}
 use Rattle.server_journal.specs.Counters.{CountsOn}
 use Rattle.server_journal.specs.Errors.{HasErrCause, IsOfDisk, file_told_by}
-use Rattle.server_journal.specs.Journals.{IsKept, LeavesEither, core_of, disk_in, is_over_in}
+use Rattle.server_journal.specs.Journals.{IsKept, LeavesEither, core_of, disk_in, is_over_in, made_of}
 
 -- A call that was answered: at any moment of it a crash leaves a journal of the server before it or after it, and from the
 -- answer on one of the server after it.
@@ -40,6 +40,7 @@ CutOffBefore k old new after = CutOff k old new (λ chosen. after)
 pub record Stays {D : Type 0} (old new : JournaledServer D) : Type 0 where
   pub server : core_of new ≡ core_of old
   pub log : new.log ≡ old.log
+  pub made : made_of new ≡ made_of old
   pub goes_on : is_over_in new ≡ false
 
 -- ---- files

@@ -1,7 +1,7 @@
 -- The server that contents stand for, and a journaled server as it stands on its disk.
 --
 -- A definition that takes `Ghosts D` takes the ghost members of a disk's trait, as `D.Disk`.
-use Rattle.std.specs.Prelude.{◌⊎◌, ℕ, List, Bool}
+use Rattle.std.specs.Prelude.{◌≡◌, ◌⊎◌, ℕ, List, Bool, [], ◌∷◌, ◌++◌}
 use Rattle.osd_disk.specs.Crashes.{LeavesOnly}
 use Rattle.osd_disk.specs.declared.disk.Disk.{Ghosts}
 use Rattle.gate_log.specs.declared.log.GateLog.{GateLog}
@@ -10,7 +10,9 @@ use Rattle.gate_log.specs.Standing.{IsAtRest, disk_of}
 use Rattle.server_rules.specs.declared.server.Server.{Server}
 use Rattle.server_rules.specs.Openings.{crash}
 use Rattle.server_journal.specs.declared.server.JournaledServer.{JournaledServer}
+use Rattle.server_journal.specs.declared.made.MadeObject.{MadeObject}
 use Rattle.server_journal.specs.Header.{journal_header}
+use Rattle.server_journal.specs.Made.{made_by}
 use Rattle.server_journal.specs.Records.{LeadTo}
 
 -- contents stand for a server without jobs: they are a log with a journal's header, of records that lead to it
@@ -19,21 +21,33 @@ pub record IsJournalOf (s : Server) (c : List ℕ) : Type 0 where
   pub log : IsLog journal_header records c
   pub lead : LeadTo records s
 
+-- contents stand for a server without jobs, and tell of these objects that drives have made for it
+pub record IsJournalWith (s : Server) (made : List MadeObject) (c : List ℕ) : Type 0 where
+  pub records : List (List ℕ)
+  pub log : IsLog journal_header records c
+  pub lead : LeadTo records s
+  pub objects : made_by records ≡ made
+
 -- contents stand for the one server or for the other
 abbrev pub StandForEither : (before after : Server) → List ℕ → Type 0
 StandForEither before after c = IsJournalOf before c ⊎ IsJournalOf after c
 
--- the disk of a log tells its bytes, a crash leaves all of them, and they stand for the server
-pub record KeepsServer {D : Type 0} (k : Ghosts D) (s : Server) (log : GateLog D) : Type 0 where
+-- the disk of a log tells its bytes, a crash leaves all of them, and they stand for the server and tell of these objects
+pub record KeepsServer {D : Type 0} (k : Ghosts D) (s : Server) (made : List MadeObject) (log : GateLog D) : Type 0 where
   pub records : List (List ℕ)
   pub rest : IsAtRest k.tells k.seen k.may_leave journal_header records log
   pub lead : LeadTo records s
+  pub objects : made_by records ≡ made
 
 -- ---- a journaled server
 
 -- the server
 abbrev pub core_of : {D : Type 0} → JournaledServer D → Server
 core_of j = j.kept.server
+
+-- the objects that drives have made for it, as far as it was told
+abbrev pub made_of : {D : Type 0} → JournaledServer D → List MadeObject
+made_of j = j.made
 
 -- its disk
 abbrev pub disk_in : {D : Type 0} → JournaledServer D → D
@@ -43,10 +57,17 @@ disk_in j = disk_of j.log
 abbrev pub is_over_in : {D : Type 0} → JournaledServer D → Bool
 is_over_in j = j.is_over
 
--- its disk stands for what it keeps through a crash
+-- its disk stands for what it keeps through a crash, and tells of the objects that were made
 abbrev pub IsKept : {D : Type 0} → Ghosts D → JournaledServer D → Type 0
-IsKept k j = KeepsServer k (crash (core_of j)) j.log
+IsKept k j = KeepsServer k (crash (core_of j)) j.made j.log
 
 -- a crash at any moment between two states of a disk leaves what stands for the one server or for the other
 abbrev pub LeavesEither : {D : Type 0} → Ghosts D → (old new : D) → (before after : Server) → Type 0
 LeavesEither k old new before after = LeavesOnly k.moment k.left_since old new (StandForEither before after)
+
+-- While a journal is told of one object more, a crash leaves the server as it is, and all objects without that one or with it.
+abbrev pub LeavesMade : {D : Type 0} → Ghosts D → (old new : JournaledServer D) → MadeObject → Type 0
+LeavesMade k old new m =
+    LeavesOnly k.moment k.left_since (disk_in old) (disk_in new)
+    (λ c. IsJournalWith (crash (core_of old)) (made_of old) c
+    ⊎ IsJournalWith (crash (core_of old)) (made_of old ++ m ∷ []) c)

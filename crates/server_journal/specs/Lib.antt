@@ -4,6 +4,7 @@ pub mod Errors
 pub mod Header
 pub mod Journals
 pub mod Laws
+pub mod Made
 pub mod Opening
 pub mod Records
 pub mod Resting

@@ -13,7 +13,9 @@ use Rattle.server_state.specs.States.{Did}
 use Rattle.server_journal.specs.declared.server.JournaledServer.{JournaledServer}
 use Rattle.server_journal.specs.Counters.{CountsOn}
 use Rattle.server_journal.specs.Header.{journal_header}
-use Rattle.server_journal.specs.Journals.{IsJournalOf, IsKept, StandForEither, core_of, disk_in}
+use Rattle.server_journal.specs.declared.made.MadeObject.{MadeObject}
+use Rattle.server_journal.specs.Journals.{IsJournalOf, IsJournalWith, IsKept, StandForEither, core_of, disk_in, made_of}
+use Rattle.server_journal.specs.Made.{made_by}
 use Rattle.server_journal.specs.Records.{LeadTo, after_record}
 
 -- this header and these bodies stand in front of a gate, which is at this place
@@ -25,10 +27,11 @@ pub record StandBefore (header : List ℕ) (bodies : List (List ℕ)) (c : List 
   pub contents : c ≡ front ++ gate ∷ rest
   pub place : at ≡ length front
 
--- the records that a reader has read lead to the server
-pub record HasTaken {D : Type 0} (k : Ghosts D) (s : Server) (reader : LogReader D) : Type 0 where
+-- the records that a reader has read lead to the server, and tell of these objects
+pub record HasTaken {D : Type 0} (k : Ghosts D) (s : Server) (made : List MadeObject) (reader : LogReader D) : Type 0 where
   pub records : List (List ℕ)
   pub lead : LeadTo records s
+  pub objects : made_by records ≡ made
   pub read : HasRead k.tells k.seen k.may_leave journal_header records reader
 
 -- contents stand for the server that these contents stood for, before the step of its opening or after it
@@ -42,7 +45,7 @@ LeavesOpening k old new = LeavesOnly k.moment k.left_since old new (λ c. k.may_
 -- the contents of a disk stood for a server without jobs, and this is what the rules make of it at its opening
 pub record Opened {D : Type 0} (k : Ghosts D) (disk : D) (new : JournaledServer D) (out : Step) : Type 0 where
   pub before : Server
-  pub stood : IsJournalOf before (k.seen disk)
+  pub stood : IsJournalWith before (made_of new) (k.seen disk)
   pub did : Did out (core_of new) (reopen before)
   pub kept : IsKept k new
   pub counts : CountsOn before (core_of new)

@@ -9,6 +9,7 @@ mod drives;
 mod errors;
 mod header;
 mod laws;
+mod made;
 mod making;
 mod opening;
 mod orders;
@@ -17,4 +18,5 @@ mod server;
 
 pub use errors::{JournalErr, JournalFileErr};
 pub use laws::contents_stand_for_one_server;
+pub use made::{MadeObject, MadeObjects};
 pub use server::JournaledServer;

@@ -14,6 +14,7 @@ ghost use Rattle.server_journal.specs.Opening.{HasTaken, IsNoJournalAt};
 
 use crate::errors::JournalErr;
 use crate::header::{header_bytes, is_header};
+use crate::made::MadeObjects;
 use crate::record::take_record;
 use crate::server::JournaledServer;
 use gate_log::{GateLog, LogReader};
@@ -28,17 +29,19 @@ fn take_records<D: Disk>(
     alloc: Global,
     reader: &mut LogReader<D>,
     restoration: &mut Restoration,
+    made: &mut MadeObjects,
 ) -> Result<(), JournalErr>
-    ensures taken { OnOk result (HasTaken D.Disk restoration.old reader.old → HasTaken D.Disk restoration.new reader.new) }
+    ensures taken { OnOk result (HasTaken D.Disk restoration.old made.old reader.old
+        → HasTaken D.Disk restoration.new made.new reader.new) }
     ensures end { OnOk result (gate_of reader.new ≡ 0) }
-    ensures refused { IfErr result (NotAJournalSays (λ at. HasTaken D.Disk restoration.old reader.old
+    ensures refused { IfErr result (NotAJournalSays (λ at. HasTaken D.Disk restoration.old made.old reader.old
         → IsNoJournalAt (D.seen (read_disk reader.old)) at)) }
     ensures disk { OnlyRead D.tells D.seen D.may_leave D.moment D.left_since (read_disk reader.old) (read_disk reader.new) }
     ensures cause { HasJournalCause (D.faults (read_disk reader.old)) (D.faults (read_disk reader.new)) result }
 {
     let mut at = reader.place();
     while let Some(body) = reader.next(alloc)? {
-        match take_record(alloc, restoration, body.as_slice())? {
+        match take_record(alloc, restoration, made, body.as_slice())? {
             Applied::Done => {}
             Applied::Unmade => return Err(JournalErr::NotAJournal { at }),
         }
@@ -48,25 +51,31 @@ fn take_records<D: Disk>(
 }
 
 impl<D: Disk> JournaledServer<D> {
-    ghost use Rattle.server_journal.specs.Journals.{IsKept, KeepsServer, LeavesEither, core_of, disk_in, is_over_in};
+    ghost use Rattle.server_journal.specs.Journals.{IsKept, KeepsServer, LeavesEither, core_of, disk_in, is_over_in, made_of};
     ghost use Rattle.server_journal.specs.Opening.{LeavesOpening, Opened};
 
     // The server with its log, once what its first call changed is there.
-    fn begin(alloc: Global, kept: KeptServer, log: GateLog<D>) -> Result<Self, (JournalErr, D)>
+    fn begin(
+        alloc: Global,
+        kept: KeptServer,
+        made: MadeObjects,
+        log: GateLog<D>,
+    ) -> Result<Self, (JournalErr, D)>
         requires runs { over_of log ≡ false }
         ensures server { IfOk result (λ j. core_of j ≡ kept.server) }
-        ensures any_moment { IfOk result (λ j. (was : Server) → Follows was kept → KeepsServer D.Disk was log
+        ensures objects { IfOk result (λ j. made_of j ≡ made) }
+        ensures any_moment { IfOk result (λ j. (was : Server) → Follows was kept → KeepsServer D.Disk was made log
             → LeavesEither D.Disk (disk_of log) (disk_in j) was (crash kept.server)) }
-        ensures kept { IfOk result (λ j. (was : Server) → Follows was kept → KeepsServer D.Disk was log → IsKept D.Disk j) }
+        ensures kept { IfOk result (λ j. (was : Server) → Follows was kept → KeepsServer D.Disk was made log → IsKept D.Disk j) }
         ensures goes_on { IfOk result (λ j. is_over_in j ≡ false) }
-        ensures cut_off { IfErr result (λ e. (was : Server) → Follows was kept → KeepsServer D.Disk was log
+        ensures cut_off { IfErr result (λ e. (was : Server) → Follows was kept → KeepsServer D.Disk was made log
             → LeavesEither D.Disk (disk_of log) e.1 was (crash kept.server)) }
         ensures error { IfErr result (λ e. IsOfDisk e.0) }
         ensures cause { IfErr result (λ e. HasErrCause (D.faults (disk_of log)) (D.faults e.1) e.0) }
         ensures no_fault { IfOk result (λ j. D.faults (disk_in j) ≡ D.faults (disk_of log)) }
         ensures quiet { IfOk result (λ j. kept.changes.entries ≡ [] → disk_in j ≡ disk_of log) }
     {
-        let mut server = JournaledServer::of(alloc, kept, log);
+        let mut server = JournaledServer::of(alloc, kept, made, log);
         match server.keep() {
             Ok(()) => Ok(server),
             Err(e) => Err((e, server.into_disk())),
@@ -77,16 +86,18 @@ impl<D: Disk> JournaledServer<D> {
     fn reopen(
         alloc: Global,
         restoration: Restoration,
+        made: MadeObjects,
         log: GateLog<D>,
     ) -> Result<(Self, Step), (JournalErr, D)>
         requires runs { over_of log ≡ false }
         ensures did { IfOk result (λ found. Did found.1 (core_of found.0) (reopen restoration)) }
-        ensures any_moment { IfOk result (λ found. KeepsServer D.Disk restoration log
+        ensures objects { IfOk result (λ found. made_of found.0 ≡ made) }
+        ensures any_moment { IfOk result (λ found. KeepsServer D.Disk restoration made log
             → LeavesEither D.Disk (disk_of log) (disk_in found.0) restoration (crash (reopen restoration).state)) }
-        ensures kept { IfOk result (λ found. KeepsServer D.Disk restoration log → IsKept D.Disk found.0) }
+        ensures kept { IfOk result (λ found. KeepsServer D.Disk restoration made log → IsKept D.Disk found.0) }
         ensures counts { IfOk result (λ found. CountsOn restoration (core_of found.0)) }
         ensures goes_on { IfOk result (λ found. is_over_in found.0 ≡ false) }
-        ensures cut_off { IfErr result (λ e. KeepsServer D.Disk restoration log
+        ensures cut_off { IfErr result (λ e. KeepsServer D.Disk restoration made log
             → LeavesEither D.Disk (disk_of log) e.1 restoration (crash (reopen restoration).state)) }
         ensures error { IfErr result (λ e. IsOfDisk e.0) }
         ensures cause { IfErr result (λ e. HasErrCause (D.faults (disk_of log)) (D.faults e.1) e.0) }
@@ -97,7 +108,7 @@ impl<D: Disk> JournaledServer<D> {
             Ok(opened) => opened,
             Err(_) => return Err((JournalErr::Memory, log.into_disk())),
         };
-        match JournaledServer::begin(alloc, kept, log) {
+        match JournaledServer::begin(alloc, kept, made, log) {
             Ok(server) => Ok((server, step)),
             Err(refusal) => Err(refusal),
         }
@@ -114,6 +125,7 @@ impl<D: Disk> JournaledServer<D> {
     pub fn create(alloc: Global, disk: D, drives: DriveTable) -> Result<Self, (JournalErr, D)>
         requires drives { CanAdd [] drives }
         ensures server { IfOk result (λ j. core_of j ≡ new_server (and_drives [] drives)) }
+        ensures none { IfOk result (λ j. made_of j ≡ []) }
         ensures kept { IfOk result (λ j. IsTrue (D.tells disk) → IsKept D.Disk j) }
         ensures empty { IfOk result (λ j. IsTrue (D.tells disk) → D.seen disk ≡ []) }
         ensures goes_on { IfOk result (λ j. is_over_in j ≡ false) }
@@ -131,7 +143,8 @@ impl<D: Disk> JournaledServer<D> {
             Ok(log) => log,
             Err((e, disk)) => return Err((JournalErr::from(e), disk)),
         };
-        match JournaledServer::begin(alloc, kept, log) {
+        let made = MadeObjects::new(alloc);
+        match JournaledServer::begin(alloc, kept, made, log) {
             Ok(server) => Ok(server),
             Err(refusal) => Err(refusal),
         }
@@ -163,11 +176,12 @@ impl<D: Disk> JournaledServer<D> {
             return Err((JournalErr::NotAJournal { at: 0 }, reader.into_disk()));
         }
         let mut restoration = Restoration::new(alloc);
-        match take_records(alloc, &mut reader, &mut restoration) {
+        let mut made = MadeObjects::new(alloc);
+        match take_records(alloc, &mut reader, &mut restoration, &mut made) {
             Ok(()) => {}
             Err(e) => return Err((e, reader.into_disk())),
         }
-        match JournaledServer::reopen(alloc, restoration, reader.into_log()) {
+        match JournaledServer::reopen(alloc, restoration, made, reader.into_log()) {
             Ok(opened) => Ok(opened),
             Err(refusal) => Err(refusal),
         }

@@ -1,5 +1,5 @@
 // A server and its log.
-ghost use Rattle.std.specs.Prelude.{◌≡◌, ◌↔◌, [], List, ℕ, false, is_err, map, option_map, IsTrue, IfOk, IfErr, OnOk, OnErr};
+ghost use Rattle.std.specs.Prelude.{◌≡◌, ◌↔◌, ◌++◌, ◌∷◌, [], List, ℕ, false, is_err, map, option_map, IsTrue, IfOk, IfErr, OnOk, OnErr};
 ghost use Rattle.std.specs.Option.{option_copied};
 ghost use Rattle.gate_log.specs.Standing.{over_of};
 ghost use Rattle.server_rules.specs.Envelopes.{on_bytes};
@@ -15,8 +15,9 @@ ghost use Rattle.server_journal.specs.declared.errors.JournalErr.TheVariants.{Me
 ghost use Rattle.server_journal.specs.Errors.{HasJournalCause, IsOfDisk};
 
 use crate::errors::JournalErr;
+use crate::made::{MadeObject, MadeObjects, made_bytes};
 use crate::record::entry_of;
-use gate_log::GateLog;
+use gate_log::{Entry, GateLog};
 use kept_server::KeptServer;
 use layout_server::{Sends, Step};
 use osd_disk::Disk;
@@ -30,6 +31,8 @@ use stripe_repair::Place;
 pub struct JournaledServer<D> {
     alloc: Global,
     pub(crate) kept: KeptServer,
+    // What drives have made for it, as its log tells.
+    made: MadeObjects,
     log: GateLog<D>,
     // A call that changes the server began and wasn't answered.
     pub(crate) is_over: bool,
@@ -37,16 +40,17 @@ pub struct JournaledServer<D> {
 }
 
 impl<D> JournaledServer<D> {
-    ghost use Rattle.server_journal.specs.Journals.{core_of, disk_in, is_over_in};
+    ghost use Rattle.server_journal.specs.Journals.{core_of, disk_in, is_over_in, made_of};
 
     // The server with its log, before its first call.
-    pub(crate) fn of(alloc: Global, kept: KeptServer, log: GateLog<D>) -> Self
+    pub(crate) fn of(alloc: Global, kept: KeptServer, made: MadeObjects, log: GateLog<D>) -> Self
         requires { over_of log ≡ false }
-        ensures { (result.kept ≡ kept) × (result.log ≡ log) × (is_over_in result ≡ false) }
+        ensures { (result.kept ≡ kept) × (result.log ≡ log) × (made_of result ≡ made) × (is_over_in result ≡ false) }
     {
         JournaledServer {
             alloc,
             kept,
+            made,
             log,
             is_over: false,
         }
@@ -130,19 +134,28 @@ impl<D> JournaledServer<D> {
     {
         self.kept.drives()
     }
+
+    /// The objects that drives have made for the server, as far as it was told, in the order in which it was.
+    pub fn made(&self) -> &[MadeObject]
+        ensures { result.now ≡ made_of self.now }
+    {
+        self.made.as_slice()
+    }
 }
 
 impl<D: Disk> JournaledServer<D> {
     ghost use Rattle.server_journal.specs.Calls.{Answered, CutOff};
-    ghost use Rattle.server_journal.specs.Journals.{IsKept, KeepsServer, LeavesEither, core_of, disk_in, is_over_in};
+    ghost use Rattle.server_journal.specs.Journals.{IsKept, KeepsServer, LeavesEither, core_of, disk_in, is_over_in, made_of};
+    ghost use Rattle.server_journal.specs.Journals.{LeavesMade};
 
     // Has the record of the last call on the disk.
     fn append(&mut self) -> Result<(), JournalErr>
         requires runs { over_of self.old.log ≡ false }
         ensures kept_server { self.new.kept ≡ self.old.kept }
-        ensures any_moment { (was : Server) → Follows was self.old.kept → KeepsServer D.Disk was self.old.log
+        ensures kept_made { made_of self.new ≡ made_of self.old }
+        ensures any_moment { (was : Server) → Follows was self.old.kept → KeepsServer D.Disk was self.old.made self.old.log
             → LeavesEither D.Disk (disk_in self.old) (disk_in self.new) was (crash (core_of self.old)) }
-        ensures kept { OnOk result ((was : Server) → Follows was self.old.kept → KeepsServer D.Disk was self.old.log
+        ensures kept { OnOk result ((was : Server) → Follows was self.old.kept → KeepsServer D.Disk was self.old.made self.old.log
             → IsKept D.Disk self.new) }
         ensures error { IfErr result IsOfDisk }
         ensures over { is_over_in self.new ≡ is_err result }
@@ -162,9 +175,10 @@ impl<D: Disk> JournaledServer<D> {
     pub(crate) fn keep(&mut self) -> Result<(), JournalErr>
         requires runs { over_of self.old.log ≡ false }
         ensures kept_server { self.new.kept ≡ self.old.kept }
-        ensures any_moment { (was : Server) → Follows was self.old.kept → KeepsServer D.Disk was self.old.log
+        ensures kept_made { made_of self.new ≡ made_of self.old }
+        ensures any_moment { (was : Server) → Follows was self.old.kept → KeepsServer D.Disk was self.old.made self.old.log
             → LeavesEither D.Disk (disk_in self.old) (disk_in self.new) was (crash (core_of self.old)) }
-        ensures kept { OnOk result ((was : Server) → Follows was self.old.kept → KeepsServer D.Disk was self.old.log
+        ensures kept { OnOk result ((was : Server) → Follows was self.old.kept → KeepsServer D.Disk was self.old.made self.old.log
             → IsKept D.Disk self.new) }
         ensures quiet { self.old.kept.changes.entries ≡ [] → disk_in self.new ≡ disk_in self.old }
         ensures error { IfErr result IsOfDisk }
@@ -179,6 +193,35 @@ impl<D: Disk> JournaledServer<D> {
             Ok(()) => Ok(()),
             Err(stop) => Err(stop),
         }
+    }
+
+    /// A drive has made an object for the server, as its answer to a CREATE said. That is on the disk at `Ok`, and the server
+    /// is as it was: a crash at any moment of the call leaves it with all objects that were made before, and with this one or
+    /// without it.
+    ///
+    /// # Errors
+    ///
+    /// [`JournalErr::DiskFault`] and [`JournalErr::Memory`], after which the server is over.
+    pub fn keep_made(&mut self, object: MadeObject) -> Result<(), JournalErr>
+        requires goes_on { is_over_in self.old ≡ false }
+        ensures server { core_of self.new ≡ core_of self.old }
+        ensures made { OnOk result (made_of self.new ≡ made_of self.old ++ object ∷ []) }
+        ensures any_moment { IsKept D.Disk self.old → LeavesMade D.Disk self.old self.new object }
+        ensures kept { OnOk result (IsKept D.Disk self.old → IsKept D.Disk self.new) }
+        ensures error { IfErr result IsOfDisk }
+        ensures over { is_over_in self.new ≡ is_err result }
+        ensures cause { HasJournalCause (D.faults (disk_in self.old)) (D.faults (disk_in self.new)) result }
+    {
+        self.is_over = true;
+        let bytes = made_bytes(object);
+        let entry = Entry::new(self.alloc, &bytes)?;
+        self.made.push(object)?;
+        match self.log.append(&entry) {
+            Ok(()) => {}
+            Err(e) => return Err(JournalErr::from(e)),
+        }
+        self.is_over = false;
+        Ok(())
     }
 
     /// Bytes come from a node, at a time of the server's clock in seconds. Nothing changes where they can't be read,

@@ -4,6 +4,7 @@ use Rattle.call_io.specs.Phases.{phase_of}
 use Rattle.client_rules.specs.declared.client.Client.{Client}
 use Rattle.client_rules.specs.declared.calls.Call.{Call}
 use Rattle.client_rules.specs.declared.steps.Done.{Done}
+use Rattle.client_rules.specs.Steps.{new_client}
 use Rattle.stripe_client.specs.declared.state.PendingCall.{PendingCall}
 use Rattle.stripe_client.specs.declared.state.State.{State}
 use Rattle.stripe_client.specs.declared.state.Made.{Made}
@@ -27,6 +28,10 @@ client_of s = record {
   due = s.due;
   call = option_map call_of s.call;
 }
+
+-- a client that is over: it has nothing, and no number is left for a request
+abbrev pub over : Client → Client
+over c = new_client c.number 0
 
 -- in the middle of a step; a request that the step sent is the outstanding one
 abbrev pub done_of : State → Made → Done

@@ -1,8 +1,8 @@
-ghost use Rattle.std.specs.Prelude.{◌≡◌, ◌≤◌, ◌<◌, None, IfOk, OnOk};
+ghost use Rattle.std.specs.Prelude.{◌≡◌, ◌≤◌, ◌<◌, None, IfOk, IsErrOf, OnOk, OnErr};
 ghost use Rattle.client_rules.specs.declared.limits.TheConstants.{MAX_CLIENT};
 ghost use Rattle.client_rules.specs.Envelopes.{in_envelope, on_message_in, on_bytes};
 ghost use Rattle.osd_lists.specs.declared.node.Node.TheVariants as node;
-ghost use Rattle.stripe_client.specs.States.{client_of};
+ghost use Rattle.stripe_client.specs.States.{client_of, over};
 ghost use Rattle.stripe_client.specs.Inside.{IsInside};
 ghost use Rattle.client_rules.specs.Steps.{new_client, calls, times_out, leaves, resent, awaits, awaited_component, next_sequence};
 ghost use Rattle.std.specs.Option.{option_copied, option_map};
@@ -23,11 +23,16 @@ use osd_commands::{CommandErr, read_reply};
 use osd_lists::{Memory, Node};
 use std::alloc::Global;
 use std::marker::Model;
+use std::mem;
 
 /// A client of striped files. It asks the metadata server for layouts, and reads and writes the drives directly.
 ///
 /// Contracts see it as the rules' `Client`. Each call says with the rules' function of its step which state follows,
 /// what is sent, and how the pending call ended.
+///
+/// A call that finds no memory in the middle of its step ends the client: it is over then. A client that is over has no
+/// pending call, holds no grant, awaits nothing, and has no number left for a request. So by the rules it takes no call,
+/// and sends nothing more but the answers to recalls, that it doesn't hold the grant.
 #[derive(Drop)]
 pub struct ClientCore {
     alloc: Global,
@@ -90,6 +95,20 @@ fn from_drive(state: &mut State, alloc: Global, drive: u32, bytes: &[u8]) -> Res
     }
 }
 
+// What bytes from a party say.
+#[tactic(auto, unfolding(client_rules::specs::Envelopes::message_in))]
+fn hear(state: &mut State, alloc: Global, from: Node, bytes: &[u8]) -> Result<CStep, Memory>
+    requires { IsInside state.old }
+    ensures step { IfOk result (λ s. IsStep (on_bytes (client_of state.old) from bytes.now) (client_of state.new) s) }
+    ensures inside { IsInside state.new }
+{
+    match from {
+        Node::Server => from_server(state, alloc, bytes),
+        Node::Drive(drive) => from_drive(state, alloc, drive, bytes),
+        Node::Client(_) => Ok(still(alloc)),
+    }
+}
+
 impl ClientCore {
     /// A client that has done nothing, with its number, and the number of its first request, at least 1. It takes
     /// no memory.
@@ -111,35 +130,49 @@ impl ClientCore {
         }
     }
 
+    // The state, in whose place that of a client that is over stands until the step is done.
+    fn begin(&mut self) -> State
+        ensures value { client_of result ≡ self.old }
+        ensures inside { IsInside result }
+        ensures over { self.new ≡ over self.old }
+    {
+        let number = self.state.number;
+        mem::replace(&mut self.state, State::over(self.alloc, number))
+    }
+
     /// Begins a call.
     ///
     /// # Errors
     ///
-    /// As [`CallErr`] says, the first that holds; nothing has changed then. Want of memory may come in the middle.
+    /// As [`CallErr`] says, the first that holds; nothing has changed then. Want of memory comes behind the others, and
+    /// the client is over then.
     #[tactic(auto, unfolding(client_rules::specs::Steps::calls))]
     pub fn call(&mut self, op: CallOp) -> Result<CStep, CallErr>
-        ensures { Gives (calls self.old op) self.old self.new result }
+        ensures gives { Gives (calls self.old op) self.old self.new result }
+        ensures over { IsErrOf result CallErr.Memory → self.new ≡ over self.old }
     {
         if let Some(refusal) = calling::refusal(&self.state, &op) {
             return Err(refusal);
         }
-        Ok(calling::start(&mut self.state, self.alloc, op)?)
+        let mut state = self.begin();
+        let step = calling::start(&mut state, self.alloc, op)?;
+        self.state = state;
+        Ok(step)
     }
 
     /// Takes bytes from a party. Bytes in which there is no message for this client change nothing.
     ///
     /// # Errors
     ///
-    /// Want of memory alone, which may come in the middle.
-    #[tactic(auto, unfolding(client_rules::specs::Envelopes::message_in))]
+    /// Want of memory alone; the client is over then.
     pub fn on_message(&mut self, from: Node, bytes: &[u8]) -> Result<CStep, Memory>
-        ensures { IfOk result (λ s. IsStep (on_bytes self.old from bytes.now) self.new s) }
+        ensures step { IfOk result (λ s. IsStep (on_bytes self.old from bytes.now) self.new s) }
+        ensures over { OnErr result (self.new ≡ over self.old) }
     {
-        match from {
-            Node::Server => from_server(&mut self.state, self.alloc, bytes),
-            Node::Drive(drive) => from_drive(&mut self.state, self.alloc, drive, bytes),
-            Node::Client(_) => Ok(still(self.alloc)),
-        }
+        let mut state = self.begin();
+        let step = hear(&mut state, self.alloc, from, bytes)?;
+        self.state = state;
+        Ok(step)
     }
 
     /// Goes on without component `component` of the pending call's file. Where no command to it is awaited nothing
@@ -147,11 +180,15 @@ impl ClientCore {
     ///
     /// # Errors
     ///
-    /// Want of memory alone, which may come in the middle.
+    /// Want of memory alone; the client is over then.
     pub fn timeout(&mut self, component: u32) -> Result<CStep, Memory>
-        ensures { IfOk result (λ s. IsStep (times_out self.old component) self.new s) }
+        ensures step { IfOk result (λ s. IsStep (times_out self.old component) self.new s) }
+        ensures over { OnErr result (self.new ≡ over self.old) }
     {
-        hear_nothing(&mut self.state, self.alloc, component)
+        let mut state = self.begin();
+        let step = hear_nothing(&mut state, self.alloc, component)?;
+        self.state = state;
+        Ok(step)
     }
 
     /// The messages whose answers are awaited, once more: the outstanding request, then the commands by stripe,
@@ -166,13 +203,16 @@ impl ClientCore {
     ///
     /// # Errors
     ///
-    /// Want of memory alone, which may come in the middle.
+    /// Want of memory alone; the client is over then.
     pub fn leave(&mut self) -> Result<Sends, Memory>
         requires { self.old.call ≡ None }
         ensures client { OnOk result (self.new ≡ (leaves self.old).client) }
         ensures sends { IfOk result (λ sends. sends ≡ spelled (leaves self.old).sends) }
+        ensures over { OnErr result (self.new ≡ over self.old) }
     {
-        let step = calling::leave(&mut self.state, self.alloc)?;
+        let mut state = self.begin();
+        let step = calling::leave(&mut state, self.alloc)?;
+        self.state = state;
         Ok(step.sends)
     }
 

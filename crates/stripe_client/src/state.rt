@@ -1,8 +1,14 @@
+ghost use Rattle.std.specs.Prelude.{◌≡◌};
+ghost use Rattle.client_rules.specs.Steps.{new_client};
+ghost use Rattle.stripe_client.specs.Inside.{IsInside};
+ghost use Rattle.stripe_client.specs.States.{client_of};
+
 use crate::outstanding::Outstanding;
 use call_io::CallPhase;
 use client_rules::{AwaitedCommands, CallOp, Outcome};
 use held_grants::{Dues, HeldGrants};
 use layout_ops::RecallAnswer;
+use std::alloc::Global;
 
 /// A pending call.
 #[derive(Drop)]
@@ -24,6 +30,23 @@ pub struct State {
     /// The grants that are to be returned, in the order in which they became due.
     pub due: Dues,
     pub call: Option<PendingCall>,
+}
+
+impl State {
+    /// The state of a client of that number that is over: it has nothing, and no number for a request. It takes no memory.
+    pub(crate) fn over(alloc: Global, number: u32) -> Self
+        ensures value { client_of result ≡ new_client number 0 }
+        ensures inside { IsInside result }
+    {
+        State {
+            number,
+            next: 0,
+            outstanding: Outstanding::none(),
+            held: HeldGrants::new(alloc),
+            due: Dues::new(alloc),
+            call: None,
+        }
+    }
 }
 
 /// What a step has made so far.

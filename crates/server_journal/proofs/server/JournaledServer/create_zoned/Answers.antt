@@ -18,7 +18,7 @@ returns-in-Err-clause-refused g c =
     let reason = c.in-Err.ensures.refused other in
     rw c.from.ensures
     (refused g.D.Disk c.args.self.now _ c.args.file c.args.raw c.args.tag true c.in-Err.e other reason.0 reason.1 reason.2
-    (record { server = reason.3; log = refl; goes_on = refl }))
+    (record { server = reason.3; log = refl; made = refl; goes_on = refl }))
 
 pub returns-in-Ok-keep-clause-made : goal.returns-in-Ok-keep-clause-made
 returns-in-Ok-keep-clause-made g c = rw c.keep.ensures.kept_server c.in-Ok.ensures.made

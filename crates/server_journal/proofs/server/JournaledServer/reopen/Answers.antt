@@ -11,7 +11,7 @@ use Rattle.server_journal.proofs.server.JournaledServer.reopen.Goals as goal
 pub returns-in-Err-clause-cut_off : goal.returns-in-Err-clause-cut_off
 returns-in-Err-clause-cut_off g c kept =
     rw c.into_disk.ensures
-    (still g.D.Disk g.met.D.Disk.only_now c.args.restoration (crash (reopen c.args.restoration).state) c.args.log kept)
+    (still g.D.Disk g.met.D.Disk.only_now c.args.restoration (crash (reopen c.args.restoration).state) c.args.made c.args.log kept)
 
 pub returns-in-Ok-begin-clause-did : goal.returns-in-Ok-begin-clause-did
 returns-in-Ok-begin-clause-did g c = rw c.in-Ok-begin.ensures.server c.in-Ok.ensures.did
