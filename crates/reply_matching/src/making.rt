@@ -54,7 +54,11 @@ fn is_create(action: Action) -> bool
 /// # Errors
 ///
 /// [`Memory`], if the reading of either finds none.
-pub fn creation_told(alloc: Global, message: &[u8], reply: &[u8]) -> Result<Option<Creation>, Memory>
+pub fn creation_told(
+    alloc: Global,
+    message: &[u8],
+    reply: &[u8],
+) -> Result<Option<Creation>, Memory>
     ensures { IfOk result (λ said. said ≡ creation_told message.now reply.now) }
 {
     let command = match read_command(alloc, message) {
