@@ -160,7 +160,7 @@ class Seeing(unittest.TestCase):
 
 
 class Status(Seeing):
-    """What `status`, `ls` and `watch` say."""
+    """What `status`, `metrics`, `ls` and `watch` say."""
 
     def test_all_is_well(self):
         self.cluster({0: (5000, [0, 1, 2]), 3: (0, [2, 0, 1])})
@@ -233,6 +233,24 @@ class Status(Seeing):
     def test_ls(self):
         self.cluster({0: (5000, [0, 1, 2]), 7: None})
         self.assertEqual(self.tool("ls"), "f0 5000 whole\nf7 - absent\n")
+
+    def test_metrics(self):
+        closed = Peer(lambda record: b"")
+        closed.close()
+        self.cluster({0: (5000, [0, None, 1]), 7: None}, [self.peer(lambda record: b"format"), closed.port])
+        store = os.path.join(self.folder, 'd"0.store')
+        with open(store, "wb") as file:
+            file.write(b"x" * 25)
+        lines = self.tool("metrics", "--store", store, "--store", "nowhere").split("\n")
+        name = store.replace('"', '\\"')
+        for line in ("pnfs_well 0", 'pnfs_up{party="server"} 1', 'pnfs_up{party="d0"} 1', 'pnfs_up{party="d1"} 0',
+                     'pnfs_file_size_bytes{file="f0"} 5000', 'pnfs_file_missing_components{file="f0"} 1',
+                     'pnfs_file_state{file="f0",state="missing"} 1', 'pnfs_file_state{file="f0",state="whole"} 0',
+                     'pnfs_file_state{file="f7",state="absent"} 1', f'pnfs_store_bytes{{store="{name}"}} 25'):
+            self.assertIn(line, lines)
+        self.assertFalse([line for line in lines if line.startswith(('pnfs_answer_seconds{party="d1"', 'pnfs_file_size_bytes{file="f7"'))])
+        told = [line.split()[2] for line in lines if line.startswith("# TYPE")]
+        self.assertEqual(len(told), len(set(told)))
 
     def test_the_client_number_is_held(self):
         self.cluster({0: (1, [0, 1, 2])})

@@ -12,6 +12,7 @@ from .copying import MAX_FILE, Progress, put, put_out, read_all, refuse_end, res
 from .drives import ask_drive
 from .ends import DONE, INPUT, NOT_ASKED, NOT_WELL, OUTPUT, SHORT, STOPPED, End
 from .lock import hold, release
+from .metrics import as_metrics
 from .program import Program, program_path
 from .seeing import Onlooker, see_cluster, see_files
 from .showing import as_json, as_list, as_text
@@ -109,9 +110,12 @@ TOLD_BEHIND = {
 
 
 def show_cluster(words: argparse.Namespace, cluster: Cluster) -> int:
-    """Carries out status, ls or watch."""
+    """Carries out status, metrics, ls or watch."""
     if words.command == "ls":
         put_text(as_list(see_files(cluster, Onlooker(cluster.server, words.client))))
+        return DONE
+    if words.command == "metrics":
+        put_text(as_metrics(see_cluster(cluster, words.client, spare_file(cluster)), words.store))
         return DONE
     while True:
         seen = see_cluster(cluster, words.client, spare_file(cluster))
@@ -157,7 +161,7 @@ def carry_out(words: argparse.Namespace) -> int:
     """Carries out the words."""
     cluster = cluster_of(words.cluster)
     tell = (lambda line: None) if words.quiet else say
-    if words.command in ("status", "ls", "watch"):
+    if words.command in ("status", "metrics", "ls", "watch"):
         with held(cluster, words, tell):
             return show_cluster(words, cluster)
     path = program_path(words.program)

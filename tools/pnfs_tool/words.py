@@ -15,6 +15,7 @@ calls (they use a number of the client, which the tool asks the server for):
 to see how the cluster is (each asks for a layout of a file's first byte, like a reader, and gives it back):
   status [--json]           drives, server and files: who answers, what is missing, what waits for what. Status 24 if
                             something doesn't answer or lacks something
+  metrics [--store NAME]..  the same for Prometheus, in its text format, with the size of each store or journal NAME that can be seen here
   ls                        the files: number, size and state
   watch [SECONDS]           'status' again and again, every 5 seconds or as many as are given
 
@@ -111,6 +112,8 @@ def parser() -> argparse.ArgumentParser:
         if name in ("revoke", "rebuild", "audit"):
             command.add_argument("--wait", action="store_true", help="end when no job of the file runs any more")
     commands.add_parser("status", allow_abbrev=False).add_argument("--json", action="store_true", help="for programs")
+    metrics = commands.add_parser("metrics", allow_abbrev=False)
+    metrics.add_argument("--store", metavar="NAME", action="append", default=[], help="a store or journal whose size is told")
     commands.add_parser("ls", allow_abbrev=False)
     watch = commands.add_parser("watch", allow_abbrev=False)
     watch.add_argument("seconds", type=number, nargs="?", default=5, metavar="SECONDS")
