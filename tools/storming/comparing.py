@@ -8,7 +8,8 @@ from transcripts.commands import VERDICTS
 from transcripts.lines import NoTranscript, read_transcript, text_lines
 from transcripts.spelling import Unreadable, in_hex
 
-from .mapping import Mapping, Told
+from .mapping import Mapping
+from .sides import Told
 
 NUMBERED = ('tag', 'nospace', 'stale')
 

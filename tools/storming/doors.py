@@ -23,6 +23,10 @@ class Trouble(Exception):
     """A process did what none of them may do, so nothing is to be compared."""
 
 
+class Slow(Trouble):
+    """It may have done so since the machine was too slow: an exchange took longer than a process waits."""
+
+
 def framed(record: bytes) -> bytes:
     """A record as a stream has it."""
     return (LAST_FRAGMENT | len(record)).to_bytes(4, 'big') + record

@@ -4,92 +4,23 @@ What was seen leaves two things open. When a process was killed, nobody may know
 given: that is a choice. And clocks: a grant's time is read off the layout; no other time matters, since a run is short beside
 the 90 seconds after which a grant expires.
 """
-from collections import deque
-from typing import Deque, Dict, List, NamedTuple, Optional, Set, Tuple
+from typing import Dict, List, Optional, Set, Tuple
 
 from judging.faults import Fault
-from transcripts import commands, envelopes, structures
+from transcripts import envelopes
 from transcripts.lines import Note, Sent
-from transcripts.messages import fields_of
-from transcripts.spelling import Unreadable, in_hex
+from transcripts.spelling import in_hex
 
+from .answers import is_repeat, order_answer, order_bytes, time_in, unlike
 from .guide import Guide
 from .seen import Seen
+from .sides import Choices, ClientSide, Difference, ServerSide, Told
 from .town import Text, read_text
 
-GRANT_SECONDS = 90
 # a drive that keeps the server waiting so long, or nearly, isn't asked for a while
 PATIENCE = 2.3
 # what a process of a client ends with that goes on under its number
 IN_ORDER = (0, 10)
-
-
-class Difference(Exception):
-    """What was seen isn't what the rules give: where, and why."""
-
-    def __init__(self, at: int, why: str) -> None:
-        super().__init__(why)
-        self.at, self.why = at, why
-
-
-class Told(NamedTuple):
-    """What a process printed: that of a call, or the notes of a server. `killed`: it may have done more than it printed."""
-
-    who: str
-    lines: Tuple[str, ...]
-    killed: bool
-
-
-class Choices:
-    """What was left open, in the order in which it came up, and what is taken."""
-
-    def __init__(self, taken: List[int]) -> None:
-        self.taken = taken
-        self.ways: List[int] = []
-
-    def choose(self, ways: int) -> int:
-        """One of so many ways."""
-        self.ways.append(ways)
-        if len(self.taken) < len(self.ways):
-            self.taken.append(0)
-        return self.taken[len(self.ways) - 1]
-
-    def next(self) -> Optional[List[int]]:
-        """The next choices that differ in one that was asked for; none if all were tried."""
-        for n in range(len(self.ways) - 1, -1, -1):
-            if self.taken[n] + 1 < self.ways[n]:
-                return self.taken[:n] + [self.taken[n] + 1]
-        return None
-
-
-class ClientSide:
-    """A client of the run: what its process has to send, in order."""
-
-    def __init__(self) -> None:
-        self.queue: Deque[int] = deque()
-        self.asked: Dict[int, int] = {}
-        self.has_left = True
-        self.is_over = False
-        # the order that it hands over, and what it was answered
-        self.order: Optional[str] = None
-        self.result = ''
-
-
-class ServerSide:
-    """The server of the run: what its process has to send, in order, and what it has to take then."""
-
-    def __init__(self) -> None:
-        self.is_up = False
-        self.is_known = False
-        self.queue: Deque[int] = deque()
-        self.making: List[Tuple[str, ...]] = []
-        self.heard: Deque[Seen] = deque()
-        # the connection that is served, who is answered there, and what he has to get
-        self.sender = ''
-        self.due: Deque[Tuple[int, str]] = deque()
-        # its exchange that is under way, and the drives that gave it no answer in time: for a while it leaves them alone
-        self.asking: Optional[int] = None
-        self.late: Set[str] = set()
 
 
 class Mapping:
@@ -130,6 +61,9 @@ class Mapping:
                 raise Difference(self.at, 'at "%s": %s' % (step.title(), fault)) from fault
             except LookupError as lacking:
                 raise self.differ('it goes on from a step that isn\'t there: %r' % lacking) from lacking
+        for who, side in self.clients.items():
+            if side.runs or side.order is not None:
+                raise self.differ('the last process of %s never ended' % who)
 
     def differ(self, why: str) -> Difference:
         """A difference at this step."""
@@ -206,6 +140,9 @@ class Mapping:
         if side is None:
             side = self.clients[step.who] = ClientSide()
             self.goes('client %s' % step.who)
+        if side.runs:
+            raise self.differ('its process before never ended')
+        side.runs = True
         if self.guide.clients[int(step.who[1:])].next != step.number:
             raise self.differ('its first request has number %d' % self.guide.clients[int(step.who[1:])].next)
         side.has_left = False
@@ -221,7 +158,7 @@ class Mapping:
     def on_orders(self, step: Seen) -> None:
         """A process of a client begins, which hands over an order."""
         side = self.clients.setdefault(step.who, ClientSide())
-        side.order = step.text
+        side.order, side.has_ordered, side.result = step.text, False, ''
 
     def on_asks(self, step: Seen) -> None:
         """A party sent a whole record."""
@@ -229,7 +166,12 @@ class Mapping:
             self.server_asks(step)
             return
         side = self.clients[step.who]
-        if side.order is not None or side.is_over:
+        if side.order is not None:
+            if side.has_ordered or step.record != order_bytes(side.order):
+                raise self.differ('this isn\'t the order "%s", once' % side.order)
+            side.has_ordered = True
+            return
+        if side.is_over:
             return
         if not side.queue:
             raise self.differ('by the rules nothing is to be sent')
@@ -270,9 +212,10 @@ class Mapping:
     def on_says(self, step: Seen) -> None:
         """A process of a client has ended."""
         side = self.clients[step.who]
+        side.runs = False
         if side.order is not None:
             side.order = None
-            if step.number in IN_ORDER and step.lines != (side.result, 'next 1'):
+            if step.number in IN_ORDER and (not side.has_ordered or step.lines != (side.result, 'next 1')):
                 raise self.differ('it was answered "%s"' % side.result)
             return
         self.printed.append(Told(step.who, step.lines, step.number < 0))
@@ -496,10 +439,13 @@ class Mapping:
     def on_notes(self, step: Seen) -> None:
         """What the process of the server told of files."""
         killed = self.steps[self.at + 1].text == 'killed'
+        self.server.has_told = True
         self.printed.append(Told('s', step.lines, killed))
 
     def on_ends(self, step: Seen) -> None:
         """A process of a drive or the server was ended."""
+        if step.who == 's' and not self.server.has_told:
+            raise self.differ('nobody heard what it told')
         if step.text == 'over':
             if step.who == 's':
                 self.rests(None)
@@ -514,41 +460,3 @@ class Mapping:
                 self.unseen[number] = 'killed'
             self.server = ServerSide()
             self.server.is_known = True
-
-
-def order_answer(order: int, result: int) -> bytes:
-    """The bytes of an answer to an order."""
-    return envelopes.numbers(envelopes.ORDER_ANSWER, order, result)
-
-
-def is_repeat(record: Optional[bytes], guide: Guide) -> bool:
-    """The request has a number that the server has carried out before, so its answer is an old one."""
-    envelope = envelopes.maybe_envelope(record or b'')
-    if not isinstance(envelope, envelopes.Request):
-        return False
-    slot = guide.server.slots.get(envelope.client)
-    return slot is not None and slot[0] >= envelope.sequence
-
-
-def time_in(answer: bytes) -> Optional[int]:
-    """The time at which a layout was given, by the expiry of its capabilities."""
-    envelope = envelopes.maybe_envelope(answer)
-    if not isinstance(envelope, envelopes.Answer) or not isinstance(envelope.result, envelopes.Granted):
-        return None
-    layout = structures.maybe(structures.layout_in, envelope.result.layouts[0].body)
-    for credential in layout.components if layout else []:
-        if credential.version != structures.MISSING:
-            try:
-                return commands.read_capability(credential.capability).expiry - GRANT_SECONDS
-            except Unreadable:
-                return None
-    return None
-
-
-def unlike(wanted: Sent, data: bytes) -> str:
-    """The first field in which bytes differ from a message."""
-    for (key, value), (other_key, other) in zip(fields_of(wanted), fields_of(wanted._replace(data=data))):
-        if (key, value) != (other_key, other):
-            return '%s is "%s", and by the rules %s is "%s"' % (other_key, other[:80], key, value[:80])
-    at = next((n for n, (a, b) in enumerate(zip(wanted.data, data)) if a != b), min(len(wanted.data), len(data)))
-    return 'the bytes differ at %d' % at

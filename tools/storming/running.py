@@ -8,7 +8,7 @@ import time
 from random import Random
 from typing import Any, Coroutine, Dict, List, NamedTuple, Optional, Set, Tuple
 
-from .doors import ANSWERING, SETTLING, Door, DriveDoor, Process, ServerDoor, Trouble, framed, record_from
+from .doors import ANSWERING, SETTLING, Door, DriveDoor, Process, ServerDoor, Slow, Trouble, framed, record_from
 from .seen import Log, Seen
 from .town import AT_DRIVES, AT_SERVER, LAST, ORDERS, Text, Town
 
@@ -51,6 +51,8 @@ class Run:
         self.trouble: Optional[BaseException] = None
         self.numbers = list(range(LAST))
         self.is_calm = False
+        # whether an exchange took longer than any process of an idle machine takes
+        self.is_slow = False
         # after how many further exchanges of the server with drives it falls; 0 if it doesn't
         self.armed = 0
 
@@ -153,8 +155,10 @@ class Run:
             work = self.to_drive(asker, self.drives[int(target[1:])], ask, record, fate, r)
         found: Found = None
         left = SURELY[asker[0] + target[0]] - (time.monotonic() - begin)
-        with contextlib.suppress(asyncio.TimeoutError):
+        try:
             found = await asyncio.wait_for(asyncio.shield(self.later(work)), left)
+        except asyncio.TimeoutError:
+            self.is_slow = True
         if self.life_of(asker) != life:
             return None
         number, answer = found if found else (0, None)
@@ -438,6 +442,8 @@ class Run:
             await asyncio.wait_for(self.work(), WHOLE)
         except asyncio.TimeoutError:
             raise Trouble('the run isn\'t over within %d seconds' % WHOLE) from None
+        except Trouble as trouble:
+            raise (Slow(str(trouble)) if self.is_slow else trouble) from None
         finally:
             await self.close()
 
