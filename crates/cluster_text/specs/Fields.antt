@@ -1,5 +1,5 @@
 -- The values of a cluster text. Each is read where it is there and of its type, and None where it is out of its range.
-use Rattle.std.specs.Prelude.{ℕ, ℤ, pos, Bool, ◌-◌, ◌&&◌, nat_le, nat_eq, List, Option, Some, None, Result, Ok, Err, is_ok, option_and_then, codes, if◌then◌else◌}
+use Rattle.std.specs.Prelude.{ℕ, ℤ, pos, Bool, ◌-◌, ◌&&◌, nat_le, nat_eq, List, Option, Some, None, is_ok, codes, if◌then◌else◌}
 use Rattle.std.specs.List.{list_any}
 use Rattle.std.specs.Result.{result_ok}
 use Rattle.hex.specs.Hex.{decode_sized}

@@ -1,4 +1,6 @@
 ghost use Rattle.std.specs.Prelude.{◌≡◌, IfErr, IfOk, OnOk};
+ghost use Rattle.osd_bytes.specs.Reading.{TakesAtMost};
+ghost use Rattle.osd_bytes.specs.declared.lines.TheConstants.{MAX_READ};
 ghost use Rattle.cluster_text.specs.Inputs.{GivesCluster, StopsCluster};
 
 use crate::cluster::{Cluster, Reader};
@@ -23,6 +25,7 @@ pub fn cluster_from<S: Source>(
     ensures stops { IfErr result (StopsCluster reader (S.left source.old) (S.left source.new)
         (S.faults source.old) (S.faults source.new)) }
     ensures loan { S.loan source.new ≡ S.loan source.old }
+    ensures input { TakesAtMost MAX_READ (S.left source.old) (S.left source.new) }
 {
     let text = read_whole(alloc, source)?;
     match read_cluster(alloc, reader, text.as_slice()) {

@@ -1,5 +1,5 @@
 // Whom the parties of a cluster know.
-ghost use Rattle.std.specs.Prelude.{◌≡◌, ◌++◌, map, IfErr, IfOk, OnOk};
+ghost use Rattle.std.specs.Prelude.{◌≡◌, ◌++◌, map, IfErr, IfOk, OnOk, OnErr};
 ghost use Rattle.cluster_text.specs.Peers.{StopsSettling, peer_of, peers_of};
 
 use crate::cluster::{Cluster, ClusterDrive};
@@ -51,6 +51,7 @@ pub fn settle_at<L: Links>(
     ensures standing { OnOk result (L.standing links.new ≡
         record (L.standing links.old) { listen = listen.now; peers = peers_of cluster.now }) }
     ensures told { L.told links.new ≡ L.told links.old }
+    ensures stays { OnErr result (L.standing links.new ≡ L.standing links.old) }
     ensures same { OnOk result (L.faults links.new ≡ L.faults links.old) }
     ensures stops { IfErr result (StopsSettling (L.faults links.old) (L.faults links.new)) }
 {

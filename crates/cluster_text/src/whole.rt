@@ -1,6 +1,7 @@
 // A source read to its end.
 ghost use Rattle.std.specs.Prelude.{◌≡◌, ◌≤◌, IfErr, IfOk, OnOk};
-ghost use Rattle.osd_bytes.specs.declared.lines.TheConstants.{MAX_INPUT};
+ghost use Rattle.osd_bytes.specs.Reading.{TakesAtMost};
+ghost use Rattle.osd_bytes.specs.declared.lines.TheConstants.{MAX_INPUT, MAX_READ};
 ghost use Rattle.cluster_text.specs.Inputs.{IsWhole, StopsReading};
 
 use crate::stop::CommandStop;
@@ -23,6 +24,7 @@ pub fn read_whole<S: Source>(alloc: Global, source: &mut S) -> Result<Bytes, Com
     ensures stops { IfErr result (StopsReading (S.left source.old) (S.left source.new)
         (S.faults source.old) (S.faults source.new)) }
     ensures loan { S.loan source.new ≡ S.loan source.old }
+    ensures input { TakesAtMost MAX_READ (S.left source.old) (S.left source.new) }
 {
     let mut bytes = Bytes::new(alloc);
     let mut buf = [0; PIECE];
