@@ -11,10 +11,4 @@ pub mod Telling
 pub mod Sounds
 pub mod Opened
 pub mod Example
-pub mod NotShort
-pub mod GoodMoments
-pub mod CalmSteps
-pub mod Grouping
-pub mod CalmInputs
-pub mod CalmHistories
 pub mod CalmRuns

@@ -2,14 +2,13 @@
 use Rattle.std.specs.Prelude.{◌≡◌, ◌≤◌, true, List, length}
 use Rattle.world_history.specs.declared.limits.TheConstants.{MAX_KEPT}
 use Rattle.scenario_text.specs.declared.line.Line.{Line}
-use Rattle.scenario_text.specs.declared.line.Line.TheVariants as line
-use Rattle.scenario_text.specs.declared.line.Note.TheVariants as note
 use Rattle.world_history.specs.ServerNames.{OrderKind, ToDeclare}
 use Rattle.server_rules.specs.Laws.{In}
 use Rattle.world_history.specs.Calm.{calm}
 use Rattle.world_history.specs.Guesses.{unguessed}
 use Rattle.file_simulation.specs.Claim.{IsOfScenario, IsRight}
 use Rattle.history_claims.specs.Sound.{IsSound}
+use Rattle.lossless_law.specs.Lossless.{TellsNoLoss}
 use Rattle.cluster_history.specs.State.{empty_cluster}
 use Rattle.cluster_history.specs.Steps.{Step, Obeys, IsLost}
 use Rattle.cluster_history.specs.Events.{EachStep, AreSpelled, IsNoHit}
@@ -54,12 +53,6 @@ CalmRunsAreRight =
     → IsRight (history_of empty_cluster steps)
 
 -- ---- runs in which nothing is lost
-
--- no line tells that a component is missing for want of space, or by a client's report
-abbrev pub TellsNoLoss : Line → Type 0
-TellsNoLoss (line.Note f (note.NoSpace k)) = ⊥
-TellsNoLoss (line.Note f (note.Reported k)) = ⊥
-TellsNoLoss l = Unit {0}
 
 -- no drive is lost, and none is declared
 abbrev pub DeclaresNone : OrderKind → Type 0

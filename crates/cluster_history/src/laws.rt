@@ -3,9 +3,9 @@ ghost use Rattle.cluster_history.specs.Laws.{EachRunHasAHistory, EachRunIsSound}
 ghost use Rattle.cluster_history.specs.Laws.{EachRunIsOfScenario, UnhitRunsAreUnguessed, CalmRunsAreRight};
 ghost use Rattle.cluster_history.specs.Laws.{LosslessRunsAreCalm, LosslessRunsAreRight};
 
-use component_law::server_writes_to_others;
 use history_claims::histories_are_sound;
-use world_history::{messages_are_read, reading_goes_on};
+use lossless_law::lossless_is_calm;
+use world_history::messages_are_read;
 
 /// Each run of a cluster has a lawful history. Its lines are those of the run's steps, in order, and it leads to a
 /// world that has each party as the cluster has it then, and the same messages.
@@ -50,11 +50,8 @@ pub fn lossless_runs_are_calm()
     ensures { LosslessRunsAreCalm }
 {
     each_run_has_a_history();
-    each_run_is_sound();
     each_run_is_of_scenario();
-    messages_are_read();
-    reading_goes_on();
-    server_writes_to_others();
+    lossless_is_calm();
 }
 
 /// So if moreover no bytes but messages of the parties come to a drive, each answered read gives, in order of start,
