@@ -8,6 +8,7 @@
 """
 import os
 import sys
+import tempfile
 import unittest
 from typing import Callable, List
 
@@ -152,7 +153,8 @@ class Runs(unittest.TestCase):
         """What becomes of a seed."""
         os.environ['FAULT'] = fault
         try:
-            return clusters.blow(clusters.Task(seed, FAKE, None))
+            with tempfile.TemporaryDirectory() as keep:
+                return clusters.blow(clusters.Task(seed, FAKE, keep))
         finally:
             del os.environ['FAULT']
 

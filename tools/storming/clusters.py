@@ -1,5 +1,6 @@
-"""Storms over TCP: runs a cluster of real processes, maps what was seen to a scenario, and compares its replay with what was seen."""
+"""Storms over TCP: runs a cluster of real processes, maps what was seen to a scenario, and compares its replay with it."""
 import asyncio
+import multiprocessing
 import os
 import shutil
 import signal
@@ -18,6 +19,8 @@ from .town import Town
 
 # how many ways of what was left open are tried, and how long a replay may take, in seconds
 MOST_WAYS, REPLAYING = 256, 120
+# how long a process of a storm has to end its run, in seconds
+ENDING = 10
 # how often a seed is run where the machine is too slow
 TRIES = 4
 
@@ -53,6 +56,16 @@ class Found(NamedTuple):
 def ends_cleanly() -> None:
     """A process of a storm that is told to end ends its run, with all processes of that."""
     signal.signal(signal.SIGTERM, lambda number, _: sys.exit(128 + number))
+
+
+def stops_all(number: int, _: object) -> None:
+    """A storm that is told to end ends its processes first, each of which ends its run."""
+    workers = multiprocessing.active_children()
+    for worker in workers:
+        worker.terminate()
+    for worker in workers:
+        worker.join(ENDING)
+    os._exit(128 + number)
 
 
 def replay_by(program: str) -> Replay:
@@ -97,15 +110,17 @@ def examined(steps: List[Seen], replay: Replay) -> Found:
 
 def blow(task: Task) -> Blown:
     """One seed; once more where the machine was too slow for it."""
-    for _ in range(TRIES - 1):
-        try:
-            return blown_once(task)
-        except Slow:
-            pass
+    slow = ''
     try:
-        return blown_once(task)
-    except Slow as slow:
-        return Blown(task.seed, '', 'the machine is too slow: %s' % slow, '')
+        for _ in range(TRIES):
+            try:
+                return blown_once(task)
+            except Slow as why:
+                slow = str(why)
+    except SystemExit as end:
+        # the pool would go on with the next seed
+        os._exit(int(end.code or 0))
+    return Blown(task.seed, '', 'the machine is too slow: %s' % slow, '')
 
 
 def blown_once(task: Task) -> Blown:

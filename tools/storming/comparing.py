@@ -1,4 +1,4 @@
-"""Compares the program's own replay of a scenario with what was seen of the run that it was made of: line by line, byte for byte."""
+"""Compares the program's own replay of a scenario with what was seen of the run that it was made of, byte for byte."""
 from typing import Dict, List, NamedTuple, Optional, Tuple
 
 from judging.faults import Fault

@@ -317,7 +317,7 @@ class Run:
         await self.heard(ask, record)
 
     async def server_falling(self, ask: int, record: bytes, r: Random) -> Found:
-        """The server is killed before it is given a record, while it has it, in one of its next exchanges, or after its answer."""
+        """The server is killed before it is given a record, while it has it, in one of its next exchanges, or after it."""
         how = r.randrange(4)
         if how == 0:
             self.server_falls()
