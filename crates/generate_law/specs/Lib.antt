@@ -4,3 +4,4 @@ pub mod Quiet
 pub mod Rests
 pub mod Counts
 pub mod Going
+pub mod Opening
