@@ -1,5 +1,5 @@
 -- What a stored drive leaves on its disk, and how its serving ends.
-use Rattle.std.proofs.Common.{◌≡◌, ◌⊎◌, ⊎_elim, ℕ, List, [], ◌++◌, Option, inl, inr, refl, ◌∙◌, sym, ap, subst, arith}
+use Rattle.std.proofs.Common.{◌≡◌, ◌⊎◌, ⊎_elim, ℕ, List, [], ◌++◌, Option, inl, inr, refl, ◌∙◌, sym, ap, subst, append_assoc, arith}
 use Rattle.std.specs.Prelude.{IsTrue, ◌≤◌, length}
 use Rattle.std.proofs.lemmas.List.{append-nil}
 use Rattle.osd_bytes.specs.Causes.{Rose}
@@ -13,11 +13,11 @@ use Rattle.drive_store.specs.Stores.{IsKept, IsStoreOf, core_of, disk_in}
 use Rattle.drive_command.specs.declared.stored_stop.StoredStop.{StoredStop}
 use Rattle.drive_command.specs.declared.stored_stop.StoredStop.TheVariants.{Command, DiskFault, BadStore}
 use Rattle.drive_command.specs.Connections.{Ends, Handled, after_all}
-use Rattle.drive_command.specs.Ends.{Serves}
+use Rattle.drive_command.specs.Ends.{HasNotBegun, Serves}
 use Rattle.drive_command.specs.Kept.{Carries, StandsForSome}
 use Rattle.drive_command.specs.Opened.{BeginsWith, LeavesOpenable, StopsOpening}
 use Rattle.drive_command.specs.StoredServer.{stays}
-use Rattle.drive_command.specs.StoredService.{HasBegun, LeavesRun, ServesFrom, StaysSince, StopsFrom, StopsServer, WhyFrom}
+use Rattle.drive_command.specs.StoredService.{HasBegun, LeavesRun, ServesFrom, StaysSince, StopsFrom, StopsKept, WhyFrom}
 
 -- what a crash leaves of a stored drive is what it leaves of its disk
 pub of_disk : {D : Type 0} (moment : D → ℕ) (left_since : D → ℕ → List ℕ → Type 0) (old new : StoredDrive D) (P : List ℕ → Type 0)
@@ -77,7 +77,8 @@ module _ {D : Type 0} (s : DiskGhosts D) where
   module _ (first : DriveState) (connections : ℕ) (before now : Ends) (taken_before taken : Option (List ℕ)) (disk left : D) where
     pub served_from : (old new : StoredDrive D) (handled : List Handled)
         → (IsTrue (s.tells disk) → BeginsWith first (s.seen disk) (core_of old))
-        → (IsTrue (s.tells disk) → Kept old) → Serves connections (core_of old) (core_of new) before now taken_before taken
+        → (IsTrue (s.tells disk) → Kept old)
+        → Serves connections (core_of old) (core_of new) before now taken_before taken handled
         → Carried handled [] old new → (Kept old → Kept new) → left ≡ disk_in new
         → (IsTrue (s.tells disk) → LeavesOpenable s disk (disk_in old))
         → s.faults (disk_in new) ≡ s.faults (disk_in old) → s.faults (disk_in old) ≡ s.faults disk
@@ -86,8 +87,8 @@ module _ {D : Type 0} (s : DiskGhosts D) where
       drive = core_of old;
       begins = begins;
       last = core_of new;
-      serves = serves;
       handled = handled;
+      serves = serves;
       all = x.state ∙ ap (λ (hs : List Handled). after_all (core_of old) hs) (append-nil handled);
       any_moment = λ told. subst (λ (hs : List Handled). LeavesRun s disk left (core_of old) hs) (append-nil handled)
           (leaves_run disk left old new (handled ++ []) same (opens told) (x.crash (kept told)));
@@ -98,37 +99,44 @@ module _ {D : Type 0} (s : DiskGhosts D) where
       same = ap (λ (d : D). s.faults d) same ∙ (still ∙ faults);
     }
 
-    why_stopped : (drive last : DriveState) (failed_before failed faults : ℕ) (stop : StoredStop)
-        → StopsServer connections drive last before now taken_before taken failed_before failed (s.faults disk) faults stop
-        → s.faults left ≡ faults
-        → WhyFrom s first connections drive last before now taken_before taken failed_before failed disk left stop
-    why_stopped drive last failed_before failed faults (Command stop) stops same = stops
-    why_stopped drive last failed_before failed faults DiskFault stops same =
-        (inr stops.0, subst (λ (n : ℕ). Rose (s.faults disk) n) (sym same) stops.1)
-    why_stopped drive last failed_before failed faults (BadStore at) stops same = absurd stops
+    why_stopped : (drive last : DriveState) (failed_before failed faults_before faults : ℕ) (served unanswered : List Handled)
+        (stop : StoredStop)
+        → StopsKept connections drive last before now taken_before taken failed_before failed faults_before faults served
+        unanswered stop
+        → faults_before ≡ s.faults disk → s.faults left ≡ faults
+        → WhyFrom s first connections drive last before now taken_before taken failed_before failed disk left served
+        unanswered stop
+    why_stopped drive last failed_before failed faults_before faults served unanswered (Command stop) stops old new = stops
+    why_stopped drive last failed_before failed faults_before faults served unanswered DiskFault stops old new =
+        (stops.0, subst (λ (n : ℕ). Rose n (s.faults left)) old (subst (λ (n : ℕ). Rose faults_before n) (sym new) stops.1))
+    why_stopped drive last failed_before failed faults_before faults served unanswered (BadStore at) stops old new = absurd stops
 
-    pub stopped_from : (old new : StoredDrive D) (handled cut_off : List Handled) (failed_before failed : ℕ) (stop : StoredStop)
+    pub stopped_from : (old new : StoredDrive D) (served handled cut_off : List Handled) (failed_before failed : ℕ)
+        (stop : StoredStop)
         → (IsTrue (s.tells disk) → BeginsWith first (s.seen disk) (core_of old)) → (IsTrue (s.tells disk) → Kept old)
         → s.faults (disk_in old) ≡ s.faults disk
-        → StopsServer connections (core_of old) (core_of new) before now taken_before taken failed_before failed
-        (s.faults (disk_in old)) (s.faults (disk_in new)) stop
-        → Carried handled cut_off old new → left ≡ disk_in new → (IsTrue (s.tells disk) → LeavesOpenable s disk (disk_in old))
+        → Carried (served ++ handled) cut_off old new
+        → StopsKept connections (core_of old) (core_of new) before now taken_before taken failed_before failed
+        (s.faults (disk_in old)) (s.faults (disk_in new)) served (handled ++ cut_off) stop
+        → left ≡ disk_in new → (IsTrue (s.tells disk) → LeavesOpenable s disk (disk_in old))
         → StopsFrom s first connections before now taken_before taken failed_before failed disk left stop
-    stopped_from old new handled cut_off failed_before failed stop begins kept faults stops x same opens = record {
+    stopped_from old new served handled cut_off failed_before failed stop begins kept faults x stops same opens = record {
       drive = core_of old;
       last = core_of new;
-      why = why_stopped (core_of old) (core_of new) failed_before failed (s.faults (disk_in new)) stop
-          (subst (λ (n : ℕ). StopsServer connections (core_of old) (core_of new) before now taken_before taken failed_before
-          failed n (s.faults (disk_in new)) stop) faults stops)
-          (ap (λ (d : D). s.faults d) same);
+      served = served;
+      unanswered = handled ++ cut_off;
+      why = why_stopped (core_of old) (core_of new) failed_before failed (s.faults (disk_in old)) (s.faults (disk_in new)) served
+          (handled ++ cut_off) stop stops faults (ap (λ (d : D). s.faults d) same);
       stays = inr (λ told. record {
         begins = begins told;
         handled = handled;
         cut_off = cut_off;
+        are = refl;
         few = x.few;
-        state = x.state;
-        any_moment = leaves_run disk left old new (handled ++ cut_off) same (opens told) (x.crash (kept told));
-        stays = stays_since old new handled cut_off left x (kept told) same;
+        state = x.state ∙ ap (λ (hs : List Handled). after_all (core_of old) hs) (append_assoc served handled cut_off);
+        any_moment = subst (λ (hs : List Handled). LeavesRun s disk left (core_of old) hs) (append_assoc served handled cut_off)
+            (leaves_run disk left old new ((served ++ handled) ++ cut_off) same (opens told) (x.crash (kept told)));
+        stays = stays_since old new (served ++ handled) cut_off left x (kept told) same;
       });
     }
 
@@ -137,16 +145,25 @@ module _ {D : Type 0} (s : DiskGhosts D) where
       (stop : StoredStop)
       → StopsOpening s first disk left stop → (IsTrue (s.tells disk) → LeavesOpenable s disk left)
       → StopsFrom s first connections ends ends taken taken failed failed disk left stop
-  unopened first connections ends taken failed disk left stop stops opens =
-      record { drive = first; last = first; why = why stop stops; stays = inl (refl, opens) }
+  unopened first connections ends taken failed disk left stop stops opens = record {
+    drive = first;
+    last = first;
+    served = [];
+    unanswered = [];
+    why = why stop stops;
+    stays = inl (not_begun, opens);
+  }
     where
+      not_begun : HasNotBegun first first ends ends taken taken [] []
+      not_begun = (refl, refl, refl, refl, refl)
+
       why : (stop : StoredStop) → StopsOpening s first disk left stop
-          → WhyFrom s first connections first first ends ends taken taken failed failed disk left stop
+          → WhyFrom s first connections first first ends ends taken taken failed failed disk left [] [] stop
       why (Command (cause.BadCluster kind)) stops = absurd stops
       why (Command cause.ReadFault) stops = absurd stops
       why (Command cause.WriteFault) stops = absurd stops
-      why (Command cause.Memory) stops = inl refl
+      why (Command cause.Memory) stops = inl not_begun
       why (Command cause.Full) stops = absurd stops
       why (Command cause.LinkFault) stops = absurd stops
-      why DiskFault stops = (inl refl, stops)
-      why (BadStore at) stops = (refl, stops)
+      why DiskFault stops = (inl not_begun, stops)
+      why (BadStore at) stops = (not_begun, stops)

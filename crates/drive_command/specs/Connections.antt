@@ -1,5 +1,5 @@
 -- What a drive does with the records of its connections.
-use Rattle.std.specs.Prelude.{◌≡◌, ◌⊎◌, ◌<◌, ◌≤◌, ℕ, zero, suc, Bool, true, false, List, [], ◌∷◌, ◌++◌, length, map, Option, None, Ok}
+use Rattle.std.specs.Prelude.{◌≡◌, ◌⊎◌, ◌<◌, ◌≤◌, ◌-◌, ℕ, zero, suc, Bool, true, false, List, [], ◌∷◌, ◌++◌, length, map, Option, None, Ok}
 use Rattle.osd_bytes.specs.Clocks.{TellsTime}
 use Rattle.osd_bytes.specs.Causes.{Rose}
 use Rattle.osd_bytes.specs.Connections.{Traffic, Accepts, after_notes}
@@ -9,7 +9,7 @@ use Rattle.osd_bytes.specs.declared.links.Links.{Ghosts as LinksGhosts}
 use Rattle.osd_bytes.specs.Records.{framed, fresh, records_of, split}
 use Rattle.osd_bytes.specs.declared.records.TheConstants.{MAX_RECORD}
 use Rattle.osd_commands.specs.Replies.{spelling}
-use Rattle.osd_bytes.specs.Inboxes.{HasPutCause, IsAtEnd, PutsFrame, Talked, Told}
+use Rattle.osd_bytes.specs.Inboxes.{HasPutCause, IsAtEnd, PutsFrame, Talked, Told, WasTaken}
 use Rattle.osd_bytes.specs.declared.inbox.TheConstants.{MAX_TAKEN}
 use Rattle.osd_drive.specs.State.{DriveState}
 use Rattle.osd_drive.specs.Effects.{reply_to, drive_after}
@@ -116,13 +116,15 @@ pub record Serves (puts : Bool) (old new : DriveState) (before now : Ends) (take
   pub stands : puts ≡ true → unput ≡ []
   pub broke : puts ≡ false → Rose before.faults.accepted now.faults.accepted
 
+-- the messages of records
+abbrev pub messages_of : List Handled → List (List ℕ)
+messages_of handled = map (λ h. h.message) handled
+
 -- these records are handled behind all that was before on the connection
-abbrev pub ServesMore : (puts still : Bool) → (old new : DriveState) → (before now : Ends) → List (List ℕ) → Type 0
-ServesMore puts still old new before now records =
+abbrev pub ServesMore : (puts still : Bool) → (old new : DriveState) → (before now : Ends) → List Handled → Type 0
+ServesMore puts still old new before now more =
     (first : DriveState) (begin : Ends) (taken : List ℕ) (handled : List Handled) →
-    Serves puts first old begin before taken handled →
-    (more : List Handled) × (map (λ h. h.message) more ≡ records)
-    × Serves still first new begin now taken (handled ++ more)
+    Serves puts first old begin before taken handled → Serves still first new begin now taken (handled ++ more)
 
 -- why no more records come
 abbrev pub IsOver : (taken : List ℕ) → (before now : Ends) → Type 0
@@ -132,12 +134,11 @@ IsOver taken before now =
 
 -- a connection that was accepted is served: each whole record is handled, up to the end, a call that fails, a record
 -- that is too long, or the limit of bytes
-pub record ServesConnection (old new : DriveState) (before now : Ends) : Type 0 where
+pub record ServesConnection (old new : DriveState) (before now : Ends) (handled : List Handled) : Type 0 where
   pub taken : List ℕ
-  pub handled : List Handled
   pub puts : Bool
   pub serves : Serves puts old new before now taken handled
-  pub records : records_of taken ≡ map (λ h. h.message) handled
+  pub records : records_of taken ≡ messages_of handled
   pub limit : length taken ≤ MAX_TAKEN
   pub over : IsOver taken before now
 
@@ -148,19 +149,89 @@ pub record AcceptsOne (before now : Ends) : Type 0 where
   pub times : now.times ≡ before.times
   pub last : now.last ≡ before.last
 
--- so many connections are accepted and served, one after the other
-abbrev pub ServesEach : (count : ℕ) → (old new : DriveState) → (before now : Ends) → Type 0
-ServesEach zero old new before now = (new ≡ old) × (now ≡ before)
-ServesEach (suc n) old new before now =
-    (d : DriveState) × (between : Ends) × ServesEach n old d before between
-    × (accepted : Ends) × AcceptsOne between accepted × ServesConnection d new accepted now
+-- so many connections are accepted and served, one after the other: these are the records of all, in order
+abbrev pub ServesEach : (count : ℕ) → (old new : DriveState) → (before now : Ends) → List Handled → Type 0
+ServesEach zero old new before now handled = (new ≡ old) × (now ≡ before) × (handled ≡ [])
+ServesEach (suc n) old new before now handled =
+    (d : DriveState) × (between : Ends) × (earlier : List Handled) × ServesEach n old d before between earlier
+    × (accepted : Ends) × AcceptsOne between accepted
+    × (here : List Handled) × ServesConnection d new accepted now here × (handled ≡ earlier ++ here)
 
 -- the same, in whichever second a refusal was told last
-abbrev pub ServesAll : (count : ℕ) → (old new : DriveState) → (before now : Ends) → Type 0
-ServesAll count old new before now = (last : Option ℕ) × ServesEach count old new before (record now { last = last })
+abbrev pub ServesAll : (count : ℕ) → (old new : DriveState) → (before now : Ends) → List Handled → Type 0
+ServesAll count old new before now handled =
+    (last : Option ℕ) × ServesEach count old new before (record now { last = last }) handled
+
+-- no further one could be accepted, and nothing else happened
+pub record AcceptsNone (before now : Ends) : Type 0 where
+  pub told : now.told ≡ before.told
+  pub times : now.times ≡ before.times
+  pub faults : NoFewer before.faults now.faults
+  pub rose : Rose before.faults.listening now.faults.listening
 
 -- fewer were, and then none could be accepted
-abbrev pub IsRefused : (count : ℕ) → (old new : DriveState) → (before now : Ends) → Type 0
-IsRefused count old new before now =
-    (n : ℕ) × (n < count) × (between : Ends) × ServesEach n old new before between
-    × Rose between.faults.listening now.faults.listening
+abbrev pub IsRefused : (count : ℕ) → (old new : DriveState) → (before now : Ends) → List Handled → Type 0
+IsRefused count old new before now handled =
+    (n : ℕ) × (n < count) × (between : Ends) × ServesEach n old new before between handled × AcceptsNone between now
+
+-- ---- cut off, for want of memory or since the disk failed
+
+-- A record was being answered at the next time of the clock: it wasn't handled yet, or it was, and what is told of it was told or
+-- not. Nothing of its reply was put.
+pub record CutsAnswer (old new : DriveState) (before now : Ends) (message : List ℕ) (unanswered : List Handled) : Type 0 where
+  pub time : ℕ
+  pub tells : TellsTime before.times now.times time
+  pub is : ((unanswered ≡ []) × (now.told ≡ before.told))
+      ⊎ ((unanswered ≡ handled_at time message ∷ []) × ((now.told ≡ before.told)
+      ⊎ (now.told ≡ after_notes (lines_of old before.last (handled_at time message)) before.told)))
+  pub state : new ≡ after_all old unanswered
+  pub faults : now.faults ≡ before.faults
+
+-- some of these records are answered behind all that was before on the connection, and the next one is cut off
+pub record CutsMore (puts : Bool) (old new : DriveState) (before now : Ends) (records : List (List ℕ))
+    (served unanswered : List Handled) : Type 0 where
+  pub still : Bool
+  pub mid : DriveState
+  pub between : Ends
+  pub serves : ServesMore puts still old mid before between served
+  pub next : List ℕ
+  pub rest : List (List ℕ)
+  pub are : records ≡ messages_of served ++ next ∷ rest
+  pub cut : CutsAnswer mid new between now next unanswered
+
+-- more bytes were being taken, for which there was room, or of the records that came these weren't served: the first of them
+-- was being answered
+abbrev pub CutsNext : (old new : DriveState) → (before now : Ends) → (room : ℕ) → List (List ℕ) → (unanswered : List Handled) →
+    Type 0
+CutsNext old new before now room [] unanswered =
+    (new ≡ old) × (unanswered ≡ []) × (now.times ≡ before.times) × NoFewer before.faults now.faults
+    × (piece : List ℕ) × WasTaken before.told now.told piece × (length piece ≤ room)
+CutsNext old new before now room (message ∷ rest) unanswered = CutsAnswer old new before now message unanswered
+
+-- a connection that was accepted is served up to some record, and then cut off
+pub record CutsConnection (old new : DriveState) (before now : Ends) (served unanswered : List Handled) : Type 0 where
+  pub taken : List ℕ
+  pub puts : Bool
+  pub mid : DriveState
+  pub between : Ends
+  pub serves : Serves puts old mid before between taken served
+  pub rest : List (List ℕ)
+  pub records : records_of taken ≡ messages_of served ++ rest
+  pub limit : length taken ≤ MAX_TAKEN
+  pub cut : CutsNext mid new between now (MAX_TAKEN - length taken) rest unanswered
+
+-- Fewer connections were served whole, and then one that was accepted was cut off. The replies to the records that were served
+-- went out, as far as each connection took them; of the one behind them, where there is one, nothing did.
+pub record CutsAll (count : ℕ) (old new : DriveState) (before now : Ends) (served unanswered : List Handled) : Type 0 where
+  pub whole : ℕ
+  pub fewer : whole < count
+  pub mid : DriveState
+  pub between : Ends
+  pub earlier : List Handled
+  pub serves : ServesEach whole old mid before between earlier
+  pub accepted : Ends
+  pub accepts : AcceptsOne between accepted
+  pub here : List Handled
+  pub last : Option ℕ
+  pub cut : CutsConnection mid new accepted (record now { last = last }) here unanswered
+  pub are : served ≡ earlier ++ here

@@ -1,7 +1,9 @@
 ghost use Rattle.std.specs.Prelude.{◌≡◌, IfErr, OnOk};
+ghost use Rattle.osd_bytes.specs.Reading.{TakesAtMost};
+ghost use Rattle.osd_bytes.specs.declared.lines.TheConstants.{MAX_READ};
 ghost use Rattle.drive_command.specs.Connections.{network_at};
 ghost use Rattle.cluster_text.specs.Outside.{streams_at};
-ghost use Rattle.drive_command.specs.Ends.{EndsDrive, ServesAs, ServesIn, StopsDrive, StopsIn};
+ghost use Rattle.drive_command.specs.Ends.{EndsDrive, ServesAs, ServesIn, SettlesAs, SettlesAsText, StopsDrive, StopsIn};
 
 use crate::own::{new_core, own_drive};
 use crate::service::serve_core;
@@ -21,10 +23,11 @@ fn serve_in<K: Sink, L: Links, C: Clock>(
 ) -> Result<(), CommandStop>
     ensures serves { OnOk result (ServesIn number connections cluster.now
         (network_at L.Links C.Clock links.old clock.old) (network_at L.Links C.Clock links.new clock.new)
-        (K.taken sink.old) (K.taken sink.new)) }
+        (L.standing links.new) (K.taken sink.old) (K.taken sink.new)) }
     ensures stops { IfErr result (StopsIn number connections cluster.now
         (network_at L.Links C.Clock links.old clock.old) (network_at L.Links C.Clock links.new clock.new)
-        (K.taken sink.old) (K.taken sink.new) (K.faults sink.old) (K.faults sink.new)) }
+        (L.standing links.new) (K.taken sink.old) (K.taken sink.new) (K.faults sink.old) (K.faults sink.new)) }
+    ensures addresses { SettlesAs number cluster.now (L.standing links.old) (L.standing links.new) }
 {
     let Some(drive) = own_drive(cluster.drives.as_slice(), number) else {
         return Err(CommandStop::BadCluster(ClusterKind::Missing));
@@ -56,10 +59,14 @@ fn serve_cluster<S: Source, K: Sink, L: Links, C: Clock>(
 ) -> Result<(), CommandStop>
     ensures serves { OnOk result (ServesAs number connections
         (streams_at S.Source K.Sink source.old sink.old) (streams_at S.Source K.Sink source.new sink.new)
-        (network_at L.Links C.Clock links.old clock.old) (network_at L.Links C.Clock links.new clock.new)) }
+        (network_at L.Links C.Clock links.old clock.old) (network_at L.Links C.Clock links.new clock.new)
+        (L.standing links.new)) }
     ensures stops { IfErr result (StopsDrive number connections
         (streams_at S.Source K.Sink source.old sink.old) (streams_at S.Source K.Sink source.new sink.new)
-        (network_at L.Links C.Clock links.old clock.old) (network_at L.Links C.Clock links.new clock.new)) }
+        (network_at L.Links C.Clock links.old clock.old) (network_at L.Links C.Clock links.new clock.new)
+        (L.standing links.new)) }
+    ensures addresses { SettlesAsText number (S.left source.old) (S.left source.new) (L.standing links.old) (L.standing links.new) }
+    ensures input { TakesAtMost MAX_READ (S.left source.old) (S.left source.new) }
 {
     let cluster = match cluster_from(alloc, Reader::Drive(number), source) {
         Ok(cluster) => cluster,
@@ -92,10 +99,14 @@ pub fn drive_command<S: Source, K: Sink, L: Links, C: Clock>(
 ) -> Result<(), CommandStop>
     ensures serves { OnOk result (ServesAs number connections
         (streams_at S.Source K.Sink source.old sink.old) (streams_at S.Source K.Sink source.new sink.new)
-        (network_at L.Links C.Clock links.old clock.old) (network_at L.Links C.Clock links.new clock.new)) }
+        (network_at L.Links C.Clock links.old clock.old) (network_at L.Links C.Clock links.new clock.new)
+        (L.standing links.new)) }
     ensures stops { IfErr result (EndsDrive number connections
         (streams_at S.Source K.Sink source.old sink.old) (streams_at S.Source K.Sink source.new sink.new)
-        (network_at L.Links C.Clock links.old clock.old) (network_at L.Links C.Clock links.new clock.new)) }
+        (network_at L.Links C.Clock links.old clock.old) (network_at L.Links C.Clock links.new clock.new)
+        (L.standing links.new)) }
+    ensures addresses { SettlesAsText number (S.left source.old) (S.left source.new) (L.standing links.old) (L.standing links.new) }
+    ensures input { TakesAtMost MAX_READ (S.left source.old) (S.left source.new) }
 {
     match serve_cluster(alloc, number, connections, source, sink, links, clock) {
         Ok(()) => Ok(()),

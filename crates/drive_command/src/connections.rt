@@ -1,10 +1,10 @@
-ghost use Rattle.std.specs.Prelude.{◌≡◌, false, List, IfOk, IsErrOf, OnOk};
+ghost use Rattle.std.specs.Prelude.{◌≡◌, ◌∷◌, [], false, List, IfErr, IfOk, IsErrOf, OnOk};
 ghost use Rattle.osd_bytes.specs.Causes.{Rose};
-ghost use Rattle.drive_command.specs.declared.serve_err.DriveServeErr.TheVariants.{DiskFault, LinkFault};
-ghost use Rattle.drive_command.specs.Connections.{Answers, Handled, IsRefused, ServesAll, ServesConnection, ServesMore};
-ghost use Rattle.drive_command.specs.Connections.{after_all, network_at, network_since};
-ghost use Rattle.drive_command.specs.Kept.{HasHandleCause};
-ghost use Rattle.drive_command.specs.GoesOn.{HandlesSome, WentOn};
+ghost use Rattle.cluster_text.specs.Peers.{KeepsAddresses};
+ghost use Rattle.drive_command.specs.Connections.{Answers, CutsAnswer, CutsConnection, CutsMore, Handled, ServesConnection};
+ghost use Rattle.drive_command.specs.Connections.{ServesMore, handled_at, messages_of, network_at, network_since};
+ghost use Rattle.drive_command.specs.declared.serve_err.DriveServeErr.TheVariants.{DiskFault};
+ghost use Rattle.drive_command.specs.GoesOn.{Breaks, EndsServing, WentOn};
 
 use crate::device_server::{DeviceServer, HandleErr};
 use crate::refusals::tell_refusal;
@@ -26,12 +26,14 @@ fn answer_record<H: DeviceServer, L: Links, C: Clock>(
     puts: bool,
 ) -> Result<bool, HandleErr>
     requires { H.is_over server.old ≡ false }
-    ensures answers { IfOk result (λ still. Answers puts still (H.drive server.old) (H.drive server.new)
+    ensures answers { IfOk result (λ still. (a : Answers puts still (H.drive server.old) (H.drive server.new)
         (network_since L.Links C.Clock links.old clock.old last.old)
-        (network_since L.Links C.Clock links.new clock.new last.new) message.now) }
-    ensures carries { HandlesSome H.DeviceServer server.old server.new }
-    ensures went_on { OnOk result (WentOn H.DeviceServer server.old server.new) }
-    ensures cause { HasHandleCause (H.faults server.old) (H.faults server.new) result }
+        (network_since L.Links C.Clock links.new clock.new last.new) message.now)
+        × WentOn H.DeviceServer (handled_at a.time message.now ∷ []) server.old server.new) }
+    ensures breaks { IfErr result (Breaks H.DeviceServer (λ served unanswered. (served ≡ [])
+        × CutsAnswer (H.drive server.old) (H.drive server.new)
+        (network_since L.Links C.Clock links.old clock.old last.old)
+        (network_since L.Links C.Clock links.new clock.new last.new) message.now unanswered) server.old server.new) }
     ensures standing { L.standing links.new ≡ L.standing links.old }
 {
     let number = server.number();
@@ -57,12 +59,14 @@ fn answer_all<H: DeviceServer, L: Links, C: Clock>(
     puts: bool,
 ) -> Result<bool, HandleErr>
     requires { H.is_over server.old ≡ false }
-    ensures serves { IfOk result (λ still. ServesMore puts still (H.drive server.old) (H.drive server.new)
+    ensures serves { IfOk result (λ still. (more : List Handled) × (messages_of more ≡ records.now)
+        × ServesMore puts still (H.drive server.old) (H.drive server.new)
         (network_since L.Links C.Clock links.old clock.old last.old)
-        (network_since L.Links C.Clock links.new clock.new last.new) records.now) }
-    ensures carries { HandlesSome H.DeviceServer server.old server.new }
-    ensures went_on { OnOk result (WentOn H.DeviceServer server.old server.new) }
-    ensures cause { HasHandleCause (H.faults server.old) (H.faults server.new) result }
+        (network_since L.Links C.Clock links.new clock.new last.new) more
+        × WentOn H.DeviceServer more server.old server.new) }
+    ensures breaks { IfErr result (Breaks H.DeviceServer (CutsMore puts (H.drive server.old) (H.drive server.new)
+        (network_since L.Links C.Clock links.old clock.old last.old)
+        (network_since L.Links C.Clock links.new clock.new last.new) records.now) server.old server.new) }
     ensures standing { L.standing links.new ≡ L.standing links.old }
 {
     let mut stands = puts;
@@ -89,12 +93,14 @@ fn serve_connection<H: DeviceServer, L: Links, C: Clock>(
     last: &mut Option<u64>,
 ) -> Result<(), HandleErr>
     requires { H.is_over server.old ≡ false }
-    ensures serves { OnOk result (ServesConnection (H.drive server.old) (H.drive server.new)
+    ensures serves { OnOk result ((here : List Handled)
+        × ServesConnection (H.drive server.old) (H.drive server.new)
         (network_since L.Links C.Clock links.old clock.old last.old)
-        (network_since L.Links C.Clock links.new clock.new last.new)) }
-    ensures carries { HandlesSome H.DeviceServer server.old server.new }
-    ensures went_on { OnOk result (WentOn H.DeviceServer server.old server.new) }
-    ensures cause { HasHandleCause (H.faults server.old) (H.faults server.new) result }
+        (network_since L.Links C.Clock links.new clock.new last.new) here
+        × WentOn H.DeviceServer here server.old server.new) }
+    ensures breaks { IfErr result (Breaks H.DeviceServer (CutsConnection (H.drive server.old) (H.drive server.new)
+        (network_since L.Links C.Clock links.old clock.old last.old)
+        (network_since L.Links C.Clock links.new clock.new last.new)) server.old server.new) }
     ensures standing { L.standing links.new ≡ L.standing links.old }
 {
     let mut inbox = Inbox::new(alloc);
@@ -119,13 +125,15 @@ fn serve_connection<H: DeviceServer, L: Links, C: Clock>(
 /// handled.
 ///
 /// If the drive is kept on a disk, a crash at any moment leaves it there as some of the records that were handled left
-/// it, none of them left out before another; and at the end it is there as it is.
+/// it, none of them left out before another; and at the end it is there as it is. What was put are replies to records
+/// that were handled to their ends.
 ///
 /// # Errors
 ///
 /// [`DriveServeErr::LinkFault`] if no further connection could be accepted, after those before it were
 /// served whole; [`DriveServeErr::DiskFault`] only if the count of faults of the disk that keeps the drive rose;
-/// [`DriveServeErr::Memory`]. The drive then is as the handled records leave it.
+/// [`DriveServeErr::Memory`]. The drive then is as the handled records leave it. Of the record at which memory or the disk
+/// failed nothing was put.
 pub fn serve<H: DeviceServer, L: Links, C: Clock>(
     alloc: Global,
     server: &mut H,
@@ -134,20 +142,23 @@ pub fn serve<H: DeviceServer, L: Links, C: Clock>(
     connections: u32,
 ) -> Result<(), DriveServeErr>
     requires { H.is_over server.old ≡ false }
-    ensures served { OnOk result (ServesAll connections (H.drive server.old) (H.drive server.new)
-        (network_at L.Links C.Clock links.old clock.old) (network_at L.Links C.Clock links.new clock.new)) }
-    ensures refused { IsErrOf result LinkFault → IsRefused connections (H.drive server.old) (H.drive server.new)
-        (network_at L.Links C.Clock links.old clock.old) (network_at L.Links C.Clock links.new clock.new) }
-    ensures state { (handled : List Handled) × (H.drive server.new ≡ after_all (H.drive server.old) handled) }
-    ensures carries { HandlesSome H.DeviceServer server.old server.new }
-    ensures went_on { OnOk result (WentOn H.DeviceServer server.old server.new) }
+    ensures ends { EndsServing H.DeviceServer connections server.old server.new
+        (network_at L.Links C.Clock links.old clock.old) (network_at L.Links C.Clock links.new clock.new) result }
     ensures failed { IsErrOf result DiskFault → Rose (H.faults server.old) (H.faults server.new) }
+    ensures addresses { KeepsAddresses (L.standing links.old) (L.standing links.new) }
 {
     let mut last = None;
     let mut served = 0;
     while served < connections {
-        links.accept()?;
-        serve_connection(alloc, server, links, clock, &mut last)?;
+        // Arms in place of `?` are for the prover (docs/PROVER_FORMS.md).
+        match links.accept() {
+            Ok(()) => {}
+            Err(_) => return Err(DriveServeErr::LinkFault),
+        }
+        match serve_connection(alloc, server, links, clock, &mut last) {
+            Ok(()) => {}
+            Err(e) => return Err(DriveServeErr::from(e)),
+        }
         served += 1;
     }
     Ok(())

@@ -1,5 +1,5 @@
 // What a drive tells whoever watches it of the commands that it refuses.
-ghost use Rattle.std.specs.Prelude.{◌≡◌, IfOk, OnOk, string_bytes};
+ghost use Rattle.std.specs.Prelude.{◌≡◌, IfOk, OnOk, OnErr, string_bytes};
 ghost use Rattle.osd_bytes.specs.Connections.{after_notes};
 ghost use Rattle.drive_command.specs.Refusals.{is_later, is_told, last_told, lines_told, refusal_line, verdict_word};
 
@@ -77,6 +77,7 @@ pub(crate) fn tell_refusal<L: Links>(
 ) -> Result<(), Memory>
     ensures lines { OnOk result (L.told links.new ≡ after_notes (lines_told drive last.old time reply.now) (L.told links.old)) }
     ensures last { OnOk result (last.new ≡ last_told last.old time reply.now) }
+    ensures err { OnErr result (L.told links.new ≡ L.told links.old) }
     ensures standing { L.standing links.new ≡ L.standing links.old }
     ensures faults { L.faults links.new ≡ L.faults links.old }
 {

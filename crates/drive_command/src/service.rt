@@ -1,6 +1,7 @@
 // What a drive serves once its links listen, and the lines before and after.
-ghost use Rattle.std.specs.Prelude.{IfErr, OnOk};
-ghost use Rattle.drive_command.specs.Connections.{ServesAll, network_at};
+ghost use Rattle.std.specs.Prelude.{List, IfErr, OnOk};
+ghost use Rattle.cluster_text.specs.Peers.{KeepsAddresses};
+ghost use Rattle.drive_command.specs.Connections.{Handled, ServesAll, network_at};
 ghost use Rattle.cluster_text.specs.Lines.{served_line};
 ghost use Rattle.drive_command.specs.Ends.{Serves, StopsAccepting, StopsServing};
 
@@ -19,10 +20,11 @@ fn serve_all<L: Links, C: Clock>(
     links: &mut L,
     clock: &mut C,
 ) -> Result<(), CommandStop>
-    ensures served { OnOk result (ServesAll connections core.old core.new
-        (network_at L.Links C.Clock links.old clock.old) (network_at L.Links C.Clock links.new clock.new)) }
+    ensures served { OnOk result ((handled : List Handled) × ServesAll connections core.old core.new
+        (network_at L.Links C.Clock links.old clock.old) (network_at L.Links C.Clock links.new clock.new) handled) }
     ensures stops { IfErr result (StopsAccepting connections core.old core.new
         (network_at L.Links C.Clock links.old clock.old) (network_at L.Links C.Clock links.new clock.new)) }
+    ensures addresses { KeepsAddresses (L.standing links.old) (L.standing links.new) }
 {
     match serve(alloc, core, links, clock, connections) {
         Ok(()) => Ok(()),
@@ -42,12 +44,14 @@ pub(crate) fn serve_core<K: Sink, L: Links, C: Clock>(
     links: &mut L,
     clock: &mut C,
 ) -> Result<(), CommandStop>
-    ensures serves { OnOk result (Serves connections core.old core.new
+    ensures serves { OnOk result ((handled : List Handled) × Serves connections core.old core.new
         (network_at L.Links C.Clock links.old clock.old) (network_at L.Links C.Clock links.new clock.new)
-        (K.taken sink.old) (K.taken sink.new)) }
-    ensures stops { IfErr result (StopsServing connections core.old core.new
+        (K.taken sink.old) (K.taken sink.new) handled) }
+    ensures stops { IfErr result (λ stop. (served : List Handled) × (unanswered : List Handled)
+        × StopsServing connections core.old core.new
         (network_at L.Links C.Clock links.old clock.old) (network_at L.Links C.Clock links.new clock.new)
-        (K.taken sink.old) (K.taken sink.new) (K.faults sink.old) (K.faults sink.new)) }
+        (K.taken sink.old) (K.taken sink.new) (K.faults sink.old) (K.faults sink.new) served unanswered stop) }
+    ensures addresses { KeepsAddresses (L.standing links.old) (L.standing links.new) }
 {
     let served = served_line(alloc, connections)?;
     match put_all(sink, b"listening\n") {

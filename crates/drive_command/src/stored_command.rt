@@ -1,8 +1,12 @@
 // The command of a drive with a store.
 ghost use Rattle.std.specs.Prelude.{◌≡◌, IfErr, IfOk, OnErr, OnOk, string_bytes};
+ghost use Rattle.osd_bytes.specs.Reading.{TakesAtMost};
+ghost use Rattle.osd_bytes.specs.declared.lines.TheConstants.{MAX_READ};
 ghost use Rattle.cluster_text.specs.Outside.{streams_at};
+ghost use Rattle.cluster_text.specs.Peers.{KeepsAddresses};
 ghost use Rattle.drive_command.specs.Connections.{network_at};
 ghost use Rattle.cluster_text.specs.Lines.{PutsLine};
+ghost use Rattle.drive_command.specs.Ends.{SettlesAs, SettlesAsText};
 ghost use Rattle.drive_command.specs.Opened.{first_of};
 ghost use Rattle.drive_command.specs.StoredEnds.{EndsStored, ServesStored, ServesStoredAs, StopsStored, StopsStoredDrive};
 ghost use Rattle.drive_command.specs.StoredEnds.{stored_stop_line};
@@ -37,6 +41,7 @@ fn serve_from<K: Sink, L: Links, C: Clock, D: Disk>(
     ensures stops { IfErr result (λ e. StopsFrom D.Disk (first_of own) connections
         (network_at L.Links C.Clock links.old clock.old) (network_at L.Links C.Clock links.new clock.new)
         (K.taken sink.old) (K.taken sink.new) (K.faults sink.old) (K.faults sink.new) disk e.1 e.0) }
+    ensures addresses { KeepsAddresses (L.standing links.old) (L.standing links.new) }
 {
     let mut store = match store_on(alloc, disk, name, own) {
         Ok(store) => store,
@@ -62,10 +67,11 @@ fn serve_stored_in<K: Sink, L: Links, C: Clock, D: Disk>(
 ) -> Result<D, (StoredStop, D)>
     ensures serves { IfOk result (λ left. ServesStored D.Disk number connections cluster.now
         (network_at L.Links C.Clock links.old clock.old) (network_at L.Links C.Clock links.new clock.new)
-        (K.taken sink.old) (K.taken sink.new) disk left) }
+        (L.standing links.new) (K.taken sink.old) (K.taken sink.new) disk left) }
     ensures stops { IfErr result (λ e. StopsStored D.Disk number connections cluster.now
         (network_at L.Links C.Clock links.old clock.old) (network_at L.Links C.Clock links.new clock.new)
-        (K.taken sink.old) (K.taken sink.new) (K.faults sink.old) (K.faults sink.new) disk e.1 e.0) }
+        (L.standing links.new) (K.taken sink.old) (K.taken sink.new) (K.faults sink.old) (K.faults sink.new) disk e.1 e.0) }
+    ensures addresses { SettlesAs number cluster.now (L.standing links.old) (L.standing links.new) }
 {
     let Some(drive) = own_drive(cluster.drives.as_slice(), number) else {
         return Err((
@@ -109,10 +115,14 @@ fn serve_stored_cluster<S: Source, K: Sink, L: Links, C: Clock, D: Disk>(
 ) -> Result<D, (StoredStop, D)>
     ensures serves { IfOk result (λ left. ServesStoredAs D.Disk number connections
         (streams_at S.Source K.Sink source.old sink.old) (streams_at S.Source K.Sink source.new sink.new)
-        (network_at L.Links C.Clock links.old clock.old) (network_at L.Links C.Clock links.new clock.new) disk left) }
+        (network_at L.Links C.Clock links.old clock.old) (network_at L.Links C.Clock links.new clock.new)
+        (L.standing links.new) disk left) }
     ensures stops { IfErr result (λ e. StopsStoredDrive D.Disk number connections
         (streams_at S.Source K.Sink source.old sink.old) (streams_at S.Source K.Sink source.new sink.new)
-        (network_at L.Links C.Clock links.old clock.old) (network_at L.Links C.Clock links.new clock.new) disk e.1 e.0) }
+        (network_at L.Links C.Clock links.old clock.old) (network_at L.Links C.Clock links.new clock.new)
+        (L.standing links.new) disk e.1 e.0) }
+    ensures addresses { SettlesAsText number (S.left source.old) (S.left source.new) (L.standing links.old) (L.standing links.new) }
+    ensures input { TakesAtMost MAX_READ (S.left source.old) (S.left source.new) }
 {
     let cluster = match cluster_from(alloc, Reader::Drive(number), source) {
         Ok(cluster) => cluster,
@@ -212,10 +222,14 @@ pub fn stored_drive_command<S: Source, K: Sink, L: Links, C: Clock, D: Disk>(
 ) -> Result<D, (StoredStop, D)>
     ensures serves { IfOk result (λ left. ServesStoredAs D.Disk number connections
         (streams_at S.Source K.Sink source.old sink.old) (streams_at S.Source K.Sink source.new sink.new)
-        (network_at L.Links C.Clock links.old clock.old) (network_at L.Links C.Clock links.new clock.new) disk left) }
+        (network_at L.Links C.Clock links.old clock.old) (network_at L.Links C.Clock links.new clock.new)
+        (L.standing links.new) disk left) }
     ensures stops { IfErr result (λ e. EndsStored D.Disk number connections
         (streams_at S.Source K.Sink source.old sink.old) (streams_at S.Source K.Sink source.new sink.new)
-        (network_at L.Links C.Clock links.old clock.old) (network_at L.Links C.Clock links.new clock.new) disk e.1 e.0) }
+        (network_at L.Links C.Clock links.old clock.old) (network_at L.Links C.Clock links.new clock.new)
+        (L.standing links.new) disk e.1 e.0) }
+    ensures addresses { SettlesAsText number (S.left source.old) (S.left source.new) (L.standing links.old) (L.standing links.new) }
+    ensures input { TakesAtMost MAX_READ (S.left source.old) (S.left source.new) }
 {
     match serve_stored_cluster(
         alloc,

@@ -1,9 +1,10 @@
 // What a drive with a store serves once its links listen, and the lines before and after.
-ghost use Rattle.std.specs.Prelude.{◌≡◌, false, IfErr, OnOk};
-ghost use Rattle.drive_command.specs.Connections.{network_at};
+ghost use Rattle.std.specs.Prelude.{◌≡◌, false, List, IfErr, OnOk};
+ghost use Rattle.cluster_text.specs.Peers.{KeepsAddresses};
+ghost use Rattle.drive_command.specs.Connections.{Handled, network_at};
 ghost use Rattle.cluster_text.specs.Lines.{served_line};
 ghost use Rattle.drive_command.specs.Ends.{Serves};
-ghost use Rattle.drive_command.specs.GoesOn.{HandlesSome, WentOn};
+ghost use Rattle.drive_command.specs.GoesOn.{WentOn};
 ghost use Rattle.drive_command.specs.StoredService.{StopsServer};
 
 use crate::connections::serve;
@@ -23,15 +24,15 @@ pub(crate) fn serve_told<H: DeviceServer, K: Sink, L: Links, C: Clock>(
     clock: &mut C,
 ) -> Result<(), StoredStop>
     requires { H.is_over server.old ≡ false }
-    ensures serves { OnOk result (Serves connections (H.drive server.old) (H.drive server.new)
+    ensures serves { OnOk result ((handled : List Handled)
+        × Serves connections (H.drive server.old) (H.drive server.new)
         (network_at L.Links C.Clock links.old clock.old) (network_at L.Links C.Clock links.new clock.new)
-        (K.taken sink.old) (K.taken sink.new)) }
-    ensures stops { IfErr result (StopsServer connections (H.drive server.old) (H.drive server.new)
+        (K.taken sink.old) (K.taken sink.new) handled
+        × WentOn H.DeviceServer handled server.old server.new) }
+    ensures stops { IfErr result (StopsServer H.DeviceServer connections server.old server.new
         (network_at L.Links C.Clock links.old clock.old) (network_at L.Links C.Clock links.new clock.new)
-        (K.taken sink.old) (K.taken sink.new) (K.faults sink.old) (K.faults sink.new)
-        (H.faults server.old) (H.faults server.new)) }
-    ensures carries { HandlesSome H.DeviceServer server.old server.new }
-    ensures went_on { OnOk result (WentOn H.DeviceServer server.old server.new) }
+        (K.taken sink.old) (K.taken sink.new) (K.faults sink.old) (K.faults sink.new)) }
+    ensures addresses { KeepsAddresses (L.standing links.old) (L.standing links.new) }
 {
     let served = served_line(alloc, connections)?;
     match put_all(sink, b"listening\n") {

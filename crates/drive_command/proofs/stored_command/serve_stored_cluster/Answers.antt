@@ -5,7 +5,8 @@ use Rattle.drive_command.proofs.stored_command.serve_stored_cluster.Goals as goa
 
 pub returns-clause-stops : goal.returns-clause-stops
 returns-clause-stops g c =
-    stopped_as g.D.Disk c.args.number c.args.connections c.args.disk c.in-Err-serve_stored_in.refusal.1
+    stopped_as g.D.Disk c.args.number c.args.connections (g.L.Links.standing c.serve_stored_in.new.links)
+    c.args.disk c.in-Err-serve_stored_in.refusal.1
     (streams (g.S.Source.left c.args.source.now) (g.S.Source.faults c.args.source.now)
     (g.K.Sink.taken c.args.sink.now) (g.K.Sink.faults c.args.sink.now))
     (streams (g.S.Source.left c.cluster_from.new.source) (g.S.Source.faults c.cluster_from.new.source)
