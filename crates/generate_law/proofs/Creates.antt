@@ -1,11 +1,10 @@
 -- The CREATEs of the scenario's file: each is read as it was sent, a new drive performs it, and its reply is read as it was sent.
 use Rattle.std.specs.Cmp.Lexicographic.{pointwise}
-use Rattle.std.proofs.Common.{◌≡◌, ◌<◌, ◌≤◌, ◌+◌, ◌==◌, ◌^◌, ◌&&◌, not, nat_eq, ℕ, zero, suc, Bool, true, false, List, [], ◌∷◌, ◌++◌, length, replicate, Option, Some, None, Result, Ok, Err, if◌then◌else◌, refl, sym, ap, subst, ◌∙◌, arith}
+use Rattle.std.proofs.Common.{◌≡◌, ◌<◌, ◌+◌, ◌^◌, not, nat_eq, ℕ, zero, suc, Bool, false, List, [], ◌∷◌, ◌++◌, length, replicate, None, Ok, refl, ap, ◌∙◌, arith}
 use Rattle.std.proofs.lemmas.Bool.{eq-eqb}
 use Rattle.osd_capability.specs.Keys.{key_of, check_of}
 use Rattle.osd_commands.specs.declared.actions.Action.TheVariants.{Create}
 use Rattle.osd_commands.specs.declared.commands.Command.{Command}
-use Rattle.osd_commands.specs.declared.commands.CommandErr.{CommandErr}
 use Rattle.osd_commands.specs.declared.replies.Reply.{Reply}
 use Rattle.osd_commands.specs.Actions.{number_of}
 use Rattle.osd_commands.specs.Commands.{Fits, head, fields, spelling, reading}
@@ -13,14 +12,13 @@ use Rattle.osd_commands.specs.Replies as replies
 use Rattle.osd_commands.proofs.CommandLaws.{reading-command}
 use Rattle.osd_commands.proofs.ReplyLaws.{reading-reply}
 use Rattle.osd_drive.specs.declared.verdict.Verdict.TheVariants.{Perform}
-use Rattle.osd_drive.specs.State.{DriveState}
 use Rattle.osd_drive.specs.Table.{Row, first_row, NoneApplies, all_rows, first_fault, has_wrong_check, is_elsewhere, passes_limit}
 use Rattle.osd_drive.specs.Effects.{performed}
 use Rattle.server_rules.specs.Making.{new_server, unmade}
 use Rattle.server_rules.specs.Commands.{Creating, label, check_under, key_at, sealed, sent_to}
 use Rattle.world_history.specs.ServerNames.{Awaited, Drive, Server}
 use Rattle.world_history.specs.State.{DriveAt}
-use Rattle.world_history.specs.Drives.{Judged, judges, made_drive}
+use Rattle.world_history.specs.Drives.{judges, made_drive}
 use Rattle.world_history.specs.Moves.{known_drive, raw_of}
 use Rattle.history_law.proofs.Checks.{is_check}
 use Rattle.component_law.proofs.Sealing.{same_bytes}

@@ -1,5 +1,5 @@
 -- Each call of the scenario is ready where its event begins, so it ends in ok.
-use Rattle.std.proofs.Common.{◌≡◌, ◌+◌, ◌%◌, ℕ, zero, suc, List, [], ◌∷◌, ◌++◌, map, refl, sym, ap, subst, ◌∙◌}
+use Rattle.std.proofs.Common.{◌≡◌, ◌+◌, ℕ, zero, suc, List, [], ◌∷◌, ◌++◌, map, refl, sym, ap, subst, ◌∙◌}
 use Rattle.std.specs.List.{AllByRecursion}
 use Rattle.std.proofs.lemmas.List.{append-nil}
 use Rattle.scenario_text.specs.declared.event.Call.{Call}
@@ -17,12 +17,12 @@ use Rattle.history_law.proofs.Staying.{written_front}
 use Rattle.exchange_law.specs.Text.{AreFew}
 use Rattle.exchange_law.proofs.CountGrowing.{fewer}
 use Rattle.ready_law.specs.Answered.{ReadyIsAnswered, scene_in}
-use Rattle.ready_law.specs.Events.{EventsStandApart, IsOver, StandsApart}
+use Rattle.ready_law.specs.Events.{EventsStandApart, StandsApart}
 use Rattle.ready_law.specs.Ready.{IsReady, Scene, scene_of}
 use Rattle.ready_law.specs.Worlds.{ScenesAreRead}
 use Rattle.generate_law.specs.Opening.{before_calls, EachCallRests, ScenarioCallsEndInOk}
 use Rattle.generate_law.specs.Plays.{Plays}
-use Rattle.generate_law.specs.Scenario.{call_event, call_of, calls_from, first_call, first_write, next_random, scenario_of}
+use Rattle.generate_law.specs.Scenario.{call_event, calls_from, first_call, next_random, scenario_of}
 use Rattle.generate_law.proofs.Events.{events_in, events_are, events_more}
 use Rattle.generate_law.proofs.Opening.{opening_rests}
 use Rattle.generate_law.proofs.Readiness.{each_call_is_ready, first_call_is_ready}

@@ -1,4 +1,4 @@
--- Behind the first call of the scenario, and each further one, the parties rest.
+-- After the first call of the scenario, and each further one, the parties rest.
 use Rattle.std.proofs.Common.{◌≡◌, ℕ, List, [], ◌∷◌, ◌++◌, map, refl, sym, ap, subst, ◌∙◌, append_assoc}
 use Rattle.scenario_text.specs.declared.event.Event.{Event}
 use Rattle.scenario_text.specs.declared.line.Line.{Line}
@@ -13,7 +13,7 @@ use Rattle.generate_law.specs.Going.{GoesWell}
 use Rattle.generate_law.specs.Opening.{before_calls, EachCallRests}
 use Rattle.generate_law.specs.Plays.{Plays}
 use Rattle.generate_law.specs.Rests.{FILE_SIZE, Rests}
-use Rattle.generate_law.specs.Scenario.{calls_from, first_call, scenario_of}
+use Rattle.generate_law.specs.Scenario.{calls_from, first_call}
 use Rattle.generate_law.proofs.Going.{calls_keep_rest, front_well, one_first}
 use Rattle.generate_law.proofs.Opening.{opening_rests}
 use Rattle.generate_law.proofs.Refusing.{scenario_is_unguessed}

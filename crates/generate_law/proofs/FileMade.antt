@@ -1,8 +1,7 @@
 -- The scenario's file is made: from its event on each CREATE comes to its drive, each reply to the server, and its job is over.
-use Rattle.std.proofs.Common.{◌≡◌, ◌<◌, ◌+◌, ◌==◌, ◌&&◌, nat_lt, ℕ, zero, suc, Bool, true, false, List, [], ◌∷◌, ◌++◌, length, map, filter, find, slice_get, slice_set, Option, Some, None, Result, Ok, if◌then◌else◌, refl, sym, ap, subst, ◌∙◌, arith, inl, inr}
+use Rattle.std.proofs.Common.{◌≡◌, ◌+◌, ℕ, Bool, true, false, List, [], ◌∷◌, ◌++◌, find, Option, Some, None, refl, sym, ap, subst, ◌∙◌, arith}
 use Rattle.std.proofs.lemmas.Bool.{eq-eqb}
 use Rattle.osd_lists.specs.declared.node.Node.TheVariants as node
-use Rattle.server_rules.specs.Laws.{In}
 use Rattle.server_rules.specs.Going.{Going}
 use Rattle.server_rules.specs.Files.{Step, at_file, put_file}
 use Rattle.server_rules.specs.Jobs.{goes_on, waits_or_on}
@@ -86,7 +85,7 @@ module _ (a b c d e : ℕ) where
       ∷ back_row 0 a true ∷ back_row 1 b true ∷ back_row 2 c true ∷ back_row 3 d true ∷ back_row 4 e true ∷ []
 
   module _ (clients : List (ℕ × ClientAt)) where
-    -- behind all commands
+    -- after all commands
     abbrev Performed : World → World → Type 0
     Performed w v =
         (u : World) × Stage ns (out_row 0 a true ∷ out_row 1 b true ∷ out_row 2 c true ∷ out_row 3 d true ∷ out_row 4 e true
@@ -115,7 +114,7 @@ module _ (a b c d e : ℕ) where
         subst (Stage ns rows_all None true [] clients)
         (sym (none_due prompt u v g (ap (λ (ms : List Posted). due_pending u None (pending_from 0 0 ms)) s.rows_are))) s
 
-    -- behind all replies
+    -- after all replies
     answered : (w v : World) → AreGood ns → Performed w v → Stage ns rows_all None true [] clients v
     unfolding pending_from
     answered w v good p =

@@ -1,8 +1,7 @@
 -- The drives and the server while the scenario's file is made: each CREATE is performed and answered.
-use Rattle.std.proofs.Common.{◌≡◌, ◌<◌, ◌≤◌, ◌+◌, ◌==◌, ◌&&◌, ℕ, zero, suc, Bool, true, false, List, [], ◌∷◌, ◌++◌, map, slice_get, slice_set, Option, Some, None, Result, Ok, if◌then◌else◌, refl, sym, ap, subst, ◌∙◌, arith, inl, inr, IsSome, filter}
+use Rattle.std.proofs.Common.{◌≡◌, ◌<◌, ◌≤◌, ℕ, Bool, true, false, List, [], ◌∷◌, ◌++◌, map, slice_get, slice_set, Option, Some, None, Result, Ok, if◌then◌else◌, refl, sym, ap, subst, ◌∙◌, arith, inl, inr, IsSome, filter}
 use Rattle.std.proofs.lemmas.Bool.{cases_eq}
 use Rattle.std.proofs.lemmas.List.{append-nil}
-use Rattle.osd_lists.specs.declared.node.Node.{Node}
 use Rattle.osd_lists.specs.declared.node.Node.TheVariants as node
 use Rattle.osd_commands.specs.declared.commands.Command.{Command}
 use Rattle.osd_commands.specs.declared.commands.CommandErr.{CommandErr}
@@ -13,7 +12,7 @@ use Rattle.osd_objects.proofs.Entries.{lookup_set, lookup_set_beside}
 use Rattle.server_rules.specs.Laws.{In}
 use Rattle.server_rules.specs.Files.{Step}
 use Rattle.server_rules.specs.Making.{unmade}
-use Rattle.server_rules.specs.Messages.{Message, Replies, on_message}
+use Rattle.server_rules.specs.Messages.{Replies, on_message}
 use Rattle.server_rules.specs.Envelopes.{message_in, by_reply}
 use Rattle.scenario_text.specs.declared.line.Delivery.TheVariants as delivery
 use Rattle.world_history.specs.declared.messages.Body.TheVariants.{Command as OfCommand, Reply as OfReply}
@@ -27,7 +26,7 @@ use Rattle.world_history.specs.Plans.{Plan, Prompt, due, due_pending, pending_fr
 use Rattle.world_history.specs.Sending.{sends_all, fresh}
 use Rattle.cause_law.proofs.Frames.{delivered_act}
 use Rattle.generate_law.specs.Scenario.{file_map}
-use Rattle.generate_law.proofs.Creates.{drive_new, known_to, server_to, asked, create_of, reply_of, create_read, reply_read, drive_with, drive_makes, drive_answers}
+use Rattle.generate_law.proofs.Creates.{drive_new, server_to, create_of, reply_of, create_read, reply_read, drive_with, drive_makes, drive_answers}
 use Rattle.generate_law.proofs.Runs.{Goes, moved, next}
 
 -- ---- the file
@@ -86,7 +85,7 @@ pub record Stage (ns : List ℕ) (rows : List Posted) (job : Option Job) (ready 
   pub drives : (d : ℕ) → d < 6 → (a : DriveAt) × (at_number w.drives d ≡ Some a) × IsFine a
   pub new : (d : ℕ) → In d todo → at_number w.drives d ≡ Some (drive_new d)
 
--- what is behind the event's first action: messages are delivered
+-- what comes after the event's first action: messages are delivered
 abbrev pub prompt : Plan
 prompt = record { opening = None; rule = Prompt 0 None }
 
@@ -154,11 +153,11 @@ module _ (ns : List ℕ) (rows : List Posted) (job : Option Job) (ready : Bool) 
     fine : (e : ℕ) → e < 6 → (a : DriveAt) × (at_number drives_now e ≡ Some a) × IsFine a
     fine e less = elim (cases_eq e d) [
       | inl same ↦ (
-          drive_with k d low,
-          ap (λ (x : ℕ). at_number drives_now x) same
-          ∙ lookup_set w.drives d (drive_with k d low) (subst IsSome (sym (s.new d (inl refl))) refl),
-          record { works = refl; up = refl; clock = refl; format = omega arith; room = omega arith },
-        )
+        drive_with k d low,
+        ap (λ (x : ℕ). at_number drives_now x) same
+            ∙ lookup_set w.drives d (drive_with k d low) (subst IsSome (sym (s.new d (inl refl))) refl),
+        record { works = refl; up = refl; clock = refl; format = omega arith; room = omega arith },
+      )
       | inr beside ↦
           let a = s.drives e less in
           (a.0, lookup_set_beside w.drives d e (drive_with k d low) beside ∙ a.1, a.2)

@@ -1,5 +1,5 @@
--- The scenario's opening: behind its drives, its clients and its file the parties rest.
-use Rattle.std.proofs.Common.{◌≡◌, ◌<◌, ◌≤◌, ◌+◌, ◌==◌, ◌&&◌, not, nat_lt, ℕ, zero, suc, Bool, true, false, List, [], ◌∷◌, ◌++◌, length, map, filter, find, is_some, Option, Some, None, Result, Ok, if◌then◌else◌, refl, sym, ap, subst, ◌∙◌, arith, inl, inr}
+-- The scenario's opening: after its drives, its clients and its file the parties rest.
+use Rattle.std.proofs.Common.{◌≡◌, ◌<◌, ◌≤◌, nat_lt, ℕ, zero, suc, Bool, true, false, List, [], ◌∷◌, ◌++◌, length, map, filter, Some, None, refl, sym, ap, subst, ◌∙◌, arith, inl, inr}
 use Rattle.std.proofs.lemmas.Bool.Decides.{nat_tests}
 use Rattle.std.specs.List.{AllByRecursion}
 use Rattle.client_rules.specs.Grants.{held_of}
@@ -15,7 +15,6 @@ use Rattle.scenario_text.specs.declared.line.Line.{Line}
 use Rattle.scenario_text.specs.declared.line.Line.TheVariants as line
 use Rattle.scenario_text.specs.declared.event.Event.{Event}
 use Rattle.scenario_text.specs.declared.event.Event.TheVariants as event
-use Rattle.world_history.specs.declared.messages.Posted.{Posted}
 use Rattle.world_history.specs.ServerNames.{Awaited, Component, File, Outgoing, Server}
 use Rattle.world_history.specs.State.{World, DriveAt, ClientAt, empty_world, at_number}
 use Rattle.world_history.specs.Handed.{Post, is_addressed, server_did, server_post}
@@ -38,7 +37,7 @@ use Rattle.generate_law.proofs.Creates.{drive_new, known_to, server_to}
 use Rattle.generate_law.proofs.Chosen.{AreGood, are_good, five_taken, taken}
 use Rattle.generate_law.proofs.Making.{file_with, server_with, job_with, Stage, prompt}
 use Rattle.generate_law.proofs.FileMade.{asked_all, rows_out, rows_all, file_made}
-use Rattle.generate_law.proofs.Runs.{Goes, First, Leads, moved, next, none_due, first, at_end, alone}
+use Rattle.generate_law.proofs.Runs.{Goes, First, Leads, moved, next, first, at_end, alone}
 
 -- ---- drives and clients
 
@@ -91,7 +90,7 @@ a_client : (m : ℕ) (v : World) (es : List Event) → m < 3 → Leads (world_wi
 unfolding rule_of
 a_client m v es low l = alone (world_with 6 m) (world_with 6 (suc m)) v (event.Client m) es refl (client_made m low) l
 
--- behind the six drives and three clients
+-- after the six drives and three clients
 parties_made : (v : World) (es : List Event)
     → Leads empty_world v (each_below makes_drive 6 ++ (each_below (λ c. event.Client c) 3 ++ es)) → Leads (world_with 6 3) v es
 parties_made v es l =

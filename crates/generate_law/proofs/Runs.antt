@@ -1,12 +1,11 @@
 -- An event's moves one by one, and the events of a history one by one.
-use Rattle.std.proofs.Common.{◌≡◌, List, [], ◌∷◌, ◌++◌, map, ℕ, Option, Some, None, refl, sym, ap, subst, ◌∙◌}
+use Rattle.std.proofs.Common.{◌≡◌, List, [], ◌∷◌, map, ℕ, Some, None, refl, sym, subst, ◌∙◌}
 use Rattle.scenario_text.specs.declared.event.Event.{Event}
-use Rattle.scenario_text.specs.declared.line.Line.{Line}
 use Rattle.world_history.specs.State.{World}
 use Rattle.world_history.specs.Moves.{Action, Opens}
 use Rattle.world_history.specs.Sending.{Move, move}
 use Rattle.world_history.specs.Plans.{Plan, Rule, Alone, due, went_on, plan_of, rule_of}
-use Rattle.world_history.specs.Runs.{world_after, AreDue, plan_after, IsOver, Carries}
+use Rattle.world_history.specs.Runs.{world_after, AreDue, plan_after, IsOver}
 use Rattle.world_history.specs.History.{Step, AreCarried, end_of}
 
 -- ---- moves
@@ -86,7 +85,7 @@ none_of_steps w v (s ∷ steps) e is = absurd (cc e)
 pub at_end : (w v : World) → Leads w v [] → v ≡ w
 at_end w v l = none_of_steps w v l.steps l.events_are l.world_is
 
--- an event behind which nothing is due leads to one world
+-- an event after which nothing is due leads to one world
 pub alone : (w u v : World) (e : Event) (es : List Event) → rule_of w e ≡ Alone
     → ((chosen : List ℕ) → moved w (Opens e) chosen ≡ u) → Leads w v (e ∷ es) → Leads u v es
 alone w u v e es rule is l =

@@ -65,15 +65,23 @@ call_fits k x = either (k % 2 == 0)
   where
     either : (b : Bool) → AllFit (call_parts (if b then call.Write 0 (offset_of x) (replicate (length_of x) (k % 256))
         else call.Read 0 (offset_of x) (length_of x)))
-    either true =
-        (tt,
-        (omega arith,
-        ((omega arith, omega (arith, offset_low x)),
-        (λ i. same_bytes (length_of x) (k % 256) i (mod-lt k (omega arith)), tt))))
-    either false =
-        (tt,
-        (omega arith,
-        ((omega arith, omega (arith, offset_low x)), ((omega arith, omega (arith, length_low x)), tt))))
+    either true = (
+      tt,
+      (
+        omega arith,
+        (
+          (omega arith, omega (arith, offset_low x)),
+          (λ i. same_bytes (length_of x) (k % 256) i (mod-lt k (omega arith)), tt),
+        ),
+      ),
+    )
+    either false = (
+      tt,
+      (
+        omega arith,
+        ((omega arith, omega (arith, offset_low x)), ((omega arith, omega (arith, length_low x)), tt)),
+      ),
+    )
 
 call_good : (k x : ℕ) → IsGood (call_event k x)
 call_good k x = record {
@@ -90,17 +98,34 @@ all_more [] ys g h = h
 all_more (x ∷ xs) ys g h = (g.0, all_more xs ys g.1 h)
 
 opening_good : AllByRecursion IsGood opening
-opening_good =
-    (drive_good 0 refl (omega arith),
-    (drive_good 1 refl (omega arith),
-    (drive_good 2 refl (omega arith),
-    (drive_good 3 refl (omega arith),
-    (drive_good 4 refl (omega arith),
-    (drive_good 5 refl (omega arith),
-    (client_good 0 (omega arith),
-    (client_good 1 (omega arith),
-    (client_good 2 (omega arith),
-    (file_good, (first_good, tt)))))))))))
+opening_good = (
+  drive_good 0 refl (omega arith),
+  (
+    drive_good 1 refl (omega arith),
+    (
+      drive_good 2 refl (omega arith),
+      (
+        drive_good 3 refl (omega arith),
+        (
+          drive_good 4 refl (omega arith),
+          (
+            drive_good 5 refl (omega arith),
+            (
+              client_good 0 (omega arith),
+              (
+                client_good 1 (omega arith),
+                (
+                  client_good 2 (omega arith),
+                  (file_good, (first_good, tt)),
+                ),
+              ),
+            ),
+          ),
+        ),
+      ),
+    ),
+  ),
+)
 
 -- so is the whole history
 pub scenario_is_text : (seed calls : ℕ) (w : World) (h : List Line) → Plays (scenario_of seed calls) w h
