@@ -1,6 +1,6 @@
 -- A text that a drive may read has its key: so the drive is always made.
 use Rattle.std.proofs.Common.{◌≡◌, ◌≢◌, ◌∙◌, ap, refl, sym}
-use Rattle.std.specs.Prelude.{ℕ, ℤ, pos, codes, Bool, true, false, ◌-◌, ◌||◌, ◌&&◌, nat_le, nat_eq, if◌then◌else◌, List, [], ◌∷◌, length, map, Option, Some, None, is_some, is_none, option_map, Ok, Err, cond}
+use Rattle.std.specs.Prelude.{ℕ, ℤ, pos, codes, Bool, true, false, ◌-◌, ◌||◌, ◌&&◌, nat_le, nat_eq, if◌then◌else◌, List, [], ◌∷◌, length, Option, Some, None, is_some, is_none, option_map, Ok, Err, cond}
 use Rattle.std.specs.List.{find, list_any}
 use Rattle.std.specs.Option.{option_and_then, option_map_or}
 use Rattle.std.proofs.lemmas.Bool.{or_parts}

@@ -6,9 +6,7 @@ use Rattle.cluster_text.specs.declared.stop.CommandStop.TheVariants as cause
 use Rattle.osd_disk.specs.Crashes.{Elapses, Narrows, OnlyRead}
 use Rattle.osd_disk.proofs.Moments.{leaves_as_before, nothing_read, read_again, read_more}
 use Rattle.osd_disk.specs.declared.disk.Disk.{Ghosts as DiskGhosts}
-use Rattle.osd_disk.specs.declared.disk.DiskErr.TheVariants as failure
 use Rattle.osd_drive.specs.State.{DriveState}
-use Rattle.drive_store.specs.declared.errors.StoreErr.TheVariants as store
 use Rattle.drive_command.specs.declared.stored_stop.StoredStop.{StoredStop}
 use Rattle.drive_command.specs.declared.stored_stop.StoredStop.TheVariants.{Command, DiskFault, BadStore}
 use Rattle.drive_command.specs.Opened.{IsRefusedAt, LeavesOpenable, StopsOpening}

@@ -1,5 +1,5 @@
 -- Why serving stopped.
-use Rattle.std.proofs.Common.{◌≡◌, ◌≤◌, ℕ, zero, suc, List, [], ◌++◌, Option, Err, ap, refl, sym, subst, inr, arith}
+use Rattle.std.proofs.Common.{◌≤◌, ℕ, zero, suc, List, [], Option, Err, ap, refl, sym, subst, inr, arith}
 use Rattle.std.proofs.lemmas.List.{append-nil}
 use Rattle.std.specs.Io.KnownBytes.{Appends}
 use Rattle.cluster_text.specs.Lines.{listening_line}

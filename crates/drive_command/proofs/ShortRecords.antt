@@ -1,5 +1,5 @@
 -- A record carries each reply.
-use Rattle.std.proofs.Common.{ℕ, ◌≤◌, length, arith}
+use Rattle.std.proofs.Common.{◌≤◌, length, arith}
 use Rattle.std.proofs.lemmas.List.{length-append}
 use Rattle.osd_bytes.specs.declared.records.TheConstants.{MAX_RECORD}
 use Rattle.osd_commands.specs.declared.replies.Reply.{Reply}

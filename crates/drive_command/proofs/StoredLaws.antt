@@ -1,6 +1,6 @@
 -- What a stored drive leaves on its disk, and how its serving ends.
-use Rattle.std.proofs.Common.{◌≡◌, ◌⊎◌, ⊎_elim, ℕ, List, [], ◌++◌, Option, inl, inr, refl, ◌∙◌, sym, ap, subst, append_assoc, arith}
-use Rattle.std.specs.Prelude.{IsTrue, ◌≤◌, length}
+use Rattle.std.proofs.Common.{◌≡◌, ⊎_elim, ℕ, List, [], ◌++◌, Option, inl, inr, refl, ◌∙◌, sym, ap, subst, append_assoc, arith}
+use Rattle.std.specs.Prelude.{IsTrue}
 use Rattle.std.proofs.lemmas.List.{append-nil}
 use Rattle.osd_bytes.specs.Causes.{Rose}
 use Rattle.cluster_text.specs.declared.stop.CommandStop.TheVariants as cause
@@ -17,7 +17,7 @@ use Rattle.drive_command.specs.Ends.{HasNotBegun, Serves}
 use Rattle.drive_command.specs.Kept.{Carries, StandsForSome}
 use Rattle.drive_command.specs.Opened.{BeginsWith, LeavesOpenable, StopsOpening}
 use Rattle.drive_command.specs.StoredServer.{stays}
-use Rattle.drive_command.specs.StoredService.{HasBegun, LeavesRun, ServesFrom, StaysSince, StopsFrom, StopsKept, WhyFrom}
+use Rattle.drive_command.specs.StoredService.{LeavesRun, ServesFrom, StaysSince, StopsFrom, StopsKept, WhyFrom}
 
 -- what a crash leaves of a stored drive is what it leaves of its disk
 pub of_disk : {D : Type 0} (moment : D → ℕ) (left_since : D → ℕ → List ℕ → Type 0) (old new : StoredDrive D) (P : List ℕ → Type 0)

@@ -1,6 +1,6 @@
-use Rattle.std.proofs.Common.{rules, ◌≡◌, Err, refl, sym, ap, ◌∙◌, ◌∷◌, [], ◌++◌}
+use Rattle.std.proofs.Common.{rules, ◌≡◌, Err, refl, ◌∙◌, ◌∷◌, [], ◌++◌}
 use Rattle.std.proofs.lemmas.List.{take_all}
-use Rattle.drive_command.specs.Connections.{ends_at, handled_at, messages_of}
+use Rattle.drive_command.specs.Connections.{handled_at}
 use Rattle.drive_command.proofs.ConnectionLaws.{cut-more, messages-more, more-answered, more-none}
 use Rattle.drive_command.proofs.KeptLaws.{breaks-then, went-none, went-then}
 use Rattle.drive_command.proofs.connections.answer_all.Goals as goal

@@ -1,4 +1,4 @@
-use Rattle.std.proofs.Common.{rules, ◌≡◌, true, false, [], ◌∷◌, refl, inl, inr, ap, Err, ◌∙◌, sym}
+use Rattle.std.proofs.Common.{rules, ◌≡◌, true, false, [], ◌∷◌, refl, inl, inr, ap, Err, ◌∙◌}
 use Rattle.osd_bytes.specs.Causes.{Rose}
 use Rattle.drive_command.specs.Connections.{handled_at, reply_bytes}
 use Rattle.drive_command.specs.declared.device_server.HandleErr.TheVariants.{DiskFault, Memory}

@@ -1,4 +1,4 @@
-use Rattle.std.proofs.Common.{rules, refl, [], ◌++◌, arith, ◌∙◌, ap, Err, sym}
+use Rattle.std.proofs.Common.{rules, refl, [], ◌++◌}
 use Rattle.drive_command.specs.Connections.{ends_at}
 use Rattle.drive_command.proofs.ConnectionLaws.{cut-all, not-accepted, served-one}
 use Rattle.drive_command.proofs.KeptLaws.{breaks-then, stops-so, went-none, went-then}

@@ -1,8 +1,4 @@
-use Rattle.std.proofs.Common.{rules, ◌≡◌, subst}
-use Rattle.std.specs.Prelude.{Err}
-use Rattle.drive_command.specs.Connections.{ends_of}
-use Rattle.drive_command.specs.GoesOn.{EndsServing}
-use Rattle.drive_command.specs.declared.serve_err.DriveServeErr.{DriveServeErr}
+use Rattle.std.proofs.Common.{rules, ◌≡◌}
 use Rattle.drive_command.specs.declared.serve_err.DriveServeErr.TheVariants.{LinkFault, Memory}
 use Rattle.drive_command.proofs.service.serve_all.Goals as goal
 
