@@ -185,7 +185,8 @@ take-got records i x e = rw add-one (got records i x e)
 
 -- the messages of one more
 pub messages-more : (more : List Handled) (records : List (List ℕ)) (i time : ℕ) (message : List ℕ)
-    → messages_of more ≡ take i records → slice_get records i ≡ Some message → messages_of (more ++ handled_at time message ∷ []) ≡ take (i + 1) records
+    → messages_of more ≡ take i records → slice_get records i ≡ Some message
+    → messages_of (more ++ handled_at time message ∷ []) ≡ take (i + 1) records
 messages-more more records i time message same got =
     map-append (λ (h : Handled). h.message) more (handled_at time message ∷ [])
     ∙ ap (λ (rs : List (List ℕ)). rs ++ message ∷ []) same ∙ sym (take-got records i message got)

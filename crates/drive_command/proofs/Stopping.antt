@@ -78,11 +78,6 @@ module _ (number connections : ℕ) (cluster : Cluster) (before now : Ends) (sta
       go ReadFault s = absurd s.2
       go Full s = absurd s.2
 
-  -- the links were settled, and there was no memory for the drive
-  pub no_core : (settled : Ends) → settled ≡ before → now ≡ settled → taken ≡ taken_before
-      → StopsIn number connections cluster before now standing taken_before taken failed_before failed Memory
-  no_core settled same still silent = inl (silent, still ∙ same)
-
 -- ---- the command
 
 module _ (number connections : ℕ) (in_before in_now : Streams) (before now : Ends) (standing : Standing) where

@@ -86,8 +86,8 @@ module _ {D : Type 0} (s : DiskGhosts D) (number connections : ℕ) (standing : 
       → StopsStoredDrive s number connections in_before in_now before now standing disk left stop
       → StopsStoredDrive s number connections in_before in_now before now standing disk left told
   told_as in_before in_now before now stop told (inl same) x =
-      subst (λ (e : StoredStop). StopsStoredDrive s number connections in_before in_now before now standing disk left e) (sym same)
-      x
+      subst (λ (e : StoredStop). StopsStoredDrive s number connections in_before in_now before now standing disk left e)
+      (sym same) x
   told_as in_before in_now before now stop told (inr (none, at, is)) x =
       subst (λ (e : StoredStop). StopsStoredDrive s number connections in_before in_now before now standing disk left e)
       (sym none)

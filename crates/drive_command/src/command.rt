@@ -65,7 +65,8 @@ fn serve_cluster<S: Source, K: Sink, L: Links, C: Clock>(
         (streams_at S.Source K.Sink source.old sink.old) (streams_at S.Source K.Sink source.new sink.new)
         (network_at L.Links C.Clock links.old clock.old) (network_at L.Links C.Clock links.new clock.new)
         (L.standing links.new)) }
-    ensures addresses { SettlesAsText number (S.left source.old) (S.left source.new) (L.standing links.old) (L.standing links.new) }
+    ensures addresses { SettlesAsText number (S.left source.old) (S.left source.new)
+        (L.standing links.old) (L.standing links.new) }
     ensures input { TakesAtMost MAX_READ (S.left source.old) (S.left source.new) }
 {
     let cluster = match cluster_from(alloc, Reader::Drive(number), source) {
@@ -105,7 +106,8 @@ pub fn drive_command<S: Source, K: Sink, L: Links, C: Clock>(
         (streams_at S.Source K.Sink source.old sink.old) (streams_at S.Source K.Sink source.new sink.new)
         (network_at L.Links C.Clock links.old clock.old) (network_at L.Links C.Clock links.new clock.new)
         (L.standing links.new)) }
-    ensures addresses { SettlesAsText number (S.left source.old) (S.left source.new) (L.standing links.old) (L.standing links.new) }
+    ensures addresses { SettlesAsText number (S.left source.old) (S.left source.new)
+        (L.standing links.old) (L.standing links.new) }
     ensures input { TakesAtMost MAX_READ (S.left source.old) (S.left source.new) }
 {
     match serve_cluster(alloc, number, connections, source, sink, links, clock) {

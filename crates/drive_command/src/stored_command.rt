@@ -121,7 +121,8 @@ fn serve_stored_cluster<S: Source, K: Sink, L: Links, C: Clock, D: Disk>(
         (streams_at S.Source K.Sink source.old sink.old) (streams_at S.Source K.Sink source.new sink.new)
         (network_at L.Links C.Clock links.old clock.old) (network_at L.Links C.Clock links.new clock.new)
         (L.standing links.new) disk e.1 e.0) }
-    ensures addresses { SettlesAsText number (S.left source.old) (S.left source.new) (L.standing links.old) (L.standing links.new) }
+    ensures addresses { SettlesAsText number (S.left source.old) (S.left source.new)
+        (L.standing links.old) (L.standing links.new) }
     ensures input { TakesAtMost MAX_READ (S.left source.old) (S.left source.new) }
 {
     let cluster = match cluster_from(alloc, Reader::Drive(number), source) {
@@ -228,7 +229,8 @@ pub fn stored_drive_command<S: Source, K: Sink, L: Links, C: Clock, D: Disk>(
         (streams_at S.Source K.Sink source.old sink.old) (streams_at S.Source K.Sink source.new sink.new)
         (network_at L.Links C.Clock links.old clock.old) (network_at L.Links C.Clock links.new clock.new)
         (L.standing links.new) disk e.1 e.0) }
-    ensures addresses { SettlesAsText number (S.left source.old) (S.left source.new) (L.standing links.old) (L.standing links.new) }
+    ensures addresses { SettlesAsText number (S.left source.old) (S.left source.new)
+        (L.standing links.old) (L.standing links.new) }
     ensures input { TakesAtMost MAX_READ (S.left source.old) (S.left source.new) }
 {
     match serve_stored_cluster(
