@@ -2,9 +2,10 @@ ghost use Rattle.std.specs.Prelude.{◌≡◌, ◌≤◌, ◌<◌, None, IfOk, I
 ghost use Rattle.client_rules.specs.declared.limits.TheConstants.{MAX_CLIENT};
 ghost use Rattle.client_rules.specs.Envelopes.{in_envelope, on_message_in, on_bytes};
 ghost use Rattle.osd_lists.specs.declared.node.Node.TheVariants as node;
+ghost use Rattle.held_grants.specs.Ranges.{AsksInFile};
 ghost use Rattle.stripe_client.specs.States.{client_of, over};
 ghost use Rattle.stripe_client.specs.Inside.{IsInside};
-ghost use Rattle.client_rules.specs.Steps.{new_client, calls, times_out, leaves, resent, awaits, awaited_component, next_sequence};
+ghost use Rattle.client_rules.specs.Steps.{new_client, calls, starts, times_out, leaves, resent, awaits, awaited_component, next_sequence};
 ghost use Rattle.std.specs.Option.{option_copied, option_map};
 ghost use Rattle.client_rules.specs.declared.calls.Call.{Call};
 ghost use Rattle.stripe_client.specs.Calling.{Gives, refusal};
@@ -140,6 +141,18 @@ impl ClientCore {
         mem::replace(&mut self.state, State::over(self.alloc, number))
     }
 
+    // Begins a call that isn't refused.
+    fn start(&mut self, op: CallOp) -> Result<CStep, Memory>
+        requires op { AsksInFile op }
+        ensures step { IfOk result (λ s. IsStep (starts self.old op) self.new s) }
+        ensures over { OnErr result (self.new ≡ over self.old) }
+    {
+        let mut state = self.begin();
+        let step = calling::start(&mut state, self.alloc, op)?;
+        self.state = state;
+        Ok(step)
+    }
+
     /// Begins a call.
     ///
     /// # Errors
@@ -154,10 +167,7 @@ impl ClientCore {
         if let Some(refusal) = calling::refusal(&self.state, &op) {
             return Err(refusal);
         }
-        let mut state = self.begin();
-        let step = calling::start(&mut state, self.alloc, op)?;
-        self.state = state;
-        Ok(step)
+        Ok(self.start(op)?)
     }
 
     /// Takes bytes from a party. Bytes in which there is no message for this client change nothing.
