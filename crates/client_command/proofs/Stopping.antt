@@ -1,5 +1,6 @@
 -- Why the command stops behind the cluster text.
 use Rattle.std.proofs.Common.{inr}
+use Rattle.osd_bytes.specs.Connections.{Standing}
 use Rattle.cluster_text.specs.declared.cluster.Cluster.{Cluster}
 use Rattle.cluster_text.specs.declared.cluster.Reader.TheVariants.{Client}
 use Rattle.cluster_text.specs.declared.stop.CommandStop.{CommandStop}
@@ -10,13 +11,13 @@ use Rattle.command_words.specs.declared.words.ClientWords.{ClientWords}
 use Rattle.client_command.specs.Reports.{OnLinks}
 use Rattle.client_command.specs.Ends.{StopsClient, StopsWork}
 
-module _ (words : ClientWords) (in_before in_now : Streams) (before now : OnLinks) where
+module _ (words : ClientWords) (in_before in_now : Streams) (before now : OnLinks) (standing : Standing) where
   pub acting : (stop : CommandStop) (c : Cluster) → GivesCluster Client in_before.left in_now.left c
-      → StopsWork words before now in_before.taken in_now.taken in_before.writes_failed in_now.writes_failed stop
-      → StopsClient words in_before in_now before now stop
+      → StopsWork words c before now standing in_before.taken in_now.taken in_before.writes_failed in_now.writes_failed stop
+      → StopsClient words in_before in_now before now standing stop
   acting (BadCluster kind) c gives s = absurd s
   acting ReadFault c gives s = absurd s
-  acting WriteFault c gives s = ((c, gives), s)
-  acting Memory c gives s = (s, inr (c, gives))
+  acting WriteFault c gives s = (c, gives, s)
+  acting Memory c gives s = inr (c, gives, s)
   acting Full c gives s = absurd s
-  acting LinkFault c gives s = ((c, gives), s)
+  acting LinkFault c gives s = (c, gives, s)

@@ -1,8 +1,10 @@
-ghost use Rattle.std.specs.Prelude.{◌≡◌, ◌≤◌, ◌<◌, IfErr, IfOk};
+ghost use Rattle.std.specs.Prelude.{◌≡◌, ◌≤◌, ◌<◌, IfErr, IfOk, OnOk};
+ghost use Rattle.osd_bytes.specs.Reading.{TakesAtMost};
+ghost use Rattle.osd_bytes.specs.declared.lines.TheConstants.{MAX_READ};
 ghost use Rattle.client_rules.specs.declared.limits.TheConstants.{MAX_CLIENT};
 ghost use Rattle.cluster_text.specs.Outside.{streams_at};
 ghost use Rattle.client_command.specs.Reports.{links_at};
-ghost use Rattle.client_command.specs.Ends.{EndsClient, StopsClient, StopsTelling, StopsWork, Tells, ToldAll, WorksAs};
+ghost use Rattle.client_command.specs.Ends.{EndsClient, KnowsCluster, StopsClient, StopsTelling, StopsWork, Tells, ToldAll, WorksAs};
 
 use crate::reports::report;
 use crate::work_ends::{ClientEnd, Report};
@@ -41,8 +43,9 @@ fn work_in<K: Sink, L: Links>(
     ensures tells { IfOk result (Tells words
         (links_at L.Links links.old) (links_at L.Links links.new)
         (K.taken sink.old) (K.taken sink.new)) }
-    ensures stops { IfErr result (StopsWork words
-        (links_at L.Links links.old) (links_at L.Links links.new)
+    ensures knows { OnOk result (KnowsCluster cluster.now (L.standing links.new)) }
+    ensures stops { IfErr result (StopsWork words cluster.now
+        (links_at L.Links links.old) (links_at L.Links links.new) (L.standing links.new)
         (K.taken sink.old) (K.taken sink.new) (K.faults sink.old) (K.faults sink.new)) }
 {
     // Here and below, arms in place of `?` or of the bare call are for the prover (docs/PROVER_FORMS.md).
@@ -69,10 +72,11 @@ fn work<S: Source, K: Sink, L: Links>(
     requires sequence { 0 < words.sequence }
     ensures works { IfOk result (WorksAs words
         (streams_at S.Source K.Sink source.old sink.old) (streams_at S.Source K.Sink source.new sink.new)
-        (links_at L.Links links.old) (links_at L.Links links.new)) }
+        (links_at L.Links links.old) (links_at L.Links links.new) (L.standing links.new)) }
     ensures stops { IfErr result (StopsClient words
         (streams_at S.Source K.Sink source.old sink.old) (streams_at S.Source K.Sink source.new sink.new)
-        (links_at L.Links links.old) (links_at L.Links links.new)) }
+        (links_at L.Links links.old) (links_at L.Links links.new) (L.standing links.new)) }
+    ensures input { TakesAtMost MAX_READ (S.left source.old) (S.left source.new) }
 {
     let cluster = match cluster_from(alloc, Reader::Client, source) {
         Ok(cluster) => cluster,
@@ -106,10 +110,11 @@ pub fn client_command<S: Source, K: Sink, L: Links>(
     requires sequence { 0 < words.sequence }
     ensures works { IfOk result (WorksAs words
         (streams_at S.Source K.Sink source.old sink.old) (streams_at S.Source K.Sink source.new sink.new)
-        (links_at L.Links links.old) (links_at L.Links links.new)) }
+        (links_at L.Links links.old) (links_at L.Links links.new) (L.standing links.new)) }
     ensures stops { IfErr result (EndsClient words
         (streams_at S.Source K.Sink source.old sink.old) (streams_at S.Source K.Sink source.new sink.new)
-        (links_at L.Links links.old) (links_at L.Links links.new)) }
+        (links_at L.Links links.old) (links_at L.Links links.new) (L.standing links.new)) }
+    ensures input { TakesAtMost MAX_READ (S.left source.old) (S.left source.new) }
 {
     match work(alloc, words, source, sink, links) {
         Ok(end) => Ok(end),

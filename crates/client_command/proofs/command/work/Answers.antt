@@ -12,4 +12,4 @@ returns-clause-stops g c =
     (g.K.Sink.taken c.work_in.new.sink) (g.K.Sink.faults c.work_in.new.sink))
     (on_links (g.L.Links.told c.args.links.now) (g.L.Links.faults c.args.links.now))
     (on_links (g.L.Links.told c.work_in.new.links) (g.L.Links.faults c.work_in.new.links))
-    c.in-Err-work_in.stop c.in-Ok.cluster c.in-Ok.ensures.cluster c.in-Err-work_in.ensures.stops
+    (g.L.Links.standing c.work_in.new.links) c.in-Err-work_in.stop c.in-Ok.cluster c.in-Ok.ensures.cluster c.in-Err-work_in.ensures.stops
