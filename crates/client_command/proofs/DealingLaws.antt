@@ -1,14 +1,7 @@
 -- Steps of a client as its dealings, and messages one after the other.
 use Rattle.std.specs.Prelude.{◌↔◌, Bool, IsTrue, false, true, map, slice_get, if◌then◌else◌}
-use Rattle.std.proofs.Common.{◌≡◌, ℕ, zero, suc, List, [], ◌∷◌, ◌++◌, take, drop, Option, Some, None, Ok, inl, inr, refl, sym, ap, subst, ◌∙◌}
+use Rattle.std.proofs.Common.{◌≡◌, ℕ, zero, suc, List, [], ◌∷◌, ◌++◌, take, drop, Option, Some, None, refl, sym, ap, subst, ◌∙◌}
 use Rattle.osd_bytes.specs.Connections.{Traffic}
-use Rattle.client_rules.specs.declared.calls.CallOp.{CallOp}
-use Rattle.client_rules.specs.Steps.{calls}
-use Rattle.client_command.specs.declared.exchanges.DealErr.{DealErr}
-use Rattle.client_command.specs.declared.exchanges.DealErr.TheVariants.{LinkFault, Memory as NoMemory}
-use Rattle.client_command.specs.declared.calls.CallStop.{CallStop}
-use Rattle.client_command.specs.declared.calls.CallStop.TheVariants.{Refused, Lost, Memory}
-use Rattle.client_command.specs.Calls.{Deals, StopsCall, StopsDeal, StopsReturn, leaving, stop_of_deal}
 use Rattle.osd_bytes.specs.Counts.{Faults}
 use Rattle.client_rules.specs.declared.client.Client.{Client}
 use Rattle.client_rules.specs.Messages.{Step}
@@ -27,7 +20,7 @@ use Rattle.layout_ops.specs.declared.messages.Request.{Request}
 use Rattle.osd_lists.specs.declared.node.Node.TheVariants.{Drive, Server}
 use Rattle.osd_bytes.specs.Asking.{Answered}
 use Rattle.reply_matching.specs.Answers.{is_answer_to}
-use Rattle.client_command.specs.Exchanges.{AwaitsStill, CutsAll, CutsExchange, CutsIn, Dealing, InTurn, IsLost, LosesAll, IsRequest, Loses, LosesIn, LosesServer, Works, WorksAll, WorksRounds, answer_among, answered, dealing, ended, heard, late, on_links, stepped, timed_out}
+use Rattle.client_command.specs.Exchanges.{AwaitsStill, CutsExchange, CutsIn, Dealing, InTurn, IsLost, IsRequest, Loses, LosesIn, LosesServer, Works, WorksAll, WorksRounds, answer_among, answered, dealing, ended, heard, late, on_links, stepped, timed_out}
 
 pub is_stepped : (s : Dealing) (step : Step) (c : Client) (told : CStep) (waiting : List Sent) (notices : List Notice)
     → IsStep step c told → waiting ≡ s.waiting ++ told.sends → notices ≡ s.notices ++ ended told.outcome
@@ -138,48 +131,6 @@ pub cuts_from : (u : Dealing) (told : Option Traffic) (faults : Faults) (ms rest
 cuts_from u told faults ms rest e f h =
     subst (λ (ns : List Sent). CutsIn ns (record u { waiting = [] }) told faults) e
     (subst (λ (ns : List Sent). CutsIn ms (record u { waiting = ns }) told faults) f h)
-
--- no round began
-pub cuts_none : (s : Dealing) (told : Option Traffic) (faults : Faults) → told ≡ s.told → faults ≡ s.faults → CutsAll s told faults
-cuts_none s told faults t f = (0, s, refl, inl (t, f))
-
--- all rounds are over, and there is no memory
-pub cuts_over : (op : CallOp) (s over : Dealing) (client : Client) (notices : List Notice) (told : Option Traffic)
-    (faults : Faults) → Deals op s over → told ≡ over.told → faults ≡ over.faults
-    → StopsCall op s client notices told faults Memory
-cuts_over op s over client notices told faults d t f = inl (inr (d.0, d.1, (d.2.0, over, d.2.1, inl (t, f))))
-
--- why a call or its returns stop, by why the exchanges did
-pub stops_deal : (op : CallOp) (s : Dealing) (step : Step) (client : Client) (notices : List Notice) (told : Option Traffic)
-    (faults : Faults) (e : DealErr) → calls s.client op ≡ Ok step
-    → (e ≡ LinkFault → LosesAll (stepped s step) client notices told faults)
-    → (e ≡ NoMemory → CutsAll (stepped s step) told faults)
-    → StopsDeal op s client notices told faults (stop_of_deal e)
-stops_deal op s step client notices told faults LinkFault taken loses cuts = (step, taken, loses refl)
-stops_deal op s step client notices told faults NoMemory taken loses cuts = inr (step, taken, cuts refl)
-
-pub stops_return : (s : Dealing) (client : Client) (notices : List Notice) (told : Option Traffic) (faults : Faults) (e : DealErr)
-    → (e ≡ LinkFault → LosesAll (leaving s) client notices told faults)
-    → (e ≡ NoMemory → CutsAll (leaving s) told faults)
-    → StopsReturn s client notices told faults (stop_of_deal e)
-stops_return s client notices told faults LinkFault loses cuts = loses refl
-stops_return s client notices told faults NoMemory loses cuts = cuts refl
-
--- the call stops as its dealings or its returns do
-pub stops_call : (op : CallOp) (s : Dealing) (client : Client) (notices : List Notice) (told : Option Traffic) (faults : Faults)
-    (stop : CallStop) → StopsDeal op s client notices told faults stop → StopsCall op s client notices told faults stop
-stops_call op s client notices told faults (Refused why) d = d
-stops_call op s client notices told faults Lost d = inl d
-stops_call op s client notices told faults Memory d = inl d
-
-pub stops_behind : (op : CallOp) (s over : Dealing) (client : Client) (notices : List Notice) (told : Option Traffic)
-    (faults : Faults) (stop : CallStop) → Deals op s over → over.client.call ≡ None
-    → StopsReturn over client notices told faults stop → StopsCall op s client notices told faults stop
-stops_behind op s over client notices told faults (Refused why) deals idle r = absurd r
-stops_behind op s over client notices told faults Lost deals idle r =
-    inr (record { over = over; deals = deals; idle = idle; lost = r })
-stops_behind op s over client notices told faults Memory deals idle r =
-    inr (record { over = over; deals = deals; cuts = r })
 
 pub all_worked : (rounds : ℕ) (s : Dealing) (client : Client) (waiting : List Sent) (notices : List Notice)
     (told : Option Traffic) (faults : Faults)

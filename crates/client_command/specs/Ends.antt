@@ -4,8 +4,7 @@ use Rattle.std.specs.Io.KnownBytes.{Appends}
 use Rattle.osd_bytes.specs.Causes.{Rose}
 use Rattle.osd_bytes.specs.Connections.{Standing}
 use Rattle.cluster_text.specs.declared.cluster.Cluster.{Cluster}
-use Rattle.cluster_text.specs.declared.cluster.Reader.TheVariants.{Client}
-use Rattle.cluster_text.specs.Inputs.{GivesCluster, RefusesCluster, IsTooLong}
+use Rattle.cluster_text.specs.Inputs.{IsTooLong}
 use Rattle.cluster_text.specs.Lines.{PutsLine, stop_line}
 use Rattle.cluster_text.specs.declared.stop.CommandStop.{CommandStop}
 use Rattle.cluster_text.specs.declared.stop.CommandStop.TheVariants.{BadCluster, ReadFault, WriteFault, Memory}
@@ -15,6 +14,7 @@ use Rattle.cluster_text.specs.Outside.{Streams}
 use Rattle.cluster_text.specs.Peers.{IsSettled}
 use Rattle.client_command.specs.declared.work_ends.ClientEnd.{ClientEnd}
 use Rattle.client_command.specs.declared.work_ends.Report.{Report}
+use Rattle.client_command.specs.Inputs.{GivesWork, RefusesText}
 use Rattle.client_command.specs.Reports.{CutsWork, OnLinks, Reports}
 
 -- ---- a report that is told
@@ -79,13 +79,14 @@ StopsWork words cluster before now standing taken_before taken failed_before fai
 
 -- ---- the command
 
--- the text describes a cluster, and the client's work in it ended so
+-- the text describes a cluster, and the client's work in it, with the bytes behind the text, ended so
 pub record WorksAs (words : ClientWords) (in_before in_now : Streams) (before now : OnLinks) (standing : Standing)
     (end : ClientEnd) : Type 0 where
   pub cluster : Cluster
-  pub gives : GivesCluster Client in_before.left in_now.left cluster
+  pub asked : ClientWords
+  pub gives : GivesWork words in_before.left in_now.left cluster asked
   pub knows : KnowsCluster cluster standing
-  pub tells : Tells words before now in_before.taken in_now.taken end
+  pub tells : Tells asked before now in_before.taken in_now.taken end
 
 -- nothing was told, and nothing came or went
 abbrev pub IsUntouched : (in_before in_now : Streams) → (before now : OnLinks) → Type 0
@@ -94,13 +95,13 @@ IsUntouched in_before in_now before now = (in_now.taken ≡ in_before.taken) × 
 -- the text describes a cluster, and the work in it stopped so
 abbrev pub StopsInCluster : ClientWords → (in_before in_now : Streams) → (before now : OnLinks) → Standing → CommandStop → Type 0
 StopsInCluster words in_before in_now before now standing stop =
-    (c : Cluster) × GivesCluster Client in_before.left in_now.left c
-    × StopsWork words c before now standing in_before.taken in_now.taken in_before.writes_failed in_now.writes_failed stop
+    (c : Cluster) × (asked : ClientWords) × GivesWork words in_before.left in_now.left c asked
+    × StopsWork asked c before now standing in_before.taken in_now.taken in_before.writes_failed in_now.writes_failed stop
 
 -- why the client's work wasn't done and told, and what it told till then; without a cluster nothing is sent
 abbrev pub StopsClient : ClientWords → (in_before in_now : Streams) → (before now : OnLinks) → Standing → CommandStop → Type 0
 StopsClient words in_before in_now before now standing (BadCluster kind) =
-    RefusesCluster Client in_before.left in_now.left kind × IsUntouched in_before in_now before now
+    RefusesText words in_before.left in_now.left kind × IsUntouched in_before in_now before now
 StopsClient words in_before in_now before now standing ReadFault =
     Rose in_before.reads_failed in_now.reads_failed × IsUntouched in_before in_now before now
 StopsClient words in_before in_now before now standing Full =

@@ -6,9 +6,10 @@ ghost use Rattle.cluster_text.specs.Outside.{streams_at};
 ghost use Rattle.client_command.specs.Reports.{links_at};
 ghost use Rattle.client_command.specs.Ends.{EndsClient, KnowsCluster, StopsClient, StopsTelling, StopsWork, Tells, ToldAll, WorksAs};
 
+use crate::inputs::ask_from;
 use crate::reports::report;
 use crate::work_ends::{ClientEnd, Report};
-use cluster_text::{Cluster, CommandStop, Reader, cluster_from, put_stop, settle_at};
+use cluster_text::{Cluster, CommandStop, put_stop, settle_at};
 use command_words::ClientWords;
 use osd_bytes::{Links, Sink, Source, put_all};
 use std::alloc::Global;
@@ -60,7 +61,7 @@ fn work_in<K: Sink, L: Links>(
     }
 }
 
-// Works as a client of the cluster that the source describes. A stop isn't told here.
+// Works as a client of the cluster that the source describes, with the bytes behind the text. A stop isn't told here.
 fn work<S: Source, K: Sink, L: Links>(
     alloc: Global,
     words: ClientWords,
@@ -78,11 +79,11 @@ fn work<S: Source, K: Sink, L: Links>(
         (links_at L.Links links.old) (links_at L.Links links.new) (L.standing links.new)) }
     ensures input { TakesAtMost MAX_READ (S.left source.old) (S.left source.new) }
 {
-    let cluster = match cluster_from(alloc, Reader::Client, source) {
-        Ok(cluster) => cluster,
+    let (cluster, asked) = match ask_from(alloc, words, source) {
+        Ok(parts) => parts,
         Err(stop) => return Err(stop),
     };
-    match work_in(alloc, &cluster, words, sink, links) {
+    match work_in(alloc, &cluster, asked, sink, links) {
         Ok(end) => Ok(end),
         Err(stop) => Err(stop),
     }
@@ -91,7 +92,8 @@ fn work<S: Source, K: Sink, L: Links>(
 /// Carries out one call of a client in the cluster that the source describes, or hands its server one order. The
 /// sink is told the timeouts and the end of the call, or what the server answers to the order, and then `next` with
 /// the number of the client's next request; or else, in a line of its own, why the client stopped before. Behind a
-/// call every grant is returned before anything is told.
+/// call every grant is returned before anything is told. A write that has no bytes of its own takes those behind the
+/// first zero byte of the source, where the text ends then.
 ///
 /// # Errors
 ///
