@@ -21,8 +21,8 @@ def words_in(arguments):
     return int(arguments[2]), int(arguments[4]), arguments[6]
 
 
-def perform(files, call):
-    """Carries out a call on the files: its outcome, and how many requests it makes."""
+def perform(files, call, given):
+    """Carries out a call on the files, with the bytes given to a write: its outcome, and how many requests it makes."""
     kind, file, offset, what = call.split(" ")
     offset = int(offset)
     if file not in files:
@@ -31,14 +31,14 @@ def perform(files, call):
     if kind == "read":
         assert int(what) <= MAX_CALL and offset + int(what) <= MAX_FILE
         return "ok " + (data[offset:offset + int(what)].hex() or "-"), 2
-    new = bytes.fromhex(what)
-    assert offset + len(new) <= MAX_FILE
+    new = given if what == "-" else bytes.fromhex(what)
+    assert len(new) <= MAX_CALL and offset + len(new) <= MAX_FILE
     whole = data.ljust(offset, b"\0")
     files[file] = (whole[:offset] + new + whole[offset + len(new):]).hex()
     return f"ok {len(new)}", 3 if offset + len(new) > len(data) else 2
 
 
-def answer(state, number, sequence, call, event):
+def answer(state, number, sequence, call, given, event):
     """What the run prints, and its status."""
     kind = call.split(" ")[0]
     if kind not in ("read", "write"):
@@ -60,7 +60,7 @@ def answer(state, number, sequence, call, event):
         late = f"t c{number} 1\n" if event.startswith("late ") else ""
         outcome = event[5:] if late else event
         return f"{late}o c{number} {kind} {outcome}\nnext {expected + 3}\n", 10
-    outcome, requests = perform(state["files"], call)
+    outcome, requests = perform(state["files"], call, given)
     state["next"][str(number)] = expected + requests
     if event == "lost answer":
         return "error link\n", 8
@@ -81,7 +81,7 @@ def main():
     with open(path) as text:
         state = json.load(text)
     number, sequence, call = words_in(sys.argv[1:])
-    sys.stdin.buffer.read()
+    _, _, given = sys.stdin.buffer.read().partition(b"\0")
     state["runs"].append([number, sequence, call[:40]])
     event = None
     if sequence < 1_000_000_000 and state["script"]:
@@ -91,7 +91,7 @@ def main():
         while not os.path.exists(path + ".go"):
             time.sleep(0.02)
         event = None
-    said, status = answer(state, number, sequence, call, event)
+    said, status = answer(state, number, sequence, call, given, event)
     save(path, state)
     sys.stdout.write(said)
     if status == 8:

@@ -106,7 +106,7 @@ class Copies(Tool):
     def test_an_empty_file_and_a_full_stripe(self):
         self.run_tool("put", "f0", data=b"")
         self.assertEqual(self.run_tool("get", "f0"), b"")
-        data = b"x" * copying.cut_length(12288, copying.MAX_READ)
+        data = b"x" * copying.cut_length(12288, copying.MAX_CALL)
         self.begin(data=data)
         self.assertEqual(self.run_tool("get", "f0"), data)
 
@@ -123,7 +123,7 @@ class Copies(Tool):
         self.run_tool("put", "f0", "--resume", data=data)
         self.assertEqual(self.data(), data)
         writes = [run[2] for run in self.now()["runs"] if run[2].startswith("write")]
-        self.assertEqual(int(writes[0].split(" ")[2]), copying.cut_length(12288, copying.MAX_READ))
+        self.assertEqual(int(writes[0].split(" ")[2]), copying.cut_length(12288, copying.MAX_CALL))
         self.begin(data=data)
         self.run_tool("put", "f0", "--resume", data=data)
         self.assertEqual([run[2] for run in self.now()["runs"] if run[2].startswith("write")], [])
@@ -176,14 +176,14 @@ class Again(Tool):
 
     def test_how_far_it_came_is_told(self):
         self.begin([None, None, "spent"])
-        self.run_tool("put", "f0", data=b"x" * 70_000, status=10)
-        self.assertIn("it stops behind 61440 bytes: 'put f0 --resume' with the same data goes on", self.messages)
-        self.assertEqual(len(self.data()), 61_440)
+        self.run_tool("put", "f0", data=b"x" * 300_000, status=10)
+        self.assertIn("it stops behind 258048 bytes: 'put f0 --resume' with the same data goes on", self.messages)
+        self.assertEqual(len(self.data()), 258_048)
 
     def test_where_a_write_goes_on_is_told(self):
         self.begin([None, "spent"], data=b"abc")
-        self.run_tool("write", "f0", "7", data=b"x" * 70_000, status=10)
-        self.assertIn("go on with 'write f0 61440' and the data from there", self.messages)
+        self.run_tool("write", "f0", "7", data=b"x" * 300_000, status=10)
+        self.assertIn("go on with 'write f0 258048' and the data from there", self.messages)
 
     def test_a_fence_without_end(self):
         self.begin([None] + ["refused d2 tag 3"] * 99)
@@ -227,7 +227,7 @@ class Scripted:
     def __init__(self, said, status):
         self.rest = [answers.Ran(10, b"o c0 read status 10063 17\nnext 9\n", ""), answers.Ran(status, said.encode("latin-1"), "")]
 
-    def run(self, sequence, call):
+    def run(self, sequence, call, data=None):
         return self.rest.pop(0)
 
 
@@ -429,9 +429,11 @@ class Cuts(unittest.TestCase):
             self.assertTrue(not stripe or begin % stripe == 0 or in_one or begin == offset, (stripe, begin, count))
         self.assertEqual(at, offset + length)
 
-    def test_the_longest_write_fits_an_argument(self):
-        self.assertLessEqual(len(f"write f63 16777215 {'00' * copying.MAX_WRITE}"), 131_071)
-        self.assertGreater(copying.MAX_WRITE, 65_500)
+    def test_a_call_has_whole_stripes(self):
+        for stripe in (12288, 131072, 196608, 262144):
+            file_map = cluster.FileMap(1, stripe, 0, 0, 1)
+            for _, length in copying.pieces(0, 3 * stripe, file_map, copying.MAX_CALL):
+                self.assertEqual(length % stripe, 0, stripe)
 
     def test_stripes(self):
         for numbers, length in (((5, 4096, 0, 0, 4), 12288), ((5, 4096, 0, 0, 3), 16384), ((6, 8, 3, 0, 2), 16),

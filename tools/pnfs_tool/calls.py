@@ -36,7 +36,7 @@ class Call(NamedTuple):
         return "read" if self.data is None else "write"
 
     def words(self) -> str:
-        what = str(self.length) if self.data is None else self.data.hex()
+        what = str(self.length) if self.data is None else "-"   # the data go by standard input
         return f"{self.kind()} f{self.file} {self.offset} {what}"
 
     def name(self) -> str:
@@ -154,7 +154,7 @@ class Caller:
             if self.next is None:
                 return asked
         self.calls += 1
-        ran = self.program.run(self.next, call.words())
+        ran = self.program.run(self.next, call.words(), call.data)
         self.next = None
         answer = read_answer(ran, self.program.client, call.kind())
         self.note_late(call, answer)

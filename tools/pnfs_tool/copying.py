@@ -7,11 +7,9 @@ from .answers import Answer, bytes_read
 from .calls import Call, Caller
 from .cluster import FileMap
 from .ends import NOT_ASKED, OUTPUT, End
-from .program import MAX_ARGUMENT
 
 MAX_FILE = 16_777_216      # no call may end above it
-MAX_READ = 262_144         # the bytes of one call
-MAX_WRITE = (MAX_ARGUMENT - len(f"write f63 {MAX_FILE} ")) // 2
+MAX_CALL = 262_144         # the bytes of one call
 PROGRESS_SECONDS = 2.0
 
 
@@ -115,7 +113,7 @@ def counted(count: int, what: str) -> str:
 def write_all(caller: Caller, file: int, file_map: FileMap, offset: int, data: bytes, progress: Progress) -> None:
     """Writes these bytes from that offset on."""
     refuse_end(offset, len(data))
-    for at, length in pieces(offset, len(data), file_map, MAX_WRITE):
+    for at, length in pieces(offset, len(data), file_map, MAX_CALL):
         begin = at - offset
         caller.carry_out(Call(file, at, length, data[begin:begin + length]))
         progress.add(length)
@@ -143,7 +141,7 @@ def resume(caller: Caller, file: int, file_map: FileMap, data: bytes, progress: 
     refuse_longer(caller, file, data)
     begin = same_front(caller, file, file_map, data)
     progress.add(begin)
-    for at, length in pieces(0, len(data), file_map, MAX_WRITE):
+    for at, length in pieces(0, len(data), file_map, MAX_CALL):
         if at + length > begin:
             first = max(at, begin)
             caller.carry_out(Call(file, first, at + length - first, data[first:at + length]))
@@ -152,7 +150,7 @@ def resume(caller: Caller, file: int, file_map: FileMap, data: bytes, progress: 
 
 def same_front(caller: Caller, file: int, file_map: FileMap, data: bytes) -> int:
     """How many whole pieces at the front of the file are those of these bytes; the count of their bytes."""
-    for at, length in pieces(0, len(data), file_map, MAX_READ):
+    for at, length in pieces(0, len(data), file_map, MAX_CALL):
         read = read_piece(caller, file, at, length)
         if read != data[at:at + length]:
             return at
@@ -171,7 +169,7 @@ def read_all(caller: Caller, file: int, file_map: FileMap, offset: int, length: 
              progress: Progress) -> int:
     """Reads a range into the sink, and tells how many bytes it gave: fewer where the file ends."""
     total = 0
-    for at, count in pieces(offset, length, file_map, MAX_READ):
+    for at, count in pieces(offset, length, file_map, MAX_CALL):
         read = read_piece(caller, file, at, count)
         put_out(sink, read)
         total += len(read)

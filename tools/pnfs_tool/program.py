@@ -10,9 +10,6 @@ VARIABLE = "PNFS_OSD"
 TOP = os.path.dirname(os.path.dirname(os.path.dirname(os.path.abspath(__file__))))
 BUILT = os.path.join(TOP, "crates", "pnfs_osd", "out", "pnfs_osd")
 
-#: Linux takes at most 131,072 bytes an argument, its closing zero among them.
-MAX_ARGUMENT = 131_071
-
 
 def program_path(given: Optional[str]) -> str:
     """The program: the one that was named, that of $PNFS_OSD, or the one that was built in this checkout.
@@ -38,13 +35,13 @@ class Program:
         self.lock = lock
         self.runs = 0
 
-    def run(self, sequence: int, call: str) -> Ran:
-        """Carries out one call or order, and waits for its end."""
+    def run(self, sequence: int, call: str, data: Optional[bytes] = None) -> Ran:
+        """Carries out one call or order, and waits for its end. The data of a write follow the cluster text and a zero byte."""
         words = [self.path, "client", "--number", str(self.client), "--sequence", str(sequence), "--call", call]
-        assert len(call) <= MAX_ARGUMENT
+        given = self.cluster_text if data is None else self.cluster_text + b"\0" + data
         self.runs += 1
         try:
-            done = subprocess.run(words, input=self.cluster_text, stdout=subprocess.PIPE, stderr=subprocess.PIPE,
+            done = subprocess.run(words, input=given, stdout=subprocess.PIPE, stderr=subprocess.PIPE,
                                   pass_fds=() if self.lock is None else (self.lock,), check=False)
         except OSError as fault:
             raise End(NO_PROGRAM, f"the program {self.path} can't be run: {fault.strerror or fault}")

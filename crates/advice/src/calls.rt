@@ -9,8 +9,8 @@ const NAMES: &[&str] = &[
 
 const FORMS: &str = "\
 TEXT is 'write F OFFSET HEX', 'read F OFFSET LENGTH', 'recall F', 'revoke F', 'rebuild F', 'audit F' or 'declare D': F a file
-as f0, D a drive as d0, HEX pairs of hexadecimal digits, numbers in decimal digits without leading zeros, single blanks
-between the words.
+as f0, D a drive as d0, HEX pairs of hexadecimal digits or - for the bytes behind the text of the cluster and a zero byte,
+numbers in decimal digits without leading zeros, single blanks between the words.
 ";
 
 // How a call or an order is written.

@@ -1,7 +1,6 @@
 -- Steps of a client as its dealings, and messages one after the other.
 use Rattle.std.specs.Prelude.{◌↔◌, Bool, IsTrue, false, true, map, slice_get, if◌then◌else◌}
-use Rattle.std.proofs.Common.{◌≡◌, ◌+◌, ℕ, zero, suc, List, [], ◌∷◌, ◌++◌, take, drop, Option, Some, None, refl, sym, ap, subst, ◌∙◌}
-use Rattle.std.proofs.Math.Numerals.{add-one}
+use Rattle.std.proofs.Common.{◌≡◌, ℕ, zero, suc, List, [], ◌∷◌, ◌++◌, take, drop, Option, Some, None, refl, sym, ap, subst, ◌∙◌}
 use Rattle.osd_bytes.specs.Connections.{Traffic}
 use Rattle.osd_bytes.specs.Counts.{Faults}
 use Rattle.client_rules.specs.declared.client.Client.{Client}
@@ -21,7 +20,7 @@ use Rattle.layout_ops.specs.declared.messages.Request.{Request}
 use Rattle.osd_lists.specs.declared.node.Node.TheVariants.{Drive, Server}
 use Rattle.osd_bytes.specs.Asking.{Answered}
 use Rattle.reply_matching.specs.Answers.{is_answer_to}
-use Rattle.client_command.specs.Exchanges.{AwaitsStill, Dealing, InTurn, IsLost, IsRequest, Loses, LosesIn, LosesServer, Works, WorksAll, WorksRounds, answer_among, answered, dealing, ended, heard, late, on_links, stepped, timed_out}
+use Rattle.client_command.specs.Exchanges.{AwaitsStill, CutsExchange, CutsIn, Dealing, InTurn, IsLost, IsRequest, Loses, LosesIn, LosesServer, Works, WorksAll, WorksRounds, answer_among, answered, dealing, ended, heard, late, on_links, stepped, timed_out}
 
 pub is_stepped : (s : Dealing) (step : Step) (c : Client) (told : CStep) (waiting : List Sent) (notices : List Notice)
     → IsStep step c told → waiting ≡ s.waiting ++ told.sends → notices ≡ s.notices ++ ended told.outcome
@@ -42,6 +41,12 @@ pub loses_at : (ms : List Sent) (i : ℕ) (m : Sent) (s u t : Dealing) → slice
     Loses m u t → LosesIn ms s t
 loses_at ms i m s u t e w l =
     record { sent = take i ms; lost = m; unsent = drop (suc i) ms; are = split_got ms i m e; before = u; works = w; loses = l }
+
+pub cuts_at : (ms : List Sent) (i : ℕ) (m : Sent) (s u : Dealing) (told : Option Traffic) (faults : Faults) →
+    slice_get ms i ≡ Some m → InTurn Works (take i ms) s u → CutsExchange m.to m.bytes u.told told u.faults faults →
+    CutsIn ms s told faults
+cuts_at ms i m s u told faults e w c =
+    record { sent = take i ms; cut = m; unsent = drop (suc i) ms; are = split_got ms i m e; before = u; works = w; cuts = c }
 
 -- ---- the outstanding request is the first of what is sent once more
 
@@ -120,6 +125,12 @@ pub loses_from : (u t : Dealing) (ms rest : List Sent) → ms ≡ u.waiting → 
 loses_from u t ms rest e f h =
     subst (λ (ns : List Sent). LosesIn ns (record u { waiting = [] }) t) e
     (subst (λ (ns : List Sent). LosesIn ms (record u { waiting = ns }) t) f h)
+
+pub cuts_from : (u : Dealing) (told : Option Traffic) (faults : Faults) (ms rest : List Sent) → ms ≡ u.waiting → rest ≡ []
+    → CutsIn ms (record u { waiting = rest }) told faults → CutsIn u.waiting (record u { waiting = [] }) told faults
+cuts_from u told faults ms rest e f h =
+    subst (λ (ns : List Sent). CutsIn ns (record u { waiting = [] }) told faults) e
+    (subst (λ (ns : List Sent). CutsIn ms (record u { waiting = ns }) told faults) f h)
 
 pub all_worked : (rounds : ℕ) (s : Dealing) (client : Client) (waiting : List Sent) (notices : List Notice)
     (told : Option Traffic) (faults : Faults)

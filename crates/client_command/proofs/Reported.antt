@@ -1,6 +1,6 @@
 -- The report of a call, by how its dealings ended.
 use Rattle.std.proofs.Common.{◌≡◌, ◌++◌, ℕ, List, [], None, Ok, Err, inl, inr}
-use Rattle.std.specs.Prelude.{IfOk, IsSome, Result}
+use Rattle.std.specs.Prelude.{IfOk, IsSome, OnErr, Result}
 use Rattle.osd_lists.specs.declared.memory.Memory.{Memory}
 use Rattle.scenario_text.specs.declared.line.CallKind.{CallKind}
 use Rattle.scenario_text.specs.LineSpelling.{lines_text}
@@ -10,12 +10,17 @@ use Rattle.client_rules.specs.declared.client.Client.{Client}
 use Rattle.client_rules.specs.Steps.{new_client}
 use Rattle.client_command.specs.declared.notices.Notice.{Notice}
 use Rattle.client_command.specs.Exchanges.{dealing}
+use Rattle.client_command.specs.declared.calls.CallStop.{CallStop}
 use Rattle.client_command.specs.declared.calls.CallStop.TheVariants.{Lost}
 use Rattle.client_command.specs.declared.work_ends.Report.{Report}
 use Rattle.client_command.specs.Calls.{Calls, StopsCall}
 use Rattle.client_command.specs.WorkEnds.{end_of}
 use Rattle.client_command.specs.Lines.{call_lines, next_line}
-use Rattle.client_command.specs.Reports.{IsReport, OnLinks, ReportsCall}
+use Rattle.client_command.specs.Reports.{CutsCall, IsReport, OnLinks, ReportsCall}
+
+pub untold : (r : Result Report Memory) (P : Type 0) → P → OnErr r P
+untold (Ok report) P p = tt
+untold (Err e) P p = p
 
 module _ (number n sequence : ℕ) (op o : CallOp) (kind : CallKind) (first notices told : List Notice) (before now : OnLinks)
     (same_number : n ≡ number) (same_op : o ≡ op) (its_kind : kind ≡ kind_of o) (none : first ≡ []) (same : told ≡ notices) where
@@ -44,3 +49,21 @@ module _ (number n sequence : ℕ) (op o : CallOp) (kind : CallKind) (first noti
       let lines = rw (same, its_kind, same_op) at report in
       let lost = rw (same_number, same_op, none) at c.1 in
       inr (inr (record { client = c.0; notices = notices; loses = lost; told = lines }))
+
+-- there was no memory to tell of it
+module _ (number n sequence : ℕ) (op o : CallOp) (first notices : List Notice) (before now : OnLinks)
+    (same_number : n ≡ number) (same_op : o ≡ op) (none : first ≡ []) where
+  pub cuts_ended : (client : Client)
+      → Calls o (dealing (new_client n sequence) [] first before.told before.faults)
+      (dealing client [] notices now.told now.faults)
+      → CutsCall number sequence op before now
+  cuts_ended client c =
+      let done = rw (same_number, same_op, none) at c in
+      (client, notices, inl done)
+
+  pub cuts_stopped : (client : Client) (stop : CallStop)
+      → StopsCall o (dealing (new_client n sequence) [] first before.told before.faults) client notices now.told now.faults stop
+      → CutsCall number sequence op before now
+  cuts_stopped client stop c =
+      let stopped = rw (same_number, same_op, none) at c in
+      (client, notices, inr (stop, stopped))

@@ -1,5 +1,5 @@
 -- A call of a client over links, and the returns behind it.
-use Rattle.std.specs.Prelude.{◌≡◌, ◌⊎◌, List, Option, None, Ok, Err, ⊤}
+use Rattle.std.specs.Prelude.{◌≡◌, ◌⊎◌, ⊤, List, Option, None, Ok, Err}
 use Rattle.osd_bytes.specs.Connections.{Traffic}
 use Rattle.osd_bytes.specs.Counts.{Faults}
 use Rattle.client_rules.specs.declared.calls.CallOp.{CallOp}
@@ -11,7 +11,7 @@ use Rattle.stripe_client.specs.Sending.{IsStep, spelled}
 use Rattle.client_command.specs.declared.exchanges.DealErr.{DealErr}
 use Rattle.client_command.specs.declared.exchanges.DealErr.TheVariants.{LinkFault, Memory as NoMemory}
 use Rattle.client_command.specs.declared.notices.Notice.{Notice}
-use Rattle.client_command.specs.Exchanges.{Dealing, LosesAll, WorksAll, dealing, stepped}
+use Rattle.client_command.specs.Exchanges.{CutsAll, Dealing, LosesAll, WorksAll, dealing, stepped}
 use Rattle.client_command.specs.declared.calls.CallStop.{CallStop}
 use Rattle.client_command.specs.declared.calls.CallStop.TheVariants.{Refused, Lost, Memory}
 
@@ -37,13 +37,16 @@ stop_of_deal NoMemory = Memory
 abbrev pub Deals : CallOp → (s over : Dealing) → Type 0
 Deals op s over = (step : Step) × (calls s.client op ≡ Ok step) × WorksAll (stepped s step) over
 
--- the call isn't taken, and nothing happens; or it is, and the server's answer to one of its requests doesn't come
+-- the call isn't taken, and nothing happens; or it is, and the server's answer to one of its requests doesn't come; or there is
+-- no memory, and nothing is sent, or what was sent is cut off
 abbrev pub StopsDeal : CallOp → (s : Dealing) → Client → List Notice → Option Traffic → Faults → CallStop → Type 0
 StopsDeal op s client notices told faults (Refused why) =
     (calls s.client op ≡ Err why) × (dealing client s.waiting notices told faults ≡ s)
 StopsDeal op s client notices told faults Lost =
     (step : Step) × (calls s.client op ≡ Ok step) × LosesAll (stepped s step) client notices told faults
-StopsDeal op s client notices told faults Memory = ⊤
+StopsDeal op s client notices told faults Memory =
+    ((told ≡ s.told) × (faults ≡ s.faults))
+    ⊎ ((step : Step) × (calls s.client op ≡ Ok step) × CutsAll (stepped s step) told faults)
 
 -- ---- the returns behind it
 
@@ -51,11 +54,11 @@ StopsDeal op s client notices told faults Memory = ⊤
 abbrev pub leaving : Dealing → Dealing
 leaving s = record s { client = (leaves s.client).client; waiting = spelled (leaves s.client).sends }
 
--- the server's answer to one of them doesn't come
+-- the server's answer to one of them doesn't come, or they are cut off
 abbrev pub StopsReturn : (s : Dealing) → Client → List Notice → Option Traffic → Faults → CallStop → Type 0
 StopsReturn s client notices told faults (Refused why) = ⊥
 StopsReturn s client notices told faults Lost = LosesAll (leaving s) client notices told faults
-StopsReturn s client notices told faults Memory = ⊤
+StopsReturn s client notices told faults Memory = CutsAll (leaving s) told faults
 
 -- ---- both
 
@@ -74,9 +77,16 @@ pub record LosesReturn (op : CallOp) (s : Dealing) (client : Client) (notices : 
   pub idle : over.client.call ≡ None
   pub lost : LosesAll (leaving over) client notices told faults
 
+-- the returns behind the call are cut off
+pub record CutsReturn (op : CallOp) (s : Dealing) (told : Option Traffic) (faults : Faults) : Type 0 where
+  pub over : Dealing
+  pub deals : Deals op s over
+  pub cuts : CutsAll (leaving over) told faults
+
 -- why not both were done
 abbrev pub StopsCall : CallOp → (s : Dealing) → Client → List Notice → Option Traffic → Faults → CallStop → Type 0
 StopsCall op s client notices told faults (Refused why) = StopsDeal op s client notices told faults (Refused why)
 StopsCall op s client notices told faults Lost =
     StopsDeal op s client notices told faults Lost ⊎ LosesReturn op s client notices told faults
-StopsCall op s client notices told faults Memory = ⊤
+StopsCall op s client notices told faults Memory =
+    StopsDeal op s client notices told faults Memory ⊎ CutsReturn op s told faults

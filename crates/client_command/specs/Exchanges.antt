@@ -1,12 +1,12 @@
 -- The exchanges of a client with its nodes, one after the other.
-use Rattle.std.specs.Prelude.{◌≡◌, ℕ, zero, suc, nat_le, List, [], ◌∷◌, ◌++◌, length, slice_range, ⊤, Option, Some, None, IsTrue, if◌then◌else◌}
+use Rattle.std.specs.Prelude.{◌≡◌, ◌⊎◌, ℕ, zero, suc, nat_le, List, [], ◌∷◌, ◌++◌, length, slice_range, ⊤, Option, Some, None, IsTrue, if◌then◌else◌}
 use Rattle.std.specs.Int.{w64, from_be_bytes}
 use Rattle.osd_bytes.specs.Connections.{Traffic}
 use Rattle.osd_bytes.specs.Counts.{Faults}
 use Rattle.osd_bytes.specs.declared.links.Links.{Ghosts as LinksGhosts}
 use Rattle.osd_lists.specs.declared.node.Node.{Node}
 use Rattle.osd_lists.specs.declared.node.Node.TheVariants.{Server, Drive, Client as AClient}
-use Rattle.osd_bytes.specs.Asking.{Answered}
+use Rattle.osd_bytes.specs.Asking.{Answered, IsCutOff}
 use Rattle.layout_ops.specs.declared.messages.Request.{Request}
 use Rattle.client_rules.specs.declared.client.Client.{Client}
 use Rattle.client_rules.specs.declared.client.Outgoing.TheVariants.{Asks}
@@ -162,3 +162,27 @@ abbrev pub LosesAll : (s : Dealing) → Client → List Notice → Option Traffi
 LosesAll s client notices told faults =
     (rounds : ℕ) × (u : Dealing) × WorksRounds rounds s u
     × (left : List Sent) × LosesIn u.waiting (record u { waiting = [] }) (dealing client left notices told faults)
+
+-- ---- cut off for want of memory
+
+-- an exchange was cut off, or there was no memory for what came of it
+abbrev pub CutsExchange : Node → (message : List ℕ) → (told_before told : Option Traffic) → (failed_before failed : Faults) → Type 0
+CutsExchange to message told_before told failed_before failed =
+    IsCutOff to message told_before told failed_before failed
+    ⊎ ((came : Option (List ℕ)) × Answered to message told_before told failed_before failed came)
+
+-- some of these messages were sent, and the exchange of the next was cut off
+pub record CutsIn (ms : List Sent) (s : Dealing) (told : Option Traffic) (faults : Faults) : Type 0 where
+  pub sent : List Sent
+  pub cut : Sent
+  pub unsent : List Sent
+  pub are : ms ≡ sent ++ cut ∷ unsent
+  pub before : Dealing
+  pub works : InTurn Works sent s before
+  pub cuts : CutsExchange cut.to cut.bytes before.told told before.faults faults
+
+-- all went so far, and no further: the next round didn't begin, or was cut off
+abbrev pub CutsAll : (s : Dealing) → Option Traffic → Faults → Type 0
+CutsAll s told faults =
+    (rounds : ℕ) × (u : Dealing) × WorksRounds rounds s u
+    × (((told ≡ u.told) × (faults ≡ u.faults)) ⊎ CutsIn u.waiting (record u { waiting = [] }) told faults)

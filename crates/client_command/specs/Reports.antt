@@ -14,7 +14,8 @@ use Rattle.client_rules.specs.declared.client.Client.{Client}
 use Rattle.client_rules.specs.declared.outcomes.CallErr.{CallErr}
 use Rattle.client_rules.specs.Steps.{calls, new_client}
 use Rattle.client_command.specs.declared.notices.Notice.{Notice}
-use Rattle.client_command.specs.Exchanges.{Dealing, dealing}
+use Rattle.client_command.specs.Exchanges.{CutsExchange, Dealing, dealing}
+use Rattle.osd_lists.specs.declared.node.Node.TheVariants.{Server}
 use Rattle.command_words.specs.declared.work.ClientWork.{ClientWork}
 use Rattle.command_words.specs.declared.work.ClientWork.TheVariants as work
 use Rattle.command_words.specs.declared.work.Order.{Order}
@@ -24,9 +25,10 @@ use Rattle.client_command.specs.declared.work_ends.Refusal.TheVariants.{Call}
 use Rattle.client_command.specs.declared.work_ends.Report.{Report}
 use Rattle.client_command.specs.WorkEnds.{end_of, end_by_result}
 use Rattle.client_command.specs.Lines.{call_lines, next_line, order_line, refusal_lines}
+use Rattle.client_command.specs.declared.calls.CallStop.{CallStop}
 use Rattle.client_command.specs.declared.calls.CallStop.TheVariants.{Lost}
 use Rattle.client_command.specs.Calls.{Calls, StopsCall}
-use Rattle.client_command.specs.Orders.{Answers, sent_order}
+use Rattle.client_command.specs.Orders.{Answers, order_message, sent_order}
 
 -- what is known of the links: what came and went, and the counts of the calls that failed
 pub record OnLinks : Type 0 where
@@ -96,3 +98,22 @@ pub record ReportsOrder (sequence : ℕ) (o : Order) (before now : OnLinks) (rep
 abbrev pub Reports : (number sequence : ℕ) → ClientWork → (before now : OnLinks) → Report → Type 0
 Reports number sequence (work.Call what) before now report = ReportsCall number sequence (op_of what) before now report
 Reports number sequence (work.Order o) before now report = ReportsOrder sequence o before now report
+
+-- ---- cut off for want of memory
+
+-- a call was carried out so far, or was over, and there was no memory to tell of it
+abbrev pub CutsCall : (number sequence : ℕ) → CallOp → (before now : OnLinks) → Type 0
+CutsCall number sequence op before now =
+    (client : Client) × (notices : List Notice)
+    × (Calls op (fresh number sequence before) (dealing client [] notices now.told now.faults)
+    ⊎ ((stop : CallStop) × StopsCall op (fresh number sequence before) client notices now.told now.faults stop))
+
+-- an order wasn't sent; or its exchange was cut off, or there was no memory for the answer
+abbrev pub CutsOrder : Order → (before now : OnLinks) → Type 0
+CutsOrder o before now =
+    (now ≡ before)
+    ⊎ CutsExchange Server (order_message (sent_order o)) before.told now.told before.faults now.faults
+
+abbrev pub CutsWork : (number sequence : ℕ) → ClientWork → (before now : OnLinks) → Type 0
+CutsWork number sequence (work.Call what) before now = CutsCall number sequence (op_of what) before now
+CutsWork number sequence (work.Order o) before now = CutsOrder o before now

@@ -1,5 +1,6 @@
 // A call of a client over links, and the returns behind it.
 ghost use Rattle.std.specs.Prelude.{◌≡◌, ◌≤◌, ◌<◌, ◌++◌, [], None, IfErr, IfOk, OnOk};
+ghost use Rattle.cluster_text.specs.Peers.{KeepsAddresses};
 ghost use Rattle.client_rules.specs.declared.client.Client.{Client};
 ghost use Rattle.client_rules.specs.declared.limits.TheConstants.{MAX_CLIENT};
 ghost use Rattle.client_rules.specs.Steps.{new_client};
@@ -80,6 +81,7 @@ fn deal_call<L: Links>(
     ensures stops { IfErr result (StopsDeal op
         (dealing_at L.Links links.old core.old [] notices.old)
         core.new notices.new (L.told links.new) (L.faults links.new)) }
+    ensures addresses { KeepsAddresses (L.standing links.old) (L.standing links.new) }
 {
     // Here and below, arms in place of `?` or of the bare call are for the prover (docs/PROVER_FORMS.md).
     let CStep { sends, outcome } = match begin(core, op) {
@@ -107,6 +109,7 @@ fn return_grants<L: Links>(
     ensures stops { IfErr result (StopsReturn
         (dealing_at L.Links links.old core.old [] notices.old)
         core.new notices.new (L.told links.new) (L.faults links.new)) }
+    ensures addresses { KeepsAddresses (L.standing links.old) (L.standing links.new) }
 {
     let sends = core.leave()?;
     match deal(alloc, core, links, sends, notices) {
@@ -128,6 +131,7 @@ fn call_and_leave<L: Links>(
     ensures stops { IfErr result (StopsCall op
         (dealing_at L.Links links.old core.old [] notices.old)
         core.new notices.new (L.told links.new) (L.faults links.new)) }
+    ensures addresses { KeepsAddresses (L.standing links.old) (L.standing links.new) }
 {
     match deal_call(alloc, core, op, links, notices) {
         Ok(()) => {}
@@ -161,6 +165,7 @@ pub(crate) fn call_new<L: Links>(
     ensures stops { IfErr result (λ stop. (client : Client) × StopsCall op
         (dealing_at L.Links links.old (new_client number sequence) [] notices.old)
         client notices.new (L.told links.new) (L.faults links.new) stop) }
+    ensures addresses { KeepsAddresses (L.standing links.old) (L.standing links.new) }
 {
     let mut core = ClientCore::new(alloc, number, sequence);
     match call_and_leave(alloc, &mut core, op, links, notices) {

@@ -1,12 +1,15 @@
-ghost use Rattle.std.specs.Prelude.{◌≡◌, ◌≤◌, ◌<◌, IfErr, IfOk};
+ghost use Rattle.std.specs.Prelude.{◌≡◌, ◌≤◌, ◌<◌, IfErr, IfOk, OnOk};
+ghost use Rattle.osd_bytes.specs.Reading.{TakesAtMost};
+ghost use Rattle.osd_bytes.specs.declared.lines.TheConstants.{MAX_READ};
 ghost use Rattle.client_rules.specs.declared.limits.TheConstants.{MAX_CLIENT};
 ghost use Rattle.cluster_text.specs.Outside.{streams_at};
 ghost use Rattle.client_command.specs.Reports.{links_at};
-ghost use Rattle.client_command.specs.Ends.{EndsClient, StopsClient, StopsTelling, StopsWork, Tells, ToldAll, WorksAs};
+ghost use Rattle.client_command.specs.Ends.{EndsClient, KnowsCluster, StopsClient, StopsTelling, StopsWork, Tells, ToldAll, WorksAs};
 
+use crate::inputs::ask_from;
 use crate::reports::report;
 use crate::work_ends::{ClientEnd, Report};
-use cluster_text::{Cluster, CommandStop, Reader, cluster_from, put_stop, settle_at};
+use cluster_text::{Cluster, CommandStop, put_stop, settle_at};
 use command_words::ClientWords;
 use osd_bytes::{Links, Sink, Source, put_all};
 use std::alloc::Global;
@@ -41,8 +44,9 @@ fn work_in<K: Sink, L: Links>(
     ensures tells { IfOk result (Tells words
         (links_at L.Links links.old) (links_at L.Links links.new)
         (K.taken sink.old) (K.taken sink.new)) }
-    ensures stops { IfErr result (StopsWork words
-        (links_at L.Links links.old) (links_at L.Links links.new)
+    ensures knows { OnOk result (KnowsCluster cluster.now (L.standing links.new)) }
+    ensures stops { IfErr result (StopsWork words cluster.now
+        (links_at L.Links links.old) (links_at L.Links links.new) (L.standing links.new)
         (K.taken sink.old) (K.taken sink.new) (K.faults sink.old) (K.faults sink.new)) }
 {
     // Here and below, arms in place of `?` or of the bare call are for the prover (docs/PROVER_FORMS.md).
@@ -57,7 +61,7 @@ fn work_in<K: Sink, L: Links>(
     }
 }
 
-// Works as a client of the cluster that the source describes. A stop isn't told here.
+// Works as a client of the cluster that the source describes, with the bytes behind the text. A stop isn't told here.
 fn work<S: Source, K: Sink, L: Links>(
     alloc: Global,
     words: ClientWords,
@@ -69,16 +73,17 @@ fn work<S: Source, K: Sink, L: Links>(
     requires sequence { 0 < words.sequence }
     ensures works { IfOk result (WorksAs words
         (streams_at S.Source K.Sink source.old sink.old) (streams_at S.Source K.Sink source.new sink.new)
-        (links_at L.Links links.old) (links_at L.Links links.new)) }
+        (links_at L.Links links.old) (links_at L.Links links.new) (L.standing links.new)) }
     ensures stops { IfErr result (StopsClient words
         (streams_at S.Source K.Sink source.old sink.old) (streams_at S.Source K.Sink source.new sink.new)
-        (links_at L.Links links.old) (links_at L.Links links.new)) }
+        (links_at L.Links links.old) (links_at L.Links links.new) (L.standing links.new)) }
+    ensures input { TakesAtMost MAX_READ (S.left source.old) (S.left source.new) }
 {
-    let cluster = match cluster_from(alloc, Reader::Client, source) {
-        Ok(cluster) => cluster,
+    let (cluster, asked) = match ask_from(alloc, words, source) {
+        Ok(parts) => parts,
         Err(stop) => return Err(stop),
     };
-    match work_in(alloc, &cluster, words, sink, links) {
+    match work_in(alloc, &cluster, asked, sink, links) {
         Ok(end) => Ok(end),
         Err(stop) => Err(stop),
     }
@@ -87,7 +92,8 @@ fn work<S: Source, K: Sink, L: Links>(
 /// Carries out one call of a client in the cluster that the source describes, or hands its server one order. The
 /// sink is told the timeouts and the end of the call, or what the server answers to the order, and then `next` with
 /// the number of the client's next request; or else, in a line of its own, why the client stopped before. Behind a
-/// call every grant is returned before anything is told.
+/// call every grant is returned before anything is told. A write that has no bytes of its own takes those behind the
+/// first zero byte of the source, where the text ends then.
 ///
 /// # Errors
 ///
@@ -106,10 +112,11 @@ pub fn client_command<S: Source, K: Sink, L: Links>(
     requires sequence { 0 < words.sequence }
     ensures works { IfOk result (WorksAs words
         (streams_at S.Source K.Sink source.old sink.old) (streams_at S.Source K.Sink source.new sink.new)
-        (links_at L.Links links.old) (links_at L.Links links.new)) }
+        (links_at L.Links links.old) (links_at L.Links links.new) (L.standing links.new)) }
     ensures stops { IfErr result (EndsClient words
         (streams_at S.Source K.Sink source.old sink.old) (streams_at S.Source K.Sink source.new sink.new)
-        (links_at L.Links links.old) (links_at L.Links links.new)) }
+        (links_at L.Links links.old) (links_at L.Links links.new) (L.standing links.new)) }
+    ensures input { TakesAtMost MAX_READ (S.left source.old) (S.left source.new) }
 {
     match work(alloc, words, source, sink, links) {
         Ok(end) => Ok(end),

@@ -1,8 +1,10 @@
 // An exchange with a drive.
-ghost use Rattle.std.specs.Prelude.{◌≡◌, Option, OnOk};
+ghost use Rattle.std.specs.Prelude.{◌≡◌, Option, OnOk, OnErr};
+ghost use Rattle.osd_lists.specs.declared.node.Node.TheVariants.{Drive};
+ghost use Rattle.cluster_text.specs.Peers.{KeepsAddresses};
 ghost use Rattle.osd_bytes.specs.Connections.{Traffic};
 ghost use Rattle.osd_bytes.specs.Counts.{Faults};
-ghost use Rattle.client_command.specs.Exchanges.{AsksDrive, dealing, dealing_at, heard, late, timed_out};
+ghost use Rattle.client_command.specs.Exchanges.{AsksDrive, CutsExchange, dealing, dealing_at, heard, late, timed_out};
 
 use crate::notices::{Notice, Notices, take_step};
 use osd_bytes::{Links, asked};
@@ -75,7 +77,7 @@ fn time_out(
 ///
 /// # Errors
 ///
-/// Want of memory alone, which may come in the middle.
+/// Want of memory alone: the exchange was cut off, or there was none for what came of it.
 pub(crate) fn exchange_with_drive<L: Links>(
     alloc: Global,
     core: &mut ClientCore,
@@ -85,9 +87,12 @@ pub(crate) fn exchange_with_drive<L: Links>(
     waiting: &mut Sends,
     notices: &mut Notices,
 ) -> Result<(), Memory>
-    ensures { OnOk result (AsksDrive drive command.now
+    ensures asks { OnOk result (AsksDrive drive command.now
         (dealing_at L.Links links.old core.old waiting.old notices.old)
         (dealing_at L.Links links.new core.new waiting.new notices.new)) }
+    ensures cuts { OnErr result (CutsExchange (Drive drive) command.now (L.told links.old) (L.told links.new)
+        (L.faults links.old) (L.faults links.new)) }
+    ensures addresses { KeepsAddresses (L.standing links.old) (L.standing links.new) }
 {
     let came = asked(alloc, links, Node::Drive(drive), command)?;
     hear_reply(alloc, core, Node::Drive(drive), came, waiting, notices)?;

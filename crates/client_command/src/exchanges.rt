@@ -1,7 +1,8 @@
 // The messages of a client, one after the other.
 ghost use Rattle.std.specs.Prelude.{◌≡◌, [], IsErrOf, OnOk};
-ghost use Rattle.client_command.specs.declared.exchanges.DealErr.TheVariants.{LinkFault};
-ghost use Rattle.client_command.specs.Exchanges.{InTurn, Loses, LosesAll, LosesIn, Works, WorksAll, dealing_at};
+ghost use Rattle.cluster_text.specs.Peers.{KeepsAddresses};
+ghost use Rattle.client_command.specs.declared.exchanges.DealErr.TheVariants.{LinkFault, Memory as NoMemory};
+ghost use Rattle.client_command.specs.Exchanges.{CutsAll, CutsExchange, CutsIn, InTurn, Loses, LosesAll, LosesIn, Works, WorksAll, dealing_at};
 
 use crate::drive::exchange_with_drive;
 use crate::notices::Notices;
@@ -49,6 +50,9 @@ fn work<L: Links>(
     ensures loses { IsErrOf result LinkFault → Loses sent.now
         (dealing_at L.Links links.old core.old waiting.old notices.old)
         (dealing_at L.Links links.new core.new waiting.new notices.new) }
+    ensures cuts { IsErrOf result NoMemory → CutsExchange sent.now.to sent.now.bytes (L.told links.old) (L.told links.new)
+        (L.faults links.old) (L.faults links.new) }
+    ensures addresses { KeepsAddresses (L.standing links.old) (L.standing links.new) }
 {
     let message = sent.bytes.as_slice();
     match sent.to {
@@ -84,6 +88,9 @@ fn work_round<L: Links>(
     ensures loses { IsErrOf result LinkFault → LosesIn round.now
         (dealing_at L.Links links.old core.old waiting.old notices.old)
         (dealing_at L.Links links.new core.new waiting.new notices.new) }
+    ensures cuts { IsErrOf result NoMemory → CutsIn round.now
+        (dealing_at L.Links links.old core.old waiting.old notices.old) (L.told links.new) (L.faults links.new) }
+    ensures addresses { KeepsAddresses (L.standing links.old) (L.standing links.new) }
 {
     for i in 0..round.len() {
         match work(alloc, core, links, round.get(i), waiting, notices) {
@@ -100,8 +107,8 @@ fn work_round<L: Links>(
 /// # Errors
 ///
 /// [`DealErr::LinkFault`] exactly if an exchange with the server gave no record, or one that isn't the awaited
-/// answer; nothing is sent then. Want of memory; and, in place of it, that 18,446,744,073,709,551,615 rounds of
-/// messages don't end.
+/// answer; nothing is sent then. Want of memory, at which an exchange may be cut off; and, in place of it, that
+/// 18,446,744,073,709,551,615 rounds of messages don't end.
 pub fn deal<L: Links>(
     alloc: Global,
     core: &mut ClientCore,
@@ -115,6 +122,9 @@ pub fn deal<L: Links>(
     ensures loses { IsErrOf result LinkFault → LosesAll
         (dealing_at L.Links links.old core.old sends notices.old)
         core.new notices.new (L.told links.new) (L.faults links.new) }
+    ensures cuts { IsErrOf result NoMemory → CutsAll
+        (dealing_at L.Links links.old core.old sends notices.old) (L.told links.new) (L.faults links.new) }
+    ensures addresses { KeepsAddresses (L.standing links.old) (L.standing links.new) }
 {
     let mut waiting = sends;
     'rounds: for _ in 0..u64::MAX {

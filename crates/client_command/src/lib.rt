@@ -9,6 +9,7 @@ mod calls;
 mod command;
 mod drive;
 mod exchanges;
+mod inputs;
 mod lines;
 mod notices;
 mod orders;

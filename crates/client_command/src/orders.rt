@@ -1,11 +1,14 @@
 // An order to the server, and its answer.
-ghost use Rattle.std.specs.Prelude.{◌≡◌, ◌++◌, Some, IfOk};
+ghost use Rattle.std.specs.Prelude.{◌≡◌, ◌⊎◌, ◌++◌, Some, IfOk, OnErr};
+ghost use Rattle.osd_lists.specs.declared.node.Node.TheVariants.{Server};
+ghost use Rattle.cluster_text.specs.Peers.{KeepsAddresses};
+ghost use Rattle.client_command.specs.Exchanges.{CutsExchange};
 ghost use Rattle.layout_ops.specs.Enumerations.{order_result_number};
 ghost use Rattle.layout_ops.specs.Reading.{envelope_of};
 ghost use Rattle.client_command.specs.WorkEnds.{end_by_result};
 ghost use Rattle.client_command.specs.Lines.{next_line, order_line};
-ghost use Rattle.client_command.specs.Orders.{Answers, answer_read, sent_order};
-ghost use Rattle.client_command.specs.Reports.{IsReport, ReportsOrder, links_at};
+ghost use Rattle.client_command.specs.Orders.{Answers, answer_read, order_message, sent_order};
+ghost use Rattle.client_command.specs.Reports.{CutsOrder, IsReport, ReportsOrder, links_at};
 
 use crate::lines::{order_text, push_next};
 use crate::work_ends::{Report, end_by_result};
@@ -65,7 +68,12 @@ fn answer_of<L: Links>(
     order: SentOrder,
     links: &mut L,
 ) -> Result<Option<OrderResult>, Memory>
-    ensures { IfOk result (Answers order (L.told links.old) (L.told links.new) (L.faults links.old) (L.faults links.new)) }
+    ensures answers { IfOk result (Answers order (L.told links.old) (L.told links.new)
+        (L.faults links.old) (L.faults links.new)) }
+    ensures cuts { OnErr result ((links_at L.Links links.new ≡ links_at L.Links links.old)
+        ⊎ CutsExchange Server (order_message order) (L.told links.old) (L.told links.new)
+        (L.faults links.old) (L.faults links.new)) }
+    ensures addresses { KeepsAddresses (L.standing links.old) (L.standing links.new) }
 {
     let message = write_envelope(alloc, &Envelope::Order(order))?;
     match asked(alloc, links, Node::Server, message.as_slice())? {
@@ -94,8 +102,10 @@ pub(crate) fn report_order<L: Links>(
     order: Order,
     links: &mut L,
 ) -> Result<Report, Memory>
-    ensures { IfOk result (ReportsOrder sequence order
+    ensures reports { IfOk result (ReportsOrder sequence order
         (links_at L.Links links.old) (links_at L.Links links.new)) }
+    ensures cuts { OnErr result (CutsOrder order (links_at L.Links links.old) (links_at L.Links links.new)) }
+    ensures addresses { KeepsAddresses (L.standing links.old) (L.standing links.new) }
 {
     match answer_of(alloc, sent_order(order), links)? {
         Some(answer) => report_answer(alloc, sequence, answer),

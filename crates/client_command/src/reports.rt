@@ -1,11 +1,12 @@
 // What the work of a client comes to.
-ghost use Rattle.std.specs.Prelude.{◌≡◌, ◌≤◌, ◌<◌, ◌++◌, IsSome, Some, None, IfOk};
+ghost use Rattle.std.specs.Prelude.{◌≡◌, ◌≤◌, ◌<◌, ◌++◌, IsSome, Some, None, IfOk, OnErr};
+ghost use Rattle.cluster_text.specs.Peers.{KeepsAddresses};
 ghost use Rattle.scenario_text.specs.LineSpelling.{lines_text};
 ghost use Rattle.world_history.specs.Moves.{op_of};
 ghost use Rattle.client_rules.specs.declared.limits.TheConstants.{MAX_CLIENT};
 ghost use Rattle.client_command.specs.WorkEnds.{end_of};
 ghost use Rattle.client_command.specs.Lines.{call_lines, next_line, refusal_lines};
-ghost use Rattle.client_command.specs.Reports.{IsReport, Reports, ReportsCall, links_at};
+ghost use Rattle.client_command.specs.Reports.{CutsCall, CutsWork, IsReport, Reports, ReportsCall, links_at};
 
 use crate::calls::{CallStop, call_new};
 use crate::lines::{call_text, push_next, refusal_text};
@@ -111,8 +112,11 @@ fn report_call<L: Links>(
     links: &mut L,
 ) -> Result<Report, Memory>
     requires { 0 < sequence }
-    ensures { IfOk result (ReportsCall client sequence (op_of call)
+    ensures reports { IfOk result (ReportsCall client sequence (op_of call)
         (links_at L.Links links.old) (links_at L.Links links.new)) }
+    ensures cuts { OnErr result (CutsCall client sequence (op_of call)
+        (links_at L.Links links.old) (links_at L.Links links.new)) }
+    ensures addresses { KeepsAddresses (L.standing links.old) (L.standing links.new) }
 {
     let op = op_of(call);
     let kind = kind_of(&op);
@@ -133,8 +137,11 @@ pub(crate) fn report<L: Links>(
 ) -> Result<Report, Memory>
     requires number { words.number ≤ MAX_CLIENT }
     requires sequence { 0 < words.sequence }
-    ensures { IfOk result (Reports words.number words.sequence words.work
+    ensures reports { IfOk result (Reports words.number words.sequence words.work
         (links_at L.Links links.old) (links_at L.Links links.new)) }
+    ensures cuts { OnErr result (CutsWork words.number words.sequence words.work
+        (links_at L.Links links.old) (links_at L.Links links.new)) }
+    ensures addresses { KeepsAddresses (L.standing links.old) (L.standing links.new) }
 {
     let ClientWords {
         number,

@@ -1,7 +1,9 @@
 // An exchange with the server.
 ghost use Rattle.std.specs.Prelude.{◌≡◌, ◌↔◌, IfOk, IsTrue, IsErrOf, OnOk};
-ghost use Rattle.client_command.specs.declared.exchanges.DealErr.TheVariants.{LinkFault};
-ghost use Rattle.client_command.specs.Exchanges.{AsksServer, AwaitsStill, IsRequest, LosesServer, dealing_at};
+ghost use Rattle.osd_lists.specs.declared.node.Node.TheVariants.{Server};
+ghost use Rattle.cluster_text.specs.Peers.{KeepsAddresses};
+ghost use Rattle.client_command.specs.declared.exchanges.DealErr.TheVariants.{LinkFault, Memory as NoMemory};
+ghost use Rattle.client_command.specs.Exchanges.{CutsExchange, AsksServer, AwaitsStill, IsRequest, LosesServer, dealing_at};
 
 use crate::drive::hear_reply;
 use crate::exchanges::DealErr;
@@ -40,7 +42,8 @@ fn awaits_still(core: &ClientCore, message: &[u8]) -> Result<bool, Memory>
 /// # Errors
 ///
 /// [`DealErr::LinkFault`] exactly if no record came, one that doesn't answer the message, which the client then
-/// hasn't heard, or an answer that the client doesn't take: it is awaited still. Want of memory.
+/// hasn't heard, or an answer that the client doesn't take: it is awaited still. Want of memory: the exchange was cut off,
+/// or there was none for what came of it.
 pub(crate) fn exchange_with_server<L: Links>(
     alloc: Global,
     core: &mut ClientCore,
@@ -55,6 +58,9 @@ pub(crate) fn exchange_with_server<L: Links>(
     ensures loses { IsErrOf result LinkFault → LosesServer message.now
         (dealing_at L.Links links.old core.old waiting.old notices.old)
         (dealing_at L.Links links.new core.new waiting.new notices.new) }
+    ensures cuts { IsErrOf result NoMemory → CutsExchange Server message.now (L.told links.old) (L.told links.new)
+        (L.faults links.old) (L.faults links.new) }
+    ensures addresses { KeepsAddresses (L.standing links.old) (L.standing links.new) }
 {
     match asked(alloc, links, Node::Server, message)? {
         Some(record) => {

@@ -102,8 +102,9 @@ Carries out one call as client N (0 to 15) of the cluster that the text describe
 (docs/OPERATIONS.md). Q, from 1, is the number of its first request: 1 the first time, then what the line 'next Q' of
 the run before says. All options are required.
 
-TEXT      write F OFFSET HEX, read F OFFSET LENGTH, recall F, revoke F, rebuild F, audit F or declare D,
-          F a file as f0, D a drive as d0
+TEXT      write F OFFSET HEX, write F OFFSET -, read F OFFSET LENGTH, recall F, revoke F, rebuild F, audit F or
+          declare D, F a file as f0, D a drive as d0. With - the bytes are those after the first zero byte of
+          standard input, where the text of the cluster ends then
 ";
 
 // What is said of a command.

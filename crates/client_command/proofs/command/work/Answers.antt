@@ -8,8 +8,8 @@ returns-clause-stops g c =
     acting c.args.words
     (streams (g.S.Source.left c.args.source.now) (g.S.Source.faults c.args.source.now)
     (g.K.Sink.taken c.args.sink.now) (g.K.Sink.faults c.args.sink.now))
-    (streams (g.S.Source.left c.cluster_from.new.source) (g.S.Source.faults c.cluster_from.new.source)
+    (streams (g.S.Source.left c.ask_from.new.source) (g.S.Source.faults c.ask_from.new.source)
     (g.K.Sink.taken c.work_in.new.sink) (g.K.Sink.faults c.work_in.new.sink))
     (on_links (g.L.Links.told c.args.links.now) (g.L.Links.faults c.args.links.now))
     (on_links (g.L.Links.told c.work_in.new.links) (g.L.Links.faults c.work_in.new.links))
-    c.in-Err-work_in.stop c.in-Ok.cluster c.in-Ok.ensures.cluster c.in-Err-work_in.ensures.stops
+    (g.L.Links.standing c.work_in.new.links) c.in-Err-work_in.stop c.in-Ok.parts.0 c.in-Ok.parts.1 c.in-Ok.ensures.asks c.in-Err-work_in.ensures.stops

@@ -3,8 +3,8 @@ use Rattle.client_command.specs.Exchanges.{dealing, on_links}
 use Rattle.client_command.proofs.DealingLaws.{is_answered}
 use Rattle.client_command.proofs.drive.exchange_with_drive.Goals as goal
 
-pub returns : goal.returns
-returns g c =
+pub returns-clause-asks : goal.returns-clause-asks
+returns-clause-asks g c =
     let told = g.L.Links.told c.args.links.now in
     let faults = g.L.Links.faults c.args.links.now in
     record {

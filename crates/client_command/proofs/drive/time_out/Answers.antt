@@ -9,4 +9,4 @@ returns-in_ok-take_step-in-Some c = λ told faults.
     rw c.in-Some.is
     (is_stepped (dealing c.args.core.now c.args.waiting.now
     (c.args.notices.now ++ TimedOut c.in-Some.component ∷ []) told faults) _ _ _ _ _
-    c.in_ok-step-in-Some.ensures c.in_ok-take_step-in-Some.ensures.sends (search rules))
+    c.in_ok-step-in-Some.ensures.step c.in_ok-take_step-in-Some.ensures.sends (search rules))

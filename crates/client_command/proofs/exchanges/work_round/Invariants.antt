@@ -1,4 +1,5 @@
 use Rattle.std.proofs.Common.{take}
+use Rattle.cluster_text.specs.Peers.{KeepsAddresses}
 use Rattle.client_command.specs.Exchanges.{InTurn, Works, dealing}
 use Rattle.client_command.proofs.exchanges.work_round.Given as goal
 
@@ -8,3 +9,4 @@ invariant-loop-i g l =
     (dealing l.initial.core l.initial.waiting l.initial.notices (g.L.Links.told l.initial.links)
     (g.L.Links.faults l.initial.links))
     (dealing l.core l.waiting l.notices (g.L.Links.told l.links) (g.L.Links.faults l.links))
+    × KeepsAddresses (g.L.Links.standing l.initial.links) (g.L.Links.standing l.links)
