@@ -333,7 +333,7 @@ const MAKERS: &[Case] = &[
         asked: &[EXISTS],
         sent: &[CREATE],
         notes: &[
-            "d0 holds object 65536 already: end the drives of an earlier run before the server is started again",
+            "d0 holds object 65536 already: is this the right journal, and are these the right drives? (docs/OPERATIONS.md)",
         ],
         exit_code: 8,
         output: "error link\n",

@@ -1,5 +1,5 @@
 -- Commands that make files, one after the other, and where they stop.
-use Rattle.std.specs.Prelude.{option_map, slice_get}
+use Rattle.std.specs.Prelude.{slice_get}
 use Rattle.std.proofs.Common.{◌≡◌, ◌∙◌, ◌<◌, ℕ, zero, suc, true, List, [], ◌∷◌, ◌++◌, length, take, drop, Option, Some, None, refl, ap, subst}
 use Rattle.osd_bytes.specs.Connections.{Traffic, after_notes}
 use Rattle.osd_bytes.specs.Counts.{Faults}
@@ -14,8 +14,8 @@ use Rattle.server_rules.specs.declared.server.Server.{Server}
 use Rattle.server_requests.specs.declared.outgoing.Sent.{Sent}
 use Rattle.server_command.specs.Messages.{Handles, InTurn, Round, Rounds, Serving, UntilNone, serving}
 use Rattle.server_command.proofs.WorkLaws.{Grows, measure, round_less, turn_grows, works_grows}
-use Rattle.server_command.specs.Faults.{fault_line, held_line}
-use Rattle.reply_matching.specs.Held.{held_object}
+use Rattle.server_command.specs.Faults.{creation_fault, fault_line}
+use Rattle.reply_matching.specs.Creations.{creation_told}
 use Rattle.server_command.specs.Files.{Loses, LosesAll, LosesDrive, LosesFile, LosesFiles, LosesIn, Makes, MakesFile, MakesTo, RefusesFile, RefusesFiles, StopsAt, StopsBy}
 
 -- ---- where it stops
@@ -53,12 +53,22 @@ stops_at Does Stops xs i x s u e does stops = record {
 pub drive_makes : (drive : ℕ) (message reply : List ℕ) (s t : Serving) (between : Ends)
     → Answered (Drive drive) message s.ends.told between.told s.ends.faults between.faults (Some reply) →
     between.times ≡ s.ends.times
-    → Handles (Drive drive) reply (record s { ends = between }) t → held_object message reply ≡ None →
+    → Handles (Drive drive) reply (record s { ends = between }) t → creation_fault drive (creation_told message reply) ≡ None →
     MakesTo (Drive drive) message s t
 drive_makes drive message reply s t between answered times hears none = (
   record { came = Some reply; between = between; answered = answered; times = times; hears = hears },
-  ap (λ (o : Option ℕ). option_map (held_line drive) o) none,
+  none,
 )
+
+-- where nothing was told in between, and the server is the same, a record is handled as if it came at once
+pub handled_from : (drive : ℕ) (reply : List ℕ) (waiting : List Sent) (first mid : Server) (times : Option (List ℕ))
+    (told now : Option Traffic) (faults later : Faults) (t : Serving) → mid ≡ first → now ≡ told → later ≡ faults
+    → Handles (Drive drive) reply (serving mid waiting true (ends_of now later times)) t
+    → Handles (Drive drive) reply (serving first waiting true (ends_of told faults times)) t
+handled_from drive reply waiting first mid times told now faults later t same tells still h =
+    subst (λ (x : Server). Handles (Drive drive) reply (serving x waiting true (ends_of told faults times)) t) same
+    (subst (λ (n : Option Traffic). Handles (Drive drive) reply (serving mid waiting true (ends_of n faults times)) t) tells
+    (subst (λ (f : Faults). Handles (Drive drive) reply (serving mid waiting true (ends_of now f times)) t) still h))
 
 -- none came, or one that is, and a note tells which
 pub drive_loses : (drive : ℕ) (message line : List ℕ) (came : Option (List ℕ)) (s : Serving) (told now : Option Traffic)

@@ -45,8 +45,8 @@ StopsBy lost refused DiskFault = ⊤
 
 -- ---- commands to drives
 
--- a command goes to its drive, and a record comes that isn't Exists to its CREATE; it is handled; no other message is
--- sent
+-- a command goes to its drive, and a record comes which says that it made the object of a CREATE, or asks for another format;
+-- it is handled; no other message is sent
 abbrev pub MakesTo : Node → (message : List ℕ) → (s t : Serving) → Type 0
 MakesTo (Drive d) message s t = (a : AsksDrive d message s t) × (fault_line d message a.came ≡ None)
 MakesTo TheServer message s t = t ≡ s
@@ -55,7 +55,7 @@ MakesTo (Client c) message s t = t ≡ s
 abbrev pub Makes : Sent → (s t : Serving) → Type 0
 Makes m s t = MakesTo m.to m.bytes s t
 
--- no record comes of a command, or one that is Exists to its CREATE, and a note tells which; nothing else happens
+-- no record comes of a command, or one that says anything else to a CREATE, and a note tells which; nothing else happens
 pub record LosesDrive (drive : ℕ) (message : List ℕ) (s t : Serving) : Type 0 where
   pub came : Option (List ℕ)
   pub between : Ends

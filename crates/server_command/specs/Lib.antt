@@ -8,4 +8,5 @@ pub mod Files
 pub mod Steps
 pub mod Kept
 pub mod GoesOn
+pub mod Knowing
 pub mod ServerStops

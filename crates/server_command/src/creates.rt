@@ -1,27 +1,79 @@
 // The commands by which files are made, one after the other.
-ghost use Rattle.std.specs.Prelude.{◌≡◌, [], true, false, IfErr, OnOk};
+ghost use Rattle.std.specs.Prelude.{◌≡◌, [], true, false, IfErr, IfOk, OnOk};
 ghost use Rattle.cluster_text.specs.Outside.{network_at};
 ghost use Rattle.osd_lists.specs.declared.node.Node.TheVariants.{Drive};
+ghost use Rattle.server_command.specs.Faults.{IsTold};
 ghost use Rattle.server_command.specs.GoesOn.{Goes};
+ghost use Rattle.server_command.specs.Knowing.{Learns};
+ghost use Rattle.server_command.specs.declared.metadata_server.StepErr.TheVariants as step_err;
 ghost use Rattle.server_command.specs.declared.server_stop.ServerStop.TheVariants.{DiskFault};
 ghost use Rattle.server_command.specs.Messages.{InTurn, UntilNone, serving};
 ghost use Rattle.server_command.specs.Files.{Loses, LosesAll, LosesIn, LosesTo, Makes, MakesTo, StopsBy};
 
-use crate::faults::{held_line, silent_line};
-use crate::metadata_server::MetadataServer;
+use crate::faults::{held_line, refused_line, silent_line};
+use crate::metadata_server::{MetadataServer, StepErr};
 use crate::records::hear_drive;
 use crate::server_stop::ServerStop;
 use cluster_text::CommandStop;
 use layout_server::{Sends, Sent};
 use osd_bytes::{Clock, Links, asked};
 use osd_lists::{Memory, Node};
-use reply_matching::held_object;
+use reply_matching::{Creation, creation_told};
 use std::alloc::Global;
 use std::mem;
 use stripe_repair::Place;
 
+// Tells why the making stops at what a drive says of an object, and gives whether it does.
+fn tell_fault<L: Links>(
+    alloc: Global,
+    links: &mut L,
+    drive: u32,
+    said: Option<Creation>,
+) -> Result<bool, Memory>
+    ensures told { IfOk result (λ stops. IsTold drive said stops (L.told links.old) (L.told links.new)) }
+    ensures same { L.faults links.new ≡ L.faults links.old }
+{
+    match said {
+        Some(Creation::Held { object }) => {
+            let line = held_line(alloc, drive, object)?;
+            links.note(line.as_bytes())?;
+            Ok(true)
+        }
+        Some(Creation::Refused { object }) => {
+            let line = refused_line(alloc, drive, object)?;
+            links.note(line.as_bytes())?;
+            Ok(true)
+        }
+        Some(Creation::Made { .. }) | Some(Creation::OldFormat) | None => Ok(false),
+    }
+}
+
+// A server that keeps itself keeps that a drive made an object, before anything comes of that. Of an object that the drive
+// holds already, or refuses, it keeps nothing.
+fn keep_creation<H: MetadataServer>(
+    server: &mut H,
+    drive: u32,
+    said: Option<Creation>,
+) -> Result<(), StepErr>
+    requires goes_on { H.is_over server.old ≡ false }
+    ensures same { OnOk result (H.server server.new ≡ H.server server.old) }
+    ensures learns { OnOk result (H.keeps server.old → Learns (H.knows server.old) (H.knows server.new) drive said) }
+    ensures goes { Goes H.MetadataServer step_err.DiskFault server.old server.new result }
+{
+    match said {
+        Some(Creation::Made { object }) => match server.keep_made(drive, object) {
+            Ok(()) => Ok(()),
+            Err(e) => Err(e),
+        },
+        Some(Creation::Held { .. })
+        | Some(Creation::Refused { .. })
+        | Some(Creation::OldFormat)
+        | None => Ok(()),
+    }
+}
+
 // Sends a command to its drive, and hands the server the record that comes. The file isn't made if no record comes, or
-// one that says that the drive holds the object already.
+// one that doesn't say that the drive made the object.
 fn make_on<H: MetadataServer, L: Links, C: Clock, P: Place>(
     alloc: Global,
     server: &mut H,
@@ -47,11 +99,12 @@ fn make_on<H: MetadataServer, L: Links, C: Clock, P: Place>(
         links.note(line.as_bytes())?;
         return Err(ServerStop::Command(CommandStop::LinkFault));
     };
-    if let Some(object) = held_object(alloc, message, reply.as_slice())? {
-        let line = held_line(alloc, drive, object)?;
-        links.note(line.as_bytes())?;
+    let said = creation_told(alloc, message, reply.as_slice())?;
+    let stops = tell_fault(alloc, links, drive, said)?;
+    if stops {
         return Err(ServerStop::Command(CommandStop::LinkFault));
     }
+    keep_creation(server, drive, said)?;
     hear_drive(
         alloc,
         server,
@@ -136,8 +189,9 @@ fn make_round<H: MetadataServer, L: Links, C: Clock, P: Place>(
 ///
 /// # Errors
 ///
-/// [`CommandStop::LinkFault`] exactly if an exchange gave no record, or one that is Exists to its CREATE, and a note told
-/// which; [`CommandStop::Memory`]; [`ServerStop::DiskFault`] only if the count of faults rose.
+/// [`CommandStop::LinkFault`] exactly if an exchange gave no record, or one to a CREATE that neither says that the object was
+/// made nor asks for another format, and a note told which; [`CommandStop::Memory`]; [`ServerStop::DiskFault`] only if the
+/// count of faults rose.
 pub fn make_all<H: MetadataServer, L: Links, C: Clock, P: Place>(
     alloc: Global,
     server: &mut H,

@@ -82,9 +82,10 @@ pub fn make_file<H: MetadataServer, L: Links, C: Clock, P: Place>(
 ///
 /// # Errors
 ///
-/// [`CommandStop::LinkFault`] exactly if an exchange with a drive gave no record, or one that is Exists to its CREATE,
-/// since the drive holds that object of an earlier run: a note names the drive; [`CommandStop::BadCluster`] of the
-/// kind [`ClusterKind::Range`] exactly if the server refuses a file, or its map has no algorithm; [`CommandStop::Memory`]
+/// [`CommandStop::LinkFault`] exactly if an exchange with a drive gave no record, or one to a CREATE that neither says that the
+/// object was made nor asks for another format, as Exists does if the drive holds that object already: a note names the drive;
+/// [`CommandStop::BadCluster`] of the kind [`ClusterKind::Range`] exactly if the server refuses a file, or its map has no
+/// algorithm; [`CommandStop::Memory`]
 /// for want of memory, and also before a file if the server's counters have no room, which takes a drive that has each
 /// command sent again 2^63 times; [`ServerStop::DiskFault`] only if the count of faults rose.
 pub fn make_files<H: MetadataServer, L: Links, C: Clock, P: Place>(

@@ -28,6 +28,7 @@ mod service;
 
 pub use command::server_command;
 pub use connections::serve;
+pub use creates::make_all;
 pub use drives::server_of;
 pub use files::{FIRST_TAG, make_file, make_files};
 pub use messages::work_all;

@@ -15,6 +15,7 @@ ghost use Rattle.server_rules.specs.declared.server.Refusal.{Refusal};
 ghost use Rattle.server_command.specs.declared.metadata_server.MakeErr.TheVariants.{Memory, Refused};
 ghost use Rattle.server_command.specs.declared.metadata_server.StepErr.TheVariants.{DiskFault};
 ghost use Rattle.server_command.specs.Kept.{BrokeOff, Makes, MakesNot, WentOn};
+ghost use Rattle.server_command.specs.Knowing.{LearnsOne};
 ghost use Rattle.server_command.specs.Steps.{Adds, Hears, Raises};
 
 use data_map::RawMap;
@@ -85,6 +86,9 @@ pub trait MetadataServer {
     /// Whether contents of a disk stand for a server: they have all of it but its jobs.
     ghost stands_for: { Server → List ℕ → Type 0 };
 
+    /// It keeps that a drive has made this object for it.
+    ghost knows: { Self → (drive object : ℕ) → Bool };
+
     /// The drives, in order of their numbers.
     fn drives(&self) -> &[Drive]
         ensures { result.now ≡ (server self.now).drives };
@@ -96,6 +100,19 @@ pub trait MetadataServer {
     /// Whether the counters of 64 bits have room: each is below 9,223,372,036,854,775,808.
     fn counters_low(&self) -> bool
         ensures { IsTrue result ↔ HasRoom (server self.now) };
+
+    /// Whether the server keeps that a drive has made this object for it.
+    fn has_made(&self, drive: u32, object: u64) -> bool
+        ensures { result ≡ knows self.now drive object };
+
+    /// A drive has made this object for the server, as its answer to a CREATE said. A server that keeps itself keeps that, and
+    /// knows no other object more.
+    fn keep_made(&mut self, drive: u32, object: u64) -> Result<(), StepErr>
+        requires goes_on { is_over self.old ≡ false }
+        ensures ok { OnOk result (WentOn server is_over faults keeps moment left_since stands_for [] self.old self.new) }
+        ensures learns { OnOk result (keeps self.old → LearnsOne (knows self.old) (knows self.new) drive object) }
+        ensures err { IfErr result (λ e. BrokeOff server is_over faults keeps moment left_since stands_for [] []
+            (e ≡ DiskFault) self.old self.new) };
 
     /// Every command that a job waits for, once more.
     fn resend(&self) -> Result<Sends, WantOfMemory>
@@ -198,6 +215,8 @@ impl MetadataServer for ServerCore {
 
     ghost stands_for = { λ _ _. ⊥ };
 
+    ghost knows = { λ _ _ _. false };
+
     ghost kept_stays = { λ one c kept left. kept };
 
     fn drives(&self) -> &[Drive] {
@@ -213,6 +232,14 @@ impl MetadataServer for ServerCore {
 
     fn counters_low(&self) -> bool {
         ServerCore::counters_low(self)
+    }
+
+    fn has_made(&self, _drive: u32, _object: u64) -> bool {
+        false
+    }
+
+    fn keep_made(&mut self, _drive: u32, _object: u64) -> Result<(), StepErr> {
+        Ok(())
     }
 
     fn resend(&self) -> Result<Sends, WantOfMemory> {

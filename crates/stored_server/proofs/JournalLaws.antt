@@ -1,6 +1,8 @@
 -- What a server in a journal leaves on its disk over a step.
-use Rattle.std.proofs.Common.{◌≡◌, ℕ, List, [], ◌∷◌, Ok, Result, inl, refl, ◌∙◌, sym, ap, subst, arith}
-use Rattle.std.specs.Prelude.{false}
+use Rattle.std.proofs.Common.{◌≡◌, ◌⊎◌, ⊎_elim, ℕ, List, [], ◌∷◌, ◌++◌, Ok, Result, inl, inr, refl, ◌∙◌, sym, ap, subst, arith}
+use Rattle.std.proofs.Math.Bool.{or-false}
+use Rattle.std.proofs.lemmas.List.Folds.{list_any-append}
+use Rattle.std.specs.Prelude.{false, Bool, ◌==◌, ◌&&◌, ◌||◌}
 use Rattle.osd_bytes.specs.Causes.{Rose}
 use Rattle.osd_disk.specs.Crashes.{LeavesOnly}
 use Rattle.osd_disk.specs.declared.disk.Disk.{Ghosts as DiskGhosts}
@@ -18,6 +20,7 @@ use Rattle.server_rules.specs.Openings.{crash}
 use Rattle.server_command.specs.declared.metadata_server.MakeErr.{MakeErr}
 use Rattle.server_command.specs.declared.metadata_server.MakeErr.TheVariants as made
 use Rattle.server_command.specs.declared.metadata_server.StepErr.TheVariants as step
+use Rattle.server_command.specs.Knowing.{LearnsOne}
 use Rattle.server_command.specs.Kept.{BrokeOff, Carries, MakesNot as NotMade, StandsForSome, WentOn}
 use Rattle.server_command.specs.Steps.{ServerStep, after_step}
 use Rattle.server_command.specs.Steps as steps
@@ -27,9 +30,11 @@ use Rattle.server_journal.specs.declared.errors.JournalFileErr.{JournalFileErr}
 use Rattle.server_journal.specs.declared.errors.JournalFileErr.TheVariants as file
 use Rattle.server_journal.specs.Calls.{Answered, IsRefused, MakesNot, Stays}
 use Rattle.server_journal.specs.Errors.{file_told_by}
-use Rattle.server_journal.specs.Journals.{IsKept, KeepsServer, LeavesEither, core_of, is_over_in}
+use Rattle.server_journal.specs.Journals.{IsJournalWith, IsKept, KeepsServer, LeavesEither, LeavesMade, core_of, is_over_in, made_of}
+use Rattle.server_journal.specs.Resting.{journal_of}
+use Rattle.server_journal.specs.declared.made.MadeObject.{MadeObject}
 use Rattle.stored_server.specs.declared.stored_server.StoredServer.{StoredServer}
-use Rattle.stored_server.specs.StoredServer.{StandsFor, kept_on, make_err_of, stays, step_err_of}
+use Rattle.stored_server.specs.StoredServer.{StandsFor, is_among, kept_on, make_err_of, stays, step_err_of}
 
 -- ---- errors
 
@@ -126,6 +131,60 @@ module _ {D : Type 0} (s : DiskGhosts D) where
     rose = rose;
   }
 
+  -- ---- objects
+
+  -- a crash leaves the server as it is, whether it is told of the object or not
+  told_leaves : (m : MadeObject) (old new : StoredServer D) → LeavesMade s old.journal new.journal m
+      → LeavesOnly (λ (y : StoredServer D). s.moment (kept_on y)) (λ (y : StoredServer D). s.left_since (kept_on y)) old new
+      (StandsForSome StandsFor (core_of old.journal) [])
+  told_leaves m old new l = record {
+    later = l.later;
+    each = λ c left. either c (l.each c left);
+    before = λ t c le left. ⊎_elim inl (λ e. inr (either c e)) (l.before t c le left);
+  }
+    where
+      either : (c : List ℕ)
+          → IsJournalWith (crash (core_of old.journal)) (made_of old.journal) c
+          ⊎ IsJournalWith (crash (core_of old.journal)) (made_of old.journal ++ m ∷ []) c
+          → StandsFor (core_of old.journal) c
+      either c (inl is) = journal_of _ _ c is
+      either c (inr is) = journal_of _ _ c is
+
+  pub went_told : (m : MadeObject) (old new : StoredServer D) → core_of new.journal ≡ core_of old.journal
+      → (IsKept s old.journal → LeavesMade s old.journal new.journal m) → (IsKept s old.journal → IsKept s new.journal)
+      → is_over_in new.journal ≡ false → s.faults (kept_on new) ≡ s.faults (kept_on old) → JournalWent [] old new
+  went_told m old new is leaves keeps on same = record {
+    state = is;
+    carries = record {
+      few = omega arith;
+      crash = λ k. told_leaves m old new (leaves k);
+      since = λ k. (told_leaves m old new (leaves k)).each;
+    };
+    keeps_on = keeps;
+    goes_on = on;
+    same = same;
+  }
+
+  -- and then it knows that object besides
+  pub learns : (m : MadeObject) (old new : List MadeObject) → new ≡ old ++ m ∷ []
+      → LearnsOne (is_among old) (is_among new) m.drive m.object
+  learns m old new is d o =
+      ap (λ (made : List MadeObject). is_among made d o) is
+      ∙ list_any-append (λ (x : MadeObject). (x.drive == d) && (x.object == o)) old (m ∷ [])
+      ∙ ap (λ (b : Bool). is_among old d o || b) (or-false ((m.drive == d) && (m.object == o)))
+
+  pub broke_telling : (m : MadeObject) (failed : Type 0) (old new : StoredServer D)
+      → (IsKept s old.journal → LeavesMade s old.journal new.journal m)
+      → (failed → Rose (s.faults (kept_on old)) (s.faults (kept_on new))) → JournalBroke [] [] failed old new
+  broke_telling m failed old new leaves rose = record {
+    carries = record {
+      few = omega arith;
+      crash = λ k. told_leaves m old new (leaves k);
+      since = λ k. (told_leaves m old new (leaves k)).each;
+    };
+    rose = rose;
+  }
+
   -- ---- files
 
   -- a file that was made
@@ -157,8 +216,9 @@ module _ {D : Type 0} (s : DiskGhosts D) where
           };
           since = λ k c left. held c k left;
         };
-        keeps_on = λ k. subst (λ (v : Server). KeepsServer s (crash v) new.journal.log) (sym same.server)
-            (subst (λ (l : GateLog D). KeepsServer s (crash (core_of old.journal)) l) (sym same.log) k);
+        keeps_on = λ k. subst (λ (v : Server). KeepsServer s (crash v) (made_of new.journal) new.journal.log) (sym same.server)
+            (subst (λ (ms : List MadeObject). KeepsServer s (crash (core_of old.journal)) ms new.journal.log) (sym same.made)
+            (subst (λ (l : GateLog D). KeepsServer s (crash (core_of old.journal)) (made_of old.journal) l) (sym same.log) k));
         goes_on = same.goes_on;
         same = ap (λ (d : D). s.faults d) disk;
       }

@@ -15,7 +15,7 @@ use Rattle.server_command.specs.declared.server_stop.ServerStop.TheVariants.{Dis
 use Rattle.server_command.specs.Ends.{Serves}
 use Rattle.server_command.specs.Kept.{StandsForSome}
 use Rattle.server_command.specs.Steps.{ServerStep, after_steps}
-use Rattle.server_journal.specs.Journals.{IsKept, core_of}
+use Rattle.server_journal.specs.Journals.{IsKept, core_of, made_of}
 use Rattle.server_journal.specs.Opening.{IsOfOpening}
 use Rattle.server_journal.specs.Resting as resting
 use Rattle.server_journal.proofs.JournalLaws.{on_and_on, weaker}
@@ -23,7 +23,7 @@ use Rattle.stored_server.specs.declared.stored_server.StoredServer.{StoredServer
 use Rattle.stored_server.specs.Opened.{BeginsWith, LeavesOpenable}
 use Rattle.stored_server.specs.Preparing.{Prepares}
 use Rattle.stored_server.specs.Service.{BreaksOff, IsOfRun, LeavesRun, ServesFrom, StaysSince, StopsBehind, stored_stop_of}
-use Rattle.stored_server.specs.StoredServer.{StandsFor, kept_on}
+use Rattle.stored_server.specs.StoredServer.{StandsFor, is_among, kept_on}
 use Rattle.stored_server.proofs.JournalLaws.{JournalCarries}
 
 module _ {D : Type 0} (s : DiskGhosts D) where
@@ -53,10 +53,11 @@ module _ {D : Type 0} (s : DiskGhosts D) where
 
   module _ (connections : ℕ) (cluster : Cluster) (before now : Ends) (taken_before taken : Option (List ℕ)) (disk left : D)
       (old new : StoredServer D) (step : Step) (begins : IsTrue (s.tells disk)
-      → BeginsWith (s.seen disk) (core_of old.journal) step)
+      → BeginsWith (s.seen disk) (core_of old.journal) (made_of old.journal) step)
       (kept : IsTrue (s.tells disk) → IsKept s old.journal) (opens : IsTrue (s.tells disk)
       → LeavesOpenable s disk (kept_on old)) (done : List ServerStep) (same : left ≡ kept_on new) where
-    pub served_from : (made : Server) (between : Ends) → Prepares cluster (core_of old.journal) step before made between
+    pub served_from : (made : Server) (between : Ends)
+        → Prepares (is_among (made_of old.journal)) cluster (core_of old.journal) step before made between
         → Serves connections made (core_of new.journal) between now taken_before taken
         → core_of new.journal ≡ after_steps (core_of old.journal) done
         → JournalCarries s done [] old new → (IsKept s old.journal → IsKept s new.journal)
@@ -64,6 +65,7 @@ module _ {D : Type 0} (s : DiskGhosts D) where
         → ServesFrom s connections cluster before now taken_before taken disk left
     served_from made between prepares serves all x keeps still faults = record {
       begun = core_of old.journal;
+      own = made_of old.journal;
       step = step;
       begins = begins;
       made = made;
@@ -77,19 +79,22 @@ module _ {D : Type 0} (s : DiskGhosts D) where
           (leaves_run disk left old new (done ++ []) same (opens told) (x.crash (kept told)));
       stays = λ told. stays_since old new done [] left x (kept told) same;
       stands = λ told. subst (λ (d : D). StandsFor (core_of new.journal) (s.seen d)) (sym same)
-          (resting.stands s (crash (core_of new.journal)) new.journal.log (keeps (kept told)));
+          (resting.journal_of (crash (core_of new.journal)) (made_of new.journal) (s.seen (kept_on new))
+          (resting.stands s (crash (core_of new.journal)) (made_of new.journal) new.journal.log (keeps (kept told))));
       durable = λ told. subst (λ (d : D). Only (s.seen d) (s.may_leave d)) (sym same) (keeps (kept told)).rest.durable;
       same = ap (λ (d : D). s.faults d) same ∙ (still ∙ faults);
     }
 
     pub broke_off : (cut_off : List ServerStep) (failed_before failed : ℕ) (stop : StoredStop) (cause : ServerStop)
         → stop ≡ stored_stop_of cause
-        → StopsBehind connections cluster (core_of old.journal) step before now taken_before taken failed_before failed cause
+        → StopsBehind connections cluster (core_of old.journal)
+        (made_of old.journal) step before now taken_before taken failed_before failed cause
         → JournalCarries s done cut_off old new → (cause ≡ DiskFault → Rose (s.faults (kept_on old)) (s.faults (kept_on new)))
         → s.faults (kept_on old) ≡ s.faults disk
         → BreaksOff s connections cluster before now taken_before taken failed_before failed disk left stop
     broke_off cut_off failed_before failed stop cause is why x rose faults = record {
       begun = core_of old.journal;
+      own = made_of old.journal;
       step = step;
       begins = begins;
       cause = cause;

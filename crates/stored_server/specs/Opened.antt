@@ -14,7 +14,8 @@ use Rattle.server_state.specs.declared.step.Step.{Step}
 use Rattle.server_state.specs.States.{Did}
 use Rattle.server_journal.specs.declared.errors.JournalErr.{JournalErr}
 use Rattle.server_journal.specs.declared.errors.JournalErr.TheVariants as journal
-use Rattle.server_journal.specs.Journals.{IsJournalOf}
+use Rattle.server_journal.specs.declared.made.MadeObject.{MadeObject}
+use Rattle.server_journal.specs.Journals.{IsJournalWith}
 use Rattle.server_journal.specs.Opening.{IsNoJournalAt, LeavesOpening}
 
 -- where a journal wasn't made or opened; a disk that was empty has no bytes when the journal is made
@@ -24,12 +25,12 @@ stop_of_journal (journal.NotAJournal at) = BadStore at
 stop_of_journal journal.DiskFault = DiskFault
 stop_of_journal journal.Memory = no_memory
 
--- the server with which serving begins, and the step of its opening: without drives and files on an empty disk, else the one
--- that the journal kept, opened
-abbrev pub BeginsWith : (seen : List ℕ) → Server → Step → Type 0
-BeginsWith seen server step =
-    ((seen ≡ []) × Did step server (still (new_server [])))
-    ⊎ ((kept : Server) × IsJournalOf kept seen × Did step server (reopen kept))
+-- The server with which serving begins, the objects that it knows to be its own, and the step of its opening: without drives
+-- and files on an empty disk, else the one that the journal kept, opened, and the objects that the journal tells of.
+abbrev pub BeginsWith : (seen : List ℕ) → Server → (own : List MadeObject) → Step → Type 0
+BeginsWith seen server own step =
+    ((seen ≡ []) × (own ≡ []) × Did step server (still (new_server [])))
+    ⊎ ((kept : Server) × IsJournalWith kept own seen × Did step server (reopen kept))
 
 -- why a journal can't be made or opened
 abbrev pub StopsOpening : {D : Type 0} → DiskGhosts D → (disk left : D) → StoredStop → Type 0

@@ -15,7 +15,8 @@ use Rattle.server_command.specs.Steps.{ServerStep, after_steps}
 use Rattle.server_command.specs.declared.server_stop.ServerStop.{ServerStop}
 use Rattle.server_command.specs.declared.server_stop.ServerStop.TheVariants.{Command, DiskFault}
 use Rattle.server_journal.specs.Opening.{IsOfOpening}
-use Rattle.stored_server.specs.StoredServer.{StandsFor}
+use Rattle.server_journal.specs.declared.made.MadeObject.{MadeObject}
+use Rattle.stored_server.specs.StoredServer.{StandsFor, is_among}
 use Rattle.stored_server.specs.Opened.{BeginsWith, LeavesOpenable, StopsOpening}
 use Rattle.stored_server.specs.Preparing.{Prepares, StopsPreparing}
 
@@ -46,11 +47,12 @@ LeavesRun s disk left begun steps =
 pub record ServesFrom {D : Type 0} (s : DiskGhosts D) (connections : ℕ) (cluster : Cluster) (before now : Ends)
     (taken_before taken : Option (List ℕ)) (disk left : D) : Type 0 where
   pub begun : Server
+  pub own : List MadeObject
   pub step : Step
-  pub begins : IsTrue (s.tells disk) → BeginsWith (s.seen disk) begun step
+  pub begins : IsTrue (s.tells disk) → BeginsWith (s.seen disk) begun own step
   pub made : Server
   pub between : Ends
-  pub prepares : Prepares cluster begun step before made between
+  pub prepares : Prepares (is_among own) cluster begun step before made between
   pub last : Server
   pub serves : Serves connections made last between now taken_before taken
   pub done : List ServerStep
@@ -70,22 +72,23 @@ stored_stop_of (Command cause) = stored.Command cause
 stored_stop_of DiskFault = stored.DiskFault
 
 -- behind its opening: before it told that it listens, or while it served
-abbrev pub StopsBehind : (connections : ℕ) → Cluster → (begun : Server) → Step → (before now : Ends)
+abbrev pub StopsBehind : (connections : ℕ) → Cluster → (begun : Server) → (own : List MadeObject) → Step → (before now : Ends)
     → (taken_before taken : Option (List ℕ)) → (failed_before failed : ℕ) → ServerStop → Type 0
-StopsBehind connections cluster begun step before now taken_before taken failed_before failed cause =
-    ((taken ≡ taken_before) × (last : Server) × StopsPreparing cluster begun step before last now cause)
-    ⊎ ((made : Server) × (between : Ends) × Prepares cluster begun step before made between
+StopsBehind connections cluster begun own step before now taken_before taken failed_before failed cause =
+    ((taken ≡ taken_before) × (last : Server) × StopsPreparing (is_among own) cluster begun step before last now cause)
+    ⊎ ((made : Server) × (between : Ends) × Prepares (is_among own) cluster begun step before made between
     × (last : Server) × StopsCore connections made last between now taken_before taken failed_before failed cause)
 
 -- the server began from its journal, and stopped; what stays on the disk is all that it did
 pub record BreaksOff {D : Type 0} (s : DiskGhosts D) (connections : ℕ) (cluster : Cluster) (before now : Ends)
     (taken_before taken : Option (List ℕ)) (failed_before failed : ℕ) (disk left : D) (stop : StoredStop) : Type 0 where
   pub begun : Server
+  pub own : List MadeObject
   pub step : Step
-  pub begins : IsTrue (s.tells disk) → BeginsWith (s.seen disk) begun step
+  pub begins : IsTrue (s.tells disk) → BeginsWith (s.seen disk) begun own step
   pub cause : ServerStop
   pub is : stop ≡ stored_stop_of cause
-  pub why : StopsBehind connections cluster begun step before now taken_before taken failed_before failed cause
+  pub why : StopsBehind connections cluster begun own step before now taken_before taken failed_before failed cause
   pub rose : cause ≡ DiskFault → Rose (s.faults disk) (s.faults left)
   pub done : List ServerStep
   pub cut_off : List ServerStep

@@ -1,5 +1,6 @@
 -- A server in a journal, as what takes messages.
-use Rattle.std.specs.Prelude.{ℕ, List, Bool}
+use Rattle.std.specs.Prelude.{ℕ, List, Bool, ◌==◌, ◌&&◌}
+use Rattle.std.specs.List.{list_any}
 use Rattle.osd_disk.specs.declared.disk.Disk.{Ghosts}
 use Rattle.server_rules.specs.declared.server.Server.{Server}
 use Rattle.server_rules.specs.Openings.{crash}
@@ -12,6 +13,7 @@ use Rattle.server_journal.specs.declared.errors.JournalErr.{JournalErr}
 use Rattle.server_journal.specs.declared.errors.JournalErr.TheVariants as journal
 use Rattle.server_journal.specs.declared.errors.JournalFileErr.{JournalFileErr}
 use Rattle.server_journal.specs.declared.errors.JournalFileErr.TheVariants as file
+use Rattle.server_journal.specs.declared.made.MadeObject.{MadeObject}
 use Rattle.server_journal.specs.Journals.{IsJournalOf, IsKept, core_of, disk_in}
 use Rattle.server_journal.specs.Resting.{kept_leaves}
 use Rattle.stored_server.specs.declared.stored_server.StoredServer.{StoredServer}
@@ -30,6 +32,10 @@ make_err_of (file.NoSpread online) = made.Refused (refusal.NoSpread online)
 make_err_of (file.Journal journal.DiskFault) = made.DiskFault
 make_err_of (file.Journal other) = made.Memory
 
+-- a drive has made this object, as these say
+abbrev pub is_among : List MadeObject → (drive object : ℕ) → Bool
+is_among made drive object = list_any (λ m. (m.drive == drive) && (m.object == object)) made
+
 -- the disk that keeps a server
 abbrev pub kept_on : {D : Type 0} → StoredServer D → D
 kept_on s = disk_in s.journal
@@ -42,7 +48,8 @@ StandsFor s c = IsJournalOf (crash s) c
 pub stays : {D : Type 0} (k : Ghosts D) → ((disk : D) (c : List ℕ) → k.left_since disk (k.moment disk) c → k.may_leave disk c)
     → (s : StoredServer D) (c : List ℕ) → IsKept k s.journal → k.left_since (kept_on s) (k.moment (kept_on s)) c
     → StandsFor (core_of s.journal) c
-stays k only_now s c kept left = kept_leaves k (crash (core_of s.journal)) s.journal.log kept c (only_now (kept_on s) c left)
+stays k only_now s c kept left = kept_leaves k (crash (core_of s.journal)) s.journal.made s.journal.log kept c
+    (only_now (kept_on s) c left)
 
 -- the ghost members of a disk, one by one
 abbrev pub ghosts_of : {D : Type 0} (tells : D → Bool) (seen : D → List ℕ) (may_leave : D → List ℕ → Type 0) (moment : D → ℕ)

@@ -1,6 +1,6 @@
 // The journal of a server on a disk.
 ghost use Rattle.std.specs.Prelude.{◌≡◌, false, IsTrue, IfOk, IfErr};
-ghost use Rattle.server_journal.specs.Journals.{IsKept, core_of, is_over_in};
+ghost use Rattle.server_journal.specs.Journals.{IsKept, core_of, is_over_in, made_of};
 ghost use Rattle.stored_server.specs.Opened.{BeginsWith, LeavesOpenable, StopsOpening, stop_of_journal};
 ghost use Rattle.stored_server.specs.StoredServer.{kept_on};
 
@@ -32,7 +32,8 @@ pub(crate) fn journal_on<D: Disk>(
     disk: D,
     name: &str,
 ) -> Result<(StoredServer<D>, Step), (StoredStop, D)>
-    ensures begins { IfOk result (λ b. IsTrue (D.tells disk) → BeginsWith (D.seen disk) (core_of b.0.journal) b.1) }
+    ensures begins { IfOk result (λ b. IsTrue (D.tells disk)
+        → BeginsWith (D.seen disk) (core_of b.0.journal) (made_of b.0.journal) b.1) }
     ensures kept { IfOk result (λ b. IsTrue (D.tells disk) → IsKept D.Disk b.0.journal) }
     ensures goes_on { IfOk result (λ b. is_over_in b.0.journal ≡ false) }
     ensures refused { IfErr result (λ e. StopsOpening D.Disk disk e.1 e.0) }

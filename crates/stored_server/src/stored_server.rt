@@ -9,7 +9,7 @@ use layout_server::{DriveInfo, Sends, Step};
 use osd_disk::Disk;
 use osd_lists::{Memory as WantOfMemory, Node};
 use server_command::{MakeErr, MetadataServer, StepErr};
-use server_journal::{JournalErr, JournalFileErr, JournaledServer};
+use server_journal::{JournalErr, JournalFileErr, JournaledServer, MadeObject};
 use server_rules::{Drive, Refusal};
 use stripe_repair::Place;
 
@@ -59,8 +59,8 @@ impl<D> StoredServer<D> {
 }
 
 impl<D: Disk> MetadataServer for StoredServer<D> {
-    ghost use Rattle.server_journal.specs.Journals.{IsKept, core_of, is_over_in};
-    ghost use Rattle.stored_server.specs.StoredServer.{StandsFor, ghosts_of, kept_on, stays};
+    ghost use Rattle.server_journal.specs.Journals.{IsKept, core_of, is_over_in, made_of};
+    ghost use Rattle.stored_server.specs.StoredServer.{StandsFor, ghosts_of, is_among, kept_on, stays};
 
     ghost server = { λ s. core_of s.journal };
 
@@ -75,6 +75,8 @@ impl<D: Disk> MetadataServer for StoredServer<D> {
     ghost left_since = { λ s. D.left_since (kept_on s) };
 
     ghost stands_for = { λ s c. StandsFor s c };
+
+    ghost knows = { λ s drive object. is_among (made_of s.journal) drive object };
 
     ghost kept_stays = { stays (ghosts_of D.tells D.seen D.may_leave D.moment D.left_since D.faults) D.only_now };
 
@@ -91,6 +93,20 @@ impl<D: Disk> MetadataServer for StoredServer<D> {
 
     fn counters_low(&self) -> bool {
         self.journal.counters_low()
+    }
+
+    fn has_made(&self, drive: u32, object: u64) -> bool {
+        self.journal
+            .made()
+            .iter()
+            .any(|made| made.drive == drive && made.object == object)
+    }
+
+    fn keep_made(&mut self, drive: u32, object: u64) -> Result<(), StepErr> {
+        match self.journal.keep_made(MadeObject { drive, object }) {
+            Ok(()) => Ok(()),
+            Err(e) => Err(step_err_of(e)),
+        }
     }
 
     fn resend(&self) -> Result<Sends, WantOfMemory> {
