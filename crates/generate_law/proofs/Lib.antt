@@ -5,3 +5,5 @@ pub mod Refusing
 pub mod Readiness
 pub mod Resting
 pub mod Going
+pub mod Calmness
+pub mod Messages

@@ -4,3 +4,5 @@ pub mod Quiet
 pub mod Rests
 pub mod Counts
 pub mod Going
+pub mod Calm
+pub mod Few
