@@ -167,7 +167,8 @@ module _ (answered : ReadyIsAnswered) (safe : GrantsAreSafe) (order : GrantsAreI
         (λ q. (answered h lawful written text few before body c x over q).1)
 
     takes_few : sum_by messages_at body ≤ MESSAGES_A_CALL
-    takes_few = through (sum_by messages_at body) (message_bound (scene_of w before) c op ready) MESSAGES_A_CALL (within ready) bound
+    takes_few =
+        through (sum_by messages_at body) (message_bound (scene_of w before) c op ready) MESSAGES_A_CALL (within ready) bound
 
   -- ---- the calls of the scenario
 
