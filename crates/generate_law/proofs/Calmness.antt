@@ -1,4 +1,4 @@
--- No event of the scenario loses a drive, and each is one of a text.
+-- No event of the scenario loses a drive.
 use Rattle.std.proofs.Common.{◌≡◌, ℕ, zero, suc, ◌+◌, ◌%◌, true, List, [], ◌∷◌, ◌++◌, refl, sym, subst}
 use Rattle.std.specs.List.{AllByRecursion}
 use Rattle.scenario_text.specs.declared.event.Call.{Call}
@@ -6,13 +6,11 @@ use Rattle.scenario_text.specs.declared.event.Event.{Event}
 use Rattle.scenario_text.specs.declared.event.Event.TheVariants as event
 use Rattle.scenario_text.specs.declared.line.Line.{Line}
 use Rattle.scenario_text.specs.declared.line.Line.TheVariants as line
-use Rattle.world_history.specs.State.{World}
-use Rattle.history_law.specs.Read.{is_written, AreWritten}
 use Rattle.lossless_law.specs.Lossless.{KeepsDrives, TellsNoLoss, IsLossless, LosslessIsCalm}
 use Rattle.generate_law.specs.Calm.{ScenarioIsCalm}
-use Rattle.generate_law.specs.Plays.{Plays}
 use Rattle.generate_law.specs.Scenario.{opening, call_of, calls_from, next_random, scenario_of}
 use Rattle.generate_law.proofs.Events.{events_in, events_are}
+use Rattle.generate_law.proofs.Texts.{scenario_is_text}
 
 -- ---- each event
 
@@ -29,24 +27,13 @@ scenario_all : (P : Event → Type 0) → AllByRecursion P opening → ((c : ℕ
     → AllByRecursion P (scenario_of seed calls)
 scenario_all P first does seed calls = both_all P opening (calls_from calls 0 seed) first (calls_all P does calls 0 seed)
 
-abbrev IsWritten : Event → Type 0
-IsWritten e = is_written e ≡ true
-
 abbrev Keeps : Event → Type 0
 Keeps e = KeepsDrives (line.Event e)
-
-opening_written : AllByRecursion IsWritten opening
-opening_written = (refl, (refl, (refl, (refl, (refl, (refl, (refl, (refl, (refl, (refl, (refl, tt)))))))))))
 
 opening_keeps : AllByRecursion Keeps opening
 opening_keeps = (tt, (tt, (tt, (tt, (tt, (tt, (tt, (tt, (tt, (tt, (tt, tt)))))))))))
 
 -- ---- each line
-
-lines_written : (ls : List Line) → AllByRecursion IsWritten (events_in ls) → AreWritten ls
-lines_written [] p = tt
-lines_written (line.Event e ∷ ls) p = (p.0, lines_written ls p.1)
-lines_written (l ∷ ls) p = (refl, lines_written ls p)
 
 lines_lossless : (ls : List Line) → AllByRecursion Keeps (events_in ls) → AllByRecursion TellsNoLoss ls
     → AllByRecursion IsLossless ls
@@ -56,15 +43,9 @@ lines_lossless (l ∷ ls) p t = (record { drives = tt; told = t.0 }, lines_lossl
 
 -- ---- the scenario
 
-scenario_is_written : (seed calls : ℕ) (w : World) (h : List Line) → Plays (scenario_of seed calls) w h → AreWritten h
-scenario_is_written seed calls w h p =
-    lines_written h
-    (subst (AllByRecursion IsWritten) (sym (events_are (scenario_of seed calls) w h p))
-    (scenario_all IsWritten opening_written (λ c x. refl) seed calls))
-
 pub scenario_is_calm : LosslessIsCalm → ScenarioIsCalm
 scenario_is_calm is_calm seed calls w h p told =
-    is_calm w h p.stands (scenario_is_written seed calls w h p)
+    is_calm w h p.stands (scenario_is_text seed calls w h p).0
     (lines_lossless h
     (subst (AllByRecursion Keeps) (sym (events_are (scenario_of seed calls) w h p))
     (scenario_all Keeps opening_keeps (λ c x. tt) seed calls)) told)

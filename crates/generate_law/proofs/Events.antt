@@ -20,7 +20,7 @@ abbrev pub events_in : List Line → List Event
 events_in [] = []
 events_in (l ∷ ls) = event_at l ++ events_in ls
 
-events_more : (xs ys : List Line) → events_in (xs ++ ys) ≡ events_in xs ++ events_in ys
+pub events_more : (xs ys : List Line) → events_in (xs ++ ys) ≡ events_in xs ++ events_in ys
 events_more [] ys = refl
 events_more (x ∷ xs) ys =
     ap (λ (es : List Event). event_at x ++ es) (events_more xs ys) ∙ sym (append_assoc (event_at x) (events_in xs) (events_in ys))

@@ -1,8 +1,10 @@
 -- The scenario's calls go on from rest to rest.
-use Rattle.std.proofs.Common.{◌≡◌, ◌%◌, ◌+◌, ℕ, zero, suc, List, [], ◌∷◌, ◌++◌, map, refl, sym, ap, subst, ◌∙◌, append_assoc, arith, inr}
+use Rattle.std.proofs.Common.{◌≡◌, ◌<◌, ◌%◌, ◌+◌, ℕ, zero, suc, List, [], ◌∷◌, ◌++◌, map, refl, sym, ap, subst, ◌∙◌, append_assoc, arith, inr}
 use Rattle.std.proofs.Math.Nat.{mod-lt}
 use Rattle.std.proofs.lemmas.List.{append-nil}
+use Rattle.scenario_text.specs.declared.event.Call.{Call}
 use Rattle.scenario_text.specs.declared.event.Event.{Event}
+use Rattle.scenario_text.specs.declared.event.Event.TheVariants.{Do}
 use Rattle.scenario_text.specs.declared.line.Line.{Line}
 use Rattle.scenario_text.specs.declared.line.Line.TheVariants as line
 use Rattle.world_history.specs.ServerNames.{File}
@@ -23,12 +25,12 @@ use Rattle.ready_law.specs.Rested.{LeavesRest, ReadyCallsLeaveRest}
 use Rattle.ready_law.specs.Worlds.{ScenesAreRead}
 use Rattle.generate_law.specs.Going.{GoesWell, CallsKeepRest}
 use Rattle.generate_law.specs.Rests.{FILE_SIZE, Rests}
-use Rattle.generate_law.specs.Scenario.{call_of, call_event, calls_from, next_random}
-use Rattle.generate_law.proofs.Readiness.{call_inside, is_ready, its_file, none}
-use Rattle.generate_law.proofs.Resting.{rests_go_on}
+use Rattle.generate_law.specs.Scenario.{call_of, call_event, calls_from, first_call, first_write, next_random}
+use Rattle.generate_law.proofs.Readiness.{IsInside, call_inside, is_ready, its_file, none}
+use Rattle.generate_law.proofs.Resting.{first_inside, first_rest_begins, rests_go_on}
 
 -- it goes well up to each front
-front_well : (h rest : List Line) → GoesWell (h ++ rest) → GoesWell h
+pub front_well : (h rest : List Line) → GoesWell (h ++ rest) → GoesWell h
 front_well h rest g = record {
   written = written_front h rest g.written;
   text = text_front h rest g.text;
@@ -37,15 +39,15 @@ front_well h rest g = record {
 }
 
 module _ (more : OneEventMore) (leaves : ReadyCallsLeaveRest) (safe : GrantsAreSafe) (scenes : ScenesAreRead) where
-  -- ---- one call
+  -- ---- one call, of whatever size the file is
 
-  module _ (k x : ℕ) (w v : World) (h lines : List Line) (here : StandsFor w h) (r : Rests FILE_SIZE (scene_of w h))
-      (c : Carries w (call_event k x) lines v) (good : GoesWell (h ++ lines)) where
+  module _ (size c : ℕ) (low : c < 3) (x : Call) (it : IsInside (op_of x)) (w v : World) (h lines : List Line)
+      (here : StandsFor w h) (r : Rests size (scene_of w h)) (d : Carries w (Do c x) lines v) (good : GoesWell (h ++ lines)) where
     abbrev body : List Line
-    body = lines_of w c.moves
+    body = lines_of w d.moves
 
     behind : StandsFor v (h ++ lines)
-    behind = more w v h lines (call_event k x) here c
+    behind = more w v h lines (Do c x) here d
 
     lawful : Lawful (h ++ lines)
     lawful = record {
@@ -57,49 +59,54 @@ module _ (more : OneEventMore) (leaves : ReadyCallsLeaveRest) (safe : GrantsAreS
       lines_are = sym (append-nil (h ++ lines));
     }
 
-    over : IsOver (h ++ lines) h (call_event k x) body
+    over : IsOver (h ++ lines) h (Do c x) body
     over = record {
       after = [];
       lines_are =
           ap (λ (ls : List Line). h ++ ls)
-          (c.lines_are ∙ ap (λ (ls : List Line). line.Event (call_event k x) ∷ ls) (sym (append-nil body)));
-      alone = moves_plain w (call_event k x) c.moves c.are_due;
+          (d.lines_are ∙ ap (λ (ls : List Line). line.Event (Do c x) ∷ ls) (sym (append-nil body)));
+      alone = moves_plain w (Do c x) d.moves d.are_due;
       closed = inr (refl, (v, behind));
     }
 
     abbrev Leaves : Scene → Type 0
     Leaves z =
-        (q : IsReady z (k % 3) (op_of (call_of k x))) → lost_of z q.file.kept ≡ []
-        → LeavesRest z (scene_in (h ++ line.Event (call_event k x) ∷ body)) (k % 3) (op_of (call_of k x)) q.file
+        (q : IsReady z c (op_of x)) → lost_of z q.file.kept ≡ []
+        → LeavesRest z (scene_in (h ++ line.Event (Do c x) ∷ body)) c (op_of x) q.file
 
     left : Leaves (scene_of w h)
     left =
         subst Leaves (scenes w h here (written_front h lines good.written))
-        (λ q whole. leaves (h ++ lines) lawful good.written good.text good.few h body (k % 3)
-        (call_of k x) over q whole)
+        (λ q whole. leaves (h ++ lines) lawful good.written good.text good.few h body c
+        x over q whole)
 
     abbrev Rested : File → List Line → Type 0
-    Rested f ls = LeavesRest (scene_of w h) (scene_in ls) (k % 3) (op_of (call_of k x)) f
+    Rested f ls = LeavesRest (scene_of w h) (scene_in ls) c (op_of x) f
 
-    rested : LeavesRest (scene_of w h) (scene_of v (h ++ lines)) (k % 3) (op_of (call_of k x)) r.file
+    pub rested : LeavesRest (scene_of w h) (scene_of v (h ++ lines)) c (op_of x) r.file
     rested =
-        let it = call_inside k x in
-        let low = mod-lt k {m = 3} (omega arith) in
-        let ready =
-        is_ready safe w h here FILE_SIZE r (k % 3) low (op_of (call_of k x)) it.file it.short it.inside in
-        let same : ready.file ≡ r.file =
-        its_file safe w h here FILE_SIZE r (k % 3) low (op_of (call_of k x)) it.file it.short it.inside in
+        let ready = is_ready safe w h here size r c low (op_of x) it.file it.short it.inside in
+        let same : ready.file ≡ r.file = its_file safe w h here size r c low (op_of x) it.file it.short it.inside in
         let whole : lost_of (scene_of w h) ready.file.kept ≡ [] =
         subst (λ (f : File). lost_of (scene_of w h) f.kept ≡ []) (sym same)
-        (none safe w h here FILE_SIZE r (k % 3) low (op_of (call_of k x)) it.file it.short it.inside) in
+        (none safe w h here size r c low (op_of x) it.file it.short it.inside) in
         let there : Rested r.file (h ++ lines) =
         subst (λ (f : File). Rested f (h ++ lines)) same
-        (subst (Rested ready.file) (ap (λ (ls : List Line). h ++ ls) (sym c.lines_are)) (left ready whole)) in
-        subst (λ (z : Scene). LeavesRest (scene_of w h) z (k % 3) (op_of (call_of k x)) r.file)
-        (scenes v (h ++ lines) behind good.written) there
+        (subst (Rested ready.file) (ap (λ (ls : List Line). h ++ ls) (sym d.lines_are)) (left ready whole)) in
+        subst (λ (z : Scene). LeavesRest (scene_of w h) z c (op_of x) r.file) (scenes v (h ++ lines) behind good.written) there
 
-    pub one_call : Rests FILE_SIZE (scene_of v (h ++ lines))
-    one_call = rests_go_on (scene_of w h) (scene_of v (h ++ lines)) r k x good.clean rested
+  one_call : (k x : ℕ) (w v : World) (h lines : List Line) → StandsFor w h → Rests FILE_SIZE (scene_of w h)
+      → Carries w (call_event k x) lines v → GoesWell (h ++ lines) → Rests FILE_SIZE (scene_of v (h ++ lines))
+  one_call k x w v h lines here r d good =
+      rests_go_on (scene_of w h) (scene_of v (h ++ lines)) r k x good.clean
+      (rested FILE_SIZE (k % 3) (mod-lt k {m = 3} (omega arith)) (call_of k x) (call_inside k x) w v h lines here r d good)
+
+  -- the first call
+  pub one_first : (w v : World) (h lines : List Line) → StandsFor w h → Rests 0 (scene_of w h) → Carries w first_call lines v
+      → GoesWell (h ++ lines) → Rests FILE_SIZE (scene_of v (h ++ lines))
+  one_first w v h lines here r d good =
+      first_rest_begins (scene_of w h) (scene_of v (h ++ lines)) r good.clean
+      (rested 0 0 (omega arith) first_write first_inside w v h lines here r d good)
 
   -- ---- any number of them
 

@@ -4,7 +4,7 @@ use Rattle.std.specs.List.{AllByRecursion, fold}
 use Rattle.scenario_text.specs.declared.event.Event.TheVariants as event
 use Rattle.scenario_text.specs.declared.line.Line.{Line}
 use Rattle.scenario_text.specs.declared.line.Line.TheVariants as line
-use Rattle.world_history.specs.Guesses.{Guarded, guards, guessed_at, unguessed}
+use Rattle.world_history.specs.Guesses.{Guarded, guards, guessed_at}
 use Rattle.generate_law.specs.Quiet.{InjectsNone, UninjectedIsUnguessed}
 
 not_guessed : (g : Guarded) (l : Line) → InjectsNone l → guessed_at g l ≡ false

@@ -5,5 +5,14 @@ pub mod Refusing
 pub mod Readiness
 pub mod Resting
 pub mod Going
+pub mod Creates
+pub mod Runs
+pub mod Chosen
+pub mod Making
+pub mod FileMade
+pub mod Texts
+pub mod Opening
+pub mod EachRest
+pub mod EachOk
 pub mod Calmness
 pub mod Messages

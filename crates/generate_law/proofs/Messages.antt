@@ -36,6 +36,7 @@ use Rattle.generate_law.specs.Few.{MESSAGES_A_CALL, EachCallTakesFew, FirstCallT
 use Rattle.generate_law.specs.Rests.{FILE_SIZE, Rests}
 use Rattle.generate_law.specs.Scenario.{file_map, call_of, first_write}
 use Rattle.generate_law.proofs.Readiness.{IsInside, call_inside, is_ready, its_file}
+use Rattle.generate_law.proofs.Resting.{first_inside}
 
 -- ---- stripes
 
@@ -176,5 +177,4 @@ module _ (answered : ReadyIsAnswered) (safe : GrantsAreSafe) (order : GrantsAreI
   each_call_takes_few k x = takes_few FILE_SIZE (k % 3) (mod-lt k (omega arith)) (call_of k x) (call_inside k x)
 
   pub first_call_takes_few : FirstCallTakesFew
-  first_call_takes_few =
-      takes_few 0 0 (omega arith) first_write (record { file = refl; short = omega arith; inside = omega arith })
+  first_call_takes_few = takes_few 0 0 (omega arith) first_write first_inside

@@ -103,8 +103,11 @@ rests_go_on s t r k x clean l =
     rests_again s t FILE_SIZE r (k % 3) (mod-lt k (omega arith)) (op_of (call_of k x)) it clean l
     (inside_keeps r.file.kept (op_of (call_of k x)) (omega (arith, it.inside, r.its.size_is)) ∙ r.its.size_is)
 
+pub first_inside : IsInside (op_of first_write)
+first_inside = record { file = refl; short = omega arith; inside = omega arith }
+
 pub first_rest_begins : FirstRestBegins
 first_rest_begins s t r clean l =
     rests_again s t 0 r 0 (omega arith) (op_of first_write)
-    (record { file = refl; short = omega arith; inside = omega arith }) clean l
+    first_inside clean l
     (ap (λ (n : ℕ). max n 262144) r.its.size_is)

@@ -4,5 +4,6 @@ pub mod Quiet
 pub mod Rests
 pub mod Counts
 pub mod Going
+pub mod Opening
 pub mod Calm
 pub mod Few

@@ -3,6 +3,7 @@ ghost use Rattle.generate_law.specs.Calm.{ScenarioIsCalm};
 ghost use Rattle.generate_law.specs.Counts.{CallsAreOfEvents, ScenarioHasCounts};
 ghost use Rattle.generate_law.specs.Few.{EachCallTakesFew, FirstCallTakesFew};
 ghost use Rattle.generate_law.specs.Going.{CallsKeepRest};
+ghost use Rattle.generate_law.specs.Opening.{EachCallRests, OpeningRests, ScenarioCallsEndInOk};
 ghost use Rattle.generate_law.specs.Plays.{NoneIsRefused};
 ghost use Rattle.generate_law.specs.Quiet.{ScenarioIsUnguessed, UninjectedIsUnguessed};
 ghost use Rattle.generate_law.specs.Rests.{EachCallIsReady, FirstCallIsReady, FirstRestBegins, RestsGoOn};
@@ -11,7 +12,7 @@ use cause_law::{clients_are_read, down_is_read};
 use component_law::grants_are_in_order;
 use history_law::{drives_are_read, grants_are_safe};
 use lossless_law::lossless_is_calm;
-use ready_law::{ready_calls_end_in_ok, scenes_are_read};
+use ready_law::{events_stand_apart, ready_calls_end_in_ok, scenes_are_read};
 use world_history::one_event_more;
 
 /// Behind each front of the scenario's events the next one isn't refused: the parties that it names are there, those that it
@@ -66,6 +67,34 @@ pub fn calls_keep_rest()
     ready_calls_end_in_ok();
     grants_are_safe();
     scenes_are_read();
+}
+
+/// After the drives, the clients and the file of the scenario the parties rest: each component's CREATE was performed and
+/// answered, so the file is made, and none of its components is missing.
+pub fn opening_rests()
+    ensures { OpeningRests }
+{}
+
+/// So the parties rest after each call of the scenario, if there are as few messages as in each history within the limit of
+/// kept bytes.
+pub fn each_call_rests()
+    ensures { EachCallRests }
+{
+    one_event_more();
+    ready_calls_end_in_ok();
+    grants_are_safe();
+    scenes_are_read();
+}
+
+/// Then each call of the scenario whose event is over ended in ok.
+pub fn scenario_calls_end_in_ok()
+    ensures { ScenarioCallsEndInOk }
+{
+    each_call_rests();
+    ready_calls_end_in_ok();
+    grants_are_safe();
+    scenes_are_read();
+    events_stand_apart();
 }
 
 /// No drive of the scenario fails or is declared. So where no line tells that a component is without space or reported,
