@@ -14,3 +14,5 @@ pub mod Texts
 pub mod Opening
 pub mod EachRest
 pub mod EachOk
+pub mod Calmness
+pub mod Messages

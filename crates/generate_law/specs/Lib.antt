@@ -5,3 +5,5 @@ pub mod Rests
 pub mod Counts
 pub mod Going
 pub mod Opening
+pub mod Calm
+pub mod Few

@@ -1,5 +1,7 @@
 // What holds of the scenario that is made from a seed, for the crates above.
+ghost use Rattle.generate_law.specs.Calm.{ScenarioIsCalm};
 ghost use Rattle.generate_law.specs.Counts.{CallsAreOfEvents, ScenarioHasCounts};
+ghost use Rattle.generate_law.specs.Few.{EachCallTakesFew, FirstCallTakesFew};
 ghost use Rattle.generate_law.specs.Going.{CallsKeepRest};
 ghost use Rattle.generate_law.specs.Opening.{EachCallRests, OpeningRests, ScenarioCallsEndInOk};
 ghost use Rattle.generate_law.specs.Plays.{NoneIsRefused};
@@ -7,7 +9,9 @@ ghost use Rattle.generate_law.specs.Quiet.{ScenarioIsUnguessed, UninjectedIsUngu
 ghost use Rattle.generate_law.specs.Rests.{EachCallIsReady, FirstCallIsReady, FirstRestBegins, RestsGoOn};
 
 use cause_law::{clients_are_read, down_is_read};
+use component_law::grants_are_in_order;
 use history_law::{drives_are_read, grants_are_safe};
+use lossless_law::lossless_is_calm;
 use ready_law::{events_stand_apart, ready_calls_end_in_ok, scenes_are_read};
 use world_history::one_event_more;
 
@@ -91,4 +95,23 @@ pub fn scenario_calls_end_in_ok()
     grants_are_safe();
     scenes_are_read();
     events_stand_apart();
+}
+
+/// No drive of the scenario fails or is declared. So where no line tells that a component is without space or reported,
+/// it is calm.
+pub fn scenario_is_calm()
+    ensures { ScenarioIsCalm }
+{
+    lossless_is_calm();
+}
+
+/// Where the parties rest before it, a call of the scenario takes at most 208 messages, and so does its first one.
+pub fn calls_take_few()
+    ensures calls { EachCallTakesFew }
+    ensures first { FirstCallTakesFew }
+{
+    ready_calls_end_in_ok();
+    grants_are_safe();
+    grants_are_in_order();
+    scenes_are_read();
 }

@@ -4,12 +4,13 @@
 //! in between two calls. No event of it is refused, and nothing in it is guessed. A history counts the calls of its events. From
 //! where the parties rest on, each call is ready, and leaves them at rest again (`Going.antt`). After the file is made they rest,
 //! so each call ends in ok (`Opening.antt`).
+//! A call takes few messages (`Few.antt`), and the history is calm if no component is told to become missing (`Calm.antt`).
 #![tactic(auto)]
 
 mod laws;
 
 pub use laws::{
-    calls_are_of_events, calls_are_ready, calls_keep_rest, each_call_rests, none_is_refused,
-    opening_rests, rests_go_on, scenario_calls_end_in_ok, scenario_has_counts,
-    scenario_is_unguessed, uninjected_is_unguessed,
+    calls_are_of_events, calls_are_ready, calls_keep_rest, calls_take_few, each_call_rests,
+    none_is_refused, opening_rests, rests_go_on, scenario_calls_end_in_ok, scenario_has_counts,
+    scenario_is_calm, scenario_is_unguessed, uninjected_is_unguessed,
 };
