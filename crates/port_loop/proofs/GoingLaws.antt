@@ -7,7 +7,7 @@ use Rattle.osd_bytes.proofs.RecordLaws.{carried, split-append, split-nil}
 use Rattle.port_loop.specs.Points.{Around, Goes, Rests, Sets, Stands, Unused, Work, calm, is_busy, on}
 use Rattle.port_loop.specs.Ports.{came_on, is_full, is_open, went_on}
 use Rattle.port_loop.specs.declared.ports.Happening.{Happening}
-use Rattle.port_loop.specs.declared.ports.Happening.TheVariants.{Began, Came, Went, Failed, Drained, Ended, Closed}
+use Rattle.port_loop.specs.declared.ports.Happening.TheVariants.{Began, Came, Went, Failed, Drained, Ended, Closed, Passed}
 use Rattle.port_loop.specs.Serving.{Told, times_of}
 use Rattle.port_loop.specs.Sessions.{Reads, Sess, new_session, read_on}
 use Rattle.port_loop.specs.Steps.{Answer, Change, Follows, Handled, HasEnd, Step, Taken, after_all, frames_on, handled_in, happened, record_of, taken_in, taken_on, whole_in}
@@ -225,6 +225,45 @@ goes-rests {S} {reply} {step} {first} {since} {a} {at} {bt} {steps} p rests alik
   rests = λ q idle. subst (λ (o : Option Sess). Rests steps q o) (sym (alike q))
       (everywhere (λ r. Rests steps r (at r)) p q rests (λ ne. g.rests q ne));
   unused = g.unused;
+}
+
+-- nothing happened on any connection
+pub goes-passed : {S : Type 0} {reply : Answer S} {step : Change S} {first : S} {since : Option (List ℕ)} {a b : Around S}
+    {at : ℕ → Option Sess} {steps : List Step}
+    → b.opened ≡ a.opened → b.state ≡ a.state → b.times ≡ a.times
+    → Goes reply step first since a calm at steps → Goes reply step first since b calm at (Happens Passed ∷ steps)
+goes-passed {S} {reply} {step} {first} {since} {a} {b} {at} {steps} opened state times g =
+    let alike : (q : ℕ) → Alike reply step first q (Happens Passed ∷ steps) steps =
+    λ q. record { stays = refl; came = refl; went = refl; frames = refl } in record {
+      lawful = (goes-settled g, g.lawful);
+      records = g.records;
+      state = state ∙ g.state;
+      times = subst (λ (t : Option (List ℕ)). Told since (times_of steps) t) (sym times) g.times;
+      each = λ q. stands-alike (at q) (alike q) (g.each q);
+      rests = λ q idle. rests-alike q (Happens Passed ∷ steps) steps (at q) refl (g.rests q idle);
+      unused = λ q above. let u = g.unused q (omega (arith, opened, above)) in record {
+        unknown = u.unknown;
+        shut = u.shut;
+        came = u.came;
+        went = u.went;
+        empty = u.empty;
+        frames = u.frames;
+      };
+    }
+
+-- the call failed
+pub goes-on : {S : Type 0} {reply : Answer S} {step : Change S} {first : S} {since : Option (List ℕ)} {a b : Around S} {w : Work}
+    {at : ℕ → Option Sess} {steps : List Step}
+    → b.opened ≡ a.opened → b.state ≡ a.state → b.times ≡ a.times
+    → Goes reply step first since a w at steps → Goes reply step first since b w at steps
+goes-on {S} {reply} {step} {first} {since} {a} {b} {w} {at} {steps} opened state times g = record {
+  lawful = g.lawful;
+  records = g.records;
+  state = state ∙ g.state;
+  times = subst (λ (t : Option (List ℕ)). Told since (times_of steps) t) (sym times) g.times;
+  each = g.each;
+  rests = g.rests;
+  unused = λ q above. g.unused q (omega (arith, opened, above));
 }
 
 -- the sessions are the same

@@ -1,12 +1,12 @@
 -- Lists of records that were handled, of times and of happenings.
-use Rattle.std.proofs.Common.{◌≡◌, inl, inr, ℕ, zero, suc, ◌+◌, Bool, true, false, nat_eq, List, [], ◌∷◌, ◌++◌, take, drop, Option, None, Some, refl, sym, ap, subst, ◌∙◌, append_assoc, eq-eqb}
+use Rattle.std.proofs.Common.{arith, ◌≡◌, inl, inr, ℕ, zero, suc, ◌+◌, Bool, true, false, nat_eq, List, [], ◌∷◌, ◌++◌, take, drop, Option, None, Some, refl, sym, ap, subst, ◌∙◌, append_assoc, eq-eqb}
 use Rattle.std.specs.Prelude.{slice_get}
 use Rattle.std.proofs.Math.Numerals.{add-one}
 use Rattle.std.proofs.lemmas.Bool.{eqb-true}
 use Rattle.port_loop.specs.Ports.{Adds}
 use Rattle.port_loop.specs.declared.ports.Happening.{Happening}
 use Rattle.port_loop.specs.Serving.{AddsAll, Told, onto}
-use Rattle.port_loop.specs.Steps.{Answer, Change, Handled, Step, after_all, frame_on, frames_on, happened}
+use Rattle.port_loop.specs.Steps.{Answer, Change, Handled, Step, after_all, frame_on, frames_on, happened, waits_in}
 use Rattle.port_loop.specs.Steps.Step.{Happens, Handles}
 
 pub after-append : {S : Type 0} (step : Change S) (d : S) (hs ks : List Handled) →
@@ -73,6 +73,12 @@ adds-then x y a b c (inl e) (inr f) = inl (f ∙ ap (onto (happened y)) e)
 adds-then x y a b c (inr e) (inr f) =
     inr (f ∙ ap (onto (happened y)) e ∙ onto-then (happened x) (happened y) a
     ∙ ap (λ (l : List Happening). onto l a) (sym (happened-append y x)))
+
+pub waits-append : (x y : List Step) (n m : ℕ) → waits_in x ≡ n → waits_in y ≡ m → waits_in (y ++ x) ≡ n + m
+waits-append x [] n m e f = omega (arith, e, f)
+waits-append x (Happens h ∷ y) n m e f =
+    let more : waits_in (y ++ x) ≡ n + waits_in y = waits-append x y n (waits_in y) e refl in omega (arith, more, f)
+waits-append x (Handles h ∷ y) n m e f = waits-append x y n m e f
 
 -- ---- records of a piece
 

@@ -4,7 +4,7 @@ use Rattle.std.proofs.lemmas.List.{append-nil}
 use Rattle.port_loop.specs.Points.{Around, Goes, Rests, Stands, Unused, Work, calm}
 use Rattle.port_loop.specs.Ports.{came_on, is_full, is_known, is_open, went_on}
 use Rattle.port_loop.specs.declared.ports.Happening.{Happening}
-use Rattle.port_loop.specs.declared.ports.Happening.TheVariants.{Began, Came, Went, Failed, Drained, Ended, Closed}
+use Rattle.port_loop.specs.declared.ports.Happening.TheVariants.{Began, Came, Went, Failed, Drained, Ended, Closed, Passed}
 use Rattle.port_loop.specs.Serving.{Ran, Told, times_of}
 use Rattle.port_loop.specs.Sessions.{Sess}
 use Rattle.port_loop.specs.Steps.{Answer, Change, IsServed, Settled, Step, frames_on, handled_in, happened, record_of}
@@ -35,6 +35,7 @@ port_of (Failed p) = p
 port_of (Drained p) = p
 port_of (Ended p) = p
 port_of (Closed p) = p
+port_of Passed = 0
 
 pub alike-other : {S : Type 0} {reply : Answer S} {step : Change S} {first : S} (q : ℕ) (x : Happening) (steps : List Step)
     → nat_eq (port_of x) q ≡ false → Alike reply step first q (Happens x ∷ steps) steps
@@ -45,6 +46,7 @@ alike-other q (Failed p) steps ne = record { stays = refl; came = refl; went = r
 alike-other q (Drained p) steps ne = record { stays = refl; came = refl; went = refl; frames = refl }
 alike-other q (Ended p) steps ne = record { stays = rw ne refl; came = refl; went = refl; frames = refl }
 alike-other q (Closed p) steps ne = record { stays = rw ne refl; came = refl; went = refl; frames = refl }
+alike-other q Passed steps ne = record { stays = refl; came = refl; went = refl; frames = refl }
 
 pub full-other : (q : ℕ) (x : Happening) (steps : List Step) → nat_eq (port_of x) q ≡ false →
     is_full q (happened (Happens x ∷ steps)) ≡ is_full q (happened steps)
@@ -55,6 +57,7 @@ full-other q (Failed p) steps ne = refl
 full-other q (Drained p) steps ne = rw ne refl
 full-other q (Ended p) steps ne = refl
 full-other q (Closed p) steps ne = refl
+full-other q Passed steps ne = refl
 
 known-other : (q : ℕ) (x : Happening) (steps : List Step) → nat_eq (port_of x) q ≡ false →
     is_known q (happened (Happens x ∷ steps)) ≡ is_known q (happened steps)
@@ -65,6 +68,7 @@ known-other q (Failed p) steps ne = refl
 known-other q (Drained p) steps ne = refl
 known-other q (Ended p) steps ne = refl
 known-other q (Closed p) steps ne = refl
+known-other q Passed steps ne = refl
 
 pub unused-other : {S : Type 0} {reply : Answer S} {step : Change S} {first : S} (q : ℕ) (x : Happening) (steps : List Step)
     → nat_eq (port_of x) q ≡ false → Unused reply step first steps q → Unused reply step first (Happens x ∷ steps) q

@@ -8,14 +8,14 @@ use Rattle.port_loop.specs.declared.serving.LoopErr.{LoopErr}
 use Rattle.port_loop.specs.declared.serving.LoopErr.TheVariants.{PortFault, HandlerFault, Memory as NoMemory}
 use Rattle.port_loop.specs.declared.serving.TheConstants.{MOST_UNSENT}
 use Rattle.port_loop.specs.Points.{Around, Goes, Moves, Rests, Sets, Stands, Stops, Turns, Work, calm, holding, on}
-use Rattle.port_loop.specs.Ports.{Adds, is_full}
+use Rattle.port_loop.specs.Ports.{Adds, is_full, waits_of}
 use Rattle.port_loop.specs.declared.ports.Happening.{Happening}
-use Rattle.port_loop.specs.declared.ports.Happening.TheVariants.{Began, Came, Went, Failed, Drained, Ended, Closed}
+use Rattle.port_loop.specs.declared.ports.Happening.TheVariants.{Began, Came, Went, Failed, Drained, Ended, Closed, Passed}
 use Rattle.port_loop.specs.Serving.{AddsAll, Ran, Serves, Told, times_of}
 use Rattle.port_loop.specs.Sessions.{Reads, Sess, new_session, read_on}
-use Rattle.port_loop.specs.Steps.{Answer, Change, Settled, Step, happened}
+use Rattle.port_loop.specs.Steps.{Answer, Change, Settled, Step, happened, waits_in}
 use Rattle.port_loop.specs.Steps.Step.{Happens}
-use Rattle.port_loop.proofs.GoingLaws.{goes-at, goes-began, goes-came, goes-closed, goes-drained, goes-ended, goes-failed, goes-handles, goes-ignored, goes-rests, goes-went}
+use Rattle.port_loop.proofs.GoingLaws.{goes-at, goes-began, goes-came, goes-closed, goes-drained, goes-ended, goes-failed, goes-handles, goes-ignored, goes-on, goes-passed, goes-rests, goes-went}
 use Rattle.port_loop.proofs.LeavingLaws.{absent-same, dropped-sets, holding-here, holding-sets, laid-same, lifted-same, lifted-sets, moves-handles, moves-one, moves-stop, moves-then, moves-zero, stops-here}
 use Rattle.port_loop.proofs.ListLaws.{adds-none, adds-one, adds-then, same, told-append}
 use Rattle.port_loop.proofs.StepLaws.{goes-ran, goes-settled, opens}
@@ -26,11 +26,12 @@ moves-two : {S : Type 0} {reply : Answer S} {step : Change S} {a b : Around S} {
     → Adds h a.told between → Adds k between b.told
     → ((first : S) (since : Option (List ℕ)) (steps : List Step) → Goes reply step first since a w at steps →
     Goes reply step first since b x bt (Happens k ∷ Happens h ∷ steps))
-    → Moves reply step a w at b x bt
+    → Moves (waits_of h + waits_of k) reply step a w at b x bt
 moves-two {S} {reply} {step} {a} {b} h k between e f goes = λ first since steps g. (
   Happens k ∷ Happens h ∷ [],
   adds-then (Happens h ∷ []) (Happens k ∷ []) a.told between b.told (adds-one h a.told between e) (adds-one k between b.told f),
   goes first since steps g,
+  omega arith,
 )
 
 -- ---- what is put
@@ -38,7 +39,7 @@ moves-two {S} {reply} {step} {a} {b} h k between e f goes = λ first since steps
 pub put-failed : {S : Type 0} {reply : Answer S} {step : Change S} (a m b : Around S) (tb : ℕ → Option Sess) (p : ℕ) (s : Sess)
     → m.opened ≡ a.opened → Adds (Failed p) a.told m.told → m.state ≡ a.state → m.times ≡ a.times
     → b.opened ≡ m.opened → Adds (Closed p) m.told b.told → b.state ≡ m.state → b.times ≡ m.times → tb p ≡ None
-    → Moves reply step a (on p []) (holding p s tb) b calm tb
+    → Moves 0 reply step a (on p []) (holding p s tb) b calm tb
 put-failed {S} {reply} {step} a m b tb p s opened told state times opened' told' state' times' none =
     moves-two (Failed p) (Closed p) m.told told told' (λ first since steps g.
     let failed : Goes reply step first since m (on p []) (holding p s tb) (Happens (Failed p) ∷ steps) =
@@ -54,7 +55,7 @@ pub put-closed : {S : Type 0} {reply : Answer S} {step : Change S} (a m b : Arou
     → m.opened ≡ a.opened → Adds (put_on p n s.unsent) a.told m.told → m.state ≡ a.state → m.times ≡ a.times
     → t ≡ record s { unsent = drop n s.unsent } → (t.begun ≡ None) ⊎ (MOST_UNSENT < length t.unsent)
     → b.opened ≡ m.opened → Adds (Closed p) m.told b.told → b.state ≡ m.state → b.times ≡ m.times → tb p ≡ None
-    → Moves reply step a (on p []) (holding p s tb) b calm tb
+    → Moves 0 reply step a (on p []) (holding p s tb) b calm tb
 put-closed {S} {reply} {step} a m b tb p n s t opened told state times is_t why opened' told' state' times' none =
     moves-two (put_on p n s.unsent) (Closed p) m.told told told' (λ first since steps g.
     let went : Goes reply step first since m (on p []) (holding p t tb) (Happens (put_on p n s.unsent) ∷ steps) =
@@ -72,7 +73,7 @@ some-of (Some b) h = (b, refl)
 pub put-laid : {S : Type 0} {reply : Answer S} {step : Change S} (a m : Around S) (tb bt : ℕ → Option Sess) (p n : ℕ) (s t : Sess)
     → m.opened ≡ a.opened → Adds (put_on p n s.unsent) a.told m.told → m.state ≡ a.state → m.times ≡ a.times
     → t ≡ record s { unsent = drop n s.unsent } → (t.begun ≡ None → ⊥) → length t.unsent ≤ MOST_UNSENT → Sets p (Some t) tb bt
-    → Moves reply step a (on p []) (holding p s tb) m calm bt
+    → Moves 0 reply step a (on p []) (holding p s tb) m calm bt
 put-laid {S} {reply} {step} a m tb bt p n s t opened told state times is_t begun bound sets =
     moves-one (put_on p n s.unsent) told (λ first since steps g.
     goes-rests p
@@ -92,7 +93,7 @@ pub put-stops : {S : Type 0} {reply : Answer S} {step : Change S} (a m : Around 
     → Stops reply step a (on p []) (holding p s tb) m
 put-stops {S} {reply} {step} a m tb p n s opened told state times =
     let t : Sess = record s { unsent = drop n s.unsent } in
-    let moved : Moves reply step a (on p []) (holding p s tb) m (on p []) (holding p t tb) =
+    let moved : Moves 0 reply step a (on p []) (holding p s tb) m (on p []) (holding p t tb) =
     moves-one (put_on p n s.unsent) told (λ first since steps g.
     goes-went p n (nat_lt n (length s.unsent)) s t (holding-here p s tb) refl opened state times (holding-sets p s t tb) g) in
     stops-here moved
@@ -102,7 +103,7 @@ put-stops {S} {reply} {step} a m tb p n s opened told state times =
 pub drained-some : {S : Type 0} {reply : Answer S} {step : Change S} (a b : Around S) (at tb : ℕ → Option Sess) (p : ℕ) (s : Sess)
     → b.opened ≡ a.opened → Adds (Drained p) a.told b.told → b.state ≡ a.state → b.times ≡ a.times
     → at p ≡ Some s → Sets p None at tb
-    → Moves reply step a calm at b (on p []) (holding p s tb)
+    → Moves 1 reply step a calm at b (on p []) (holding p s tb)
 drained-some a b at tb p s opened told state times is sets =
     moves-one (Drained p) told (λ first since steps g.
     goes-at (lifted-same p s at tb is sets) (goes-drained p opened state times g))
@@ -110,7 +111,7 @@ drained-some a b at tb p s opened told state times is sets =
 pub drained-none : {S : Type 0} {reply : Answer S} {step : Change S} (a b : Around S) (at tb : ℕ → Option Sess) (p : ℕ)
     → b.opened ≡ a.opened → Adds (Drained p) a.told b.told → b.state ≡ a.state → b.times ≡ a.times
     → at p ≡ None → Sets p None at tb
-    → Moves reply step a calm at b calm tb
+    → Moves 1 reply step a calm at b calm tb
 drained-none a b at tb p opened told state times none sets =
     moves-one (Drained p) told (λ first since steps g.
     goes-rests p (subst (λ (o : Option Sess). Rests (Happens (Drained p) ∷ steps) p o) (sym none) tt)
@@ -122,7 +123,7 @@ pub came-none : {S : Type 0} {reply : Answer S} {step : Change S} (a b : Around 
     (bytes : List ℕ)
     → b.opened ≡ a.opened → Adds (Came p bytes) a.told b.told → b.state ≡ a.state → b.times ≡ a.times
     → p < a.opened → at p ≡ None → Sets p None at tb
-    → Moves reply step a calm at b calm tb
+    → Moves 1 reply step a calm at b calm tb
 came-none a b at tb p bytes opened told state times less none sets =
     moves-one (Came p bytes) told (λ first since steps g. goes-ignored p bytes none less opened state times sets g)
 
@@ -130,7 +131,7 @@ pub came-some : {S : Type 0} {reply : Answer S} {step : Change S} (a b : Around 
     (bytes : List ℕ) (records : List (List ℕ)) (s t : Sess)
     → b.opened ≡ a.opened → Adds (Came p bytes) a.told b.told → b.state ≡ a.state → b.times ≡ a.times
     → at p ≡ Some s → Sets p None at tb → Reads bytes records s t
-    → Moves reply step a calm at b (on p records) (holding p t tb)
+    → Moves 1 reply step a calm at b (on p records) (holding p t tb)
 came-some a b at tb p bytes records s t opened told state times is sets reads =
     moves-one (Came p bytes) told (λ first since steps g.
     goes-came p bytes records s t is reads opened state times (lifted-sets p t at tb sets) g)
@@ -150,7 +151,7 @@ pub handles-one : {S : Type 0} {reply : Answer S} {step : Change S} (a b : Aroun
     (message : List ℕ) (rest : List (List ℕ)) (s t : Sess)
     → b.opened ≡ a.opened → b.told ≡ a.told → b.state ≡ step a.state time message → TellsTime a.times b.times time
     → t ≡ record s { unsent = s.unsent ++ framed (reply a.state time message) }
-    → Moves reply step a (on p (message ∷ rest)) (holding p s at) b (on p rest) (holding p t at)
+    → Moves 0 reply step a (on p (message ∷ rest)) (holding p s at) b (on p rest) (holding p t at)
 handles-one a b at p time message rest s t opened told state tells is_t =
     moves-handles (record { port = p; time = time; message = message }) told (λ first since steps g.
     goes-handles p time message rest s t (holding-here p s at) is_t opened state tells (holding-sets p s t at) g)
@@ -162,7 +163,7 @@ pub handles-stops : {S : Type 0} {reply : Answer S} {step : Change S} (a b : Aro
     → Stops reply step a (on p (message ∷ rest)) (holding p s at) b
 handles-stops {S} {reply} {step} a b at p time message rest s opened told state tells =
     let t : Sess = record s { unsent = s.unsent ++ framed (reply a.state time message) } in
-    let moved : Moves reply step a (on p (message ∷ rest)) (holding p s at) b (on p rest) (holding p t at) =
+    let moved : Moves 0 reply step a (on p (message ∷ rest)) (holding p s at) b (on p rest) (holding p t at) =
     handles-one a b at p time message rest s t opened told state tells refl in
     stops-here moved
 
@@ -187,7 +188,7 @@ handles-none {S} {reply} {step} a b w at time told state tells = λ first since 
 pub turn-began : {S : Type 0} {reply : Answer S} {step : Change S} (a b : Around S) (at bt : ℕ → Option Sess) (p : ℕ)
     → p ≡ a.opened → b.opened ≡ a.opened + 1 → Adds (Began p) a.told b.told → b.state ≡ a.state → b.times ≡ a.times
     → Sets p (Some new_session) at bt
-    → Moves reply step a calm at b calm bt
+    → Moves 1 reply step a calm at b calm bt
 turn-began a b at bt p number opened told state times sets =
     moves-one (Began p) told (λ first since steps g. goes-began p number opened state times sets g)
 
@@ -201,14 +202,26 @@ turn-began-stops {S} {reply} {step} a b at p number opened told state times =
 
 pub turn-ended : {S : Type 0} {reply : Answer S} {step : Change S} (a b : Around S) (at bt : ℕ → Option Sess) (p : ℕ)
     → b.opened ≡ a.opened → Adds (Ended p) a.told b.told → b.state ≡ a.state → b.times ≡ a.times → Sets p None at bt
-    → Moves reply step a calm at b calm bt
+    → Moves 1 reply step a calm at b calm bt
 turn-ended a b at bt p opened told state times sets =
     moves-one (Ended p) told (λ first since steps g. goes-ended p opened state times sets g)
+
+pub turn-passed : {S : Type 0} {reply : Answer S} {step : Change S} (a b : Around S) (at : ℕ → Option Sess)
+    → b.opened ≡ a.opened → Adds Passed a.told b.told → b.state ≡ a.state → b.times ≡ a.times
+    → Moves 1 reply step a calm at b calm at
+turn-passed a b at opened told state times =
+    moves-one Passed told (λ first since steps g. goes-passed opened state times g)
+
+-- the ports failed
+pub turn-failed : {S : Type 0} {reply : Answer S} {step : Change S} (a b : Around S) (at : ℕ → Option Sess)
+    → b.opened ≡ a.opened → b.told ≡ a.told → b.state ≡ a.state → b.times ≡ a.times
+    → Moves 0 reply step a calm at b calm at
+turn-failed a b at opened told state times = moves-zero told (λ first since steps g. goes-on opened state times g)
 
 pub stops-same : {S : Type 0} {reply : Answer S} {step : Change S} (a : Around S) (w : Work) (at : ℕ → Option Sess)
     → Stops reply step a w at a
 stops-same {S} {reply} {step} a w at =
-    let moved : Moves reply step a w at a w at = moves-zero refl (λ first since steps g. g) in stops-here moved
+    let moved : Moves 0 reply step a w at a w at = moves-zero refl (λ first since steps g. g) in stops-here moved
 
 -- ---- all turns
 
@@ -225,18 +238,18 @@ goes-none reply step a at none = record {
 }
 
 -- all is settled at a later point
-abbrev pub Finished : {S : Type 0} → Answer S → Change S → (a b : Around S) → Type 0
-Finished reply step a b =
+abbrev pub Finished : {S : Type 0} → ℕ → Answer S → Change S → (a b : Around S) → Type 0
+Finished n reply step a b =
     (steps : List Step) × AddsAll (happened steps) a.told b.told × Ran reply step a.state b.state a.times b.times steps
-    × (Settled reply step a.state steps × Told a.times (times_of steps) b.times)
+    × (Settled reply step a.state steps × Told a.times (times_of steps) b.times × (waits_in steps ≡ n))
 
-pub finished : {S : Type 0} {reply : Answer S} {step : Change S} (a b : Around S) (at bt : ℕ → Option Sess)
-    → ((q : ℕ) → at q ≡ None) → Moves reply step a calm at b calm bt → Finished reply step a b
-finished {S} {reply} {step} a b at bt none m =
+pub finished : {S : Type 0} {n : ℕ} {reply : Answer S} {step : Change S} (a b : Around S) (at bt : ℕ → Option Sess)
+    → ((q : ℕ) → at q ≡ None) → Moves n reply step a calm at b calm bt → Finished n reply step a b
+finished {S} {n} {reply} {step} a b at bt none m =
     let x = m a.state a.times [] (goes-none reply step a at none) in
     let g : Goes reply step a.state a.times b calm bt x.0 =
     subst (λ (l : List Step). Goes reply step a.state a.times b calm bt l) (append-nil x.0) x.2 in
-    (x.0, x.1, goes-ran g, (goes-settled g, g.times))
+    (x.0, x.1, goes-ran g, (goes-settled g, g.times, x.3))
 
 abbrev pub Stopped : {S : Type 0} → Answer S → Change S → (a b : Around S) → Type 0
 Stopped reply step a b =
@@ -249,11 +262,12 @@ stopped {S} {reply} {step} a b at none m =
     (x.0, x.1, subst (λ (l : List Step). Ran reply step a.state b.state a.times b.times l) (append-nil x.0) x.2)
 
 -- an end that the last turn had
-pub serve-ended : {S : Type 0} (reply : Answer S) (step : Change S) (a b c : Around S) (at bt ct : ℕ → Option Sess)
-    → ((q : ℕ) → at q ≡ None) → Moves reply step a calm at b calm bt → (e : LoopErr) → Turns reply step b bt c ct (Err e)
-    → Serves reply step a.state c.state a.times c.times a.told c.told (Err e)
-serve-ended reply step a b c at bt ct none m PortFault t = finished a c at ct none (moves-then m t)
-serve-ended reply step a b c at bt ct none m HandlerFault t =
+pub serve-ended : {S : Type 0} {n : ℕ} (turns : ℕ) (reply : Answer S) (step : Change S) (a b c : Around S) (at bt ct : ℕ → Option Sess)
+    → ((q : ℕ) → at q ≡ None) → Moves n reply step a calm at b calm bt → (e : LoopErr) → Turns reply step b bt c ct (Err e)
+    → Serves reply step a.state c.state a.times c.times a.told c.told turns (Err e)
+serve-ended turns reply step a b c at bt ct none m PortFault t =
+    let f = finished a c at ct none (moves-then m t) in (f.0, f.1, f.2, (f.3.0, f.3.1))
+serve-ended turns reply step a b c at bt ct none m HandlerFault t =
     let s = stopped a c at none (moves-stop c m t) in (s.0, s.1, s.2, tt)
-serve-ended reply step a b c at bt ct none m NoMemory t =
+serve-ended turns reply step a b c at bt ct none m NoMemory t =
     let s = stopped a c at none (moves-stop c m t) in (s.0, s.1, s.2, tt)

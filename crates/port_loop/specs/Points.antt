@@ -8,7 +8,7 @@ use Rattle.port_loop.specs.Ports.{came_on, is_full, is_known, is_open, went_on}
 use Rattle.port_loop.specs.declared.ports.Happening.{Happening}
 use Rattle.port_loop.specs.Serving.{AddsAll, Ran, Told, times_of}
 use Rattle.port_loop.specs.Sessions.{Sess}
-use Rattle.port_loop.specs.Steps.{Answer, Change, Lawful, Step, Taken, Unsent, after_all, frames_on, handled_in, happened, record_of, taken_in, taken_on}
+use Rattle.port_loop.specs.Steps.{Answer, Change, Lawful, Step, Taken, Unsent, after_all, frames_on, handled_in, happened, record_of, waits_in, taken_in, taken_on}
 
 -- the connections that were opened, what was told, the state and the times
 pub record Around (S : Type 0) : Type 0 where
@@ -80,13 +80,13 @@ pub record Goes {S : Type 0} (reply : Answer S) (step : Change S) (first : S) (s
   pub rests : (p : ℕ) → is_busy w.busy p ≡ false → Rests steps p (at p)
   pub unused : (p : ℕ) → a.opened ≤ p → Unused reply step first steps p
 
--- from one point to a later one
-abbrev pub Moves : {S : Type 0} → Answer S → Change S → (before : Around S) → Work → (ℕ → Option Sess)
+-- from one point to a later one, for which the loop waited so often
+abbrev pub Moves : {S : Type 0} → ℕ → Answer S → Change S → (before : Around S) → Work → (ℕ → Option Sess)
     → (now : Around S) → Work → (ℕ → Option Sess) → Type 0
-Moves {S} reply step before w at now x bt =
+Moves {S} n reply step before w at now x bt =
     (first : S) (since : Option (List ℕ)) (steps : List Step) → Goes reply step first since before w at steps →
     (more : List Step) × AddsAll (happened more) before.told now.told
-    × Goes reply step first since now x bt (more ++ steps)
+    × Goes reply step first since now x bt (more ++ steps) × (waits_in more ≡ n)
 
 -- from one point to an end, in the middle of work
 abbrev pub Stops : {S : Type 0} → Answer S → Change S → (before : Around S) → Work → (ℕ → Option Sess) → (now : Around S)
@@ -97,15 +97,15 @@ Stops {S} reply step before w at now =
     × Ran reply step first now.state since now.times (more ++ steps)
 
 -- what a part of a turn leaves: a later point, or an end
-abbrev pub Leaves : {S T E : Type 0} → Answer S → Change S → (before : Around S) → Work → (ℕ → Option Sess)
+abbrev pub Leaves : {S T E : Type 0} → ℕ → Answer S → Change S → (before : Around S) → Work → (ℕ → Option Sess)
     → (now : Around S) → Work → (ℕ → Option Sess) → Result T E → Type 0
-Leaves reply step before w at now x bt (Ok t) = Moves reply step before w at now x bt
-Leaves reply step before w at now x bt (Err e) = Stops reply step before w at now
+Leaves n reply step before w at now x bt (Ok t) = Moves n reply step before w at now x bt
+Leaves n reply step before w at now x bt (Err e) = Stops reply step before w at now
 
--- what a turn leaves; a fault of the ports leaves all as it was
+-- what a turn leaves, in which the loop waits once; a fault of the ports leaves all as it was
 abbrev pub Turns : {S : Type 0} → Answer S → Change S → (before : Around S) → (ℕ → Option Sess) → (now : Around S)
     → (ℕ → Option Sess) → Result ⊤ LoopErr → Type 0
-Turns reply step before at now bt (Ok done) = Moves reply step before calm at now calm bt
-Turns reply step before at now bt (Err PortFault) = Moves reply step before calm at now calm bt
+Turns reply step before at now bt (Ok done) = Moves 1 reply step before calm at now calm bt
+Turns reply step before at now bt (Err PortFault) = Moves 0 reply step before calm at now calm bt
 Turns reply step before at now bt (Err HandlerFault) = Stops reply step before calm at now
 Turns reply step before at now bt (Err Memory) = Stops reply step before calm at now

@@ -3,7 +3,7 @@ use Rattle.std.specs.Prelude.{◌≡◌, ◌⊎◌, ℕ, ◌+◌, ◌<◌, ◌�
 use Rattle.osd_bytes.specs.declared.source.Fault.{Fault}
 use Rattle.port_loop.specs.declared.ports.Arrival.{Arrival}
 use Rattle.port_loop.specs.declared.ports.Happening.{Happening}
-use Rattle.port_loop.specs.declared.ports.Happening.TheVariants.{Began, Came, Went, Failed, Drained, Ended, Closed}
+use Rattle.port_loop.specs.declared.ports.Happening.TheVariants.{Began, Came, Went, Failed, Drained, Ended, Closed, Passed}
 use Rattle.port_loop.specs.declared.ports.Arrival.TheVariants.{Opens, Brings, Drains, Closes, Quiet}
 
 -- one thing more happened
@@ -21,7 +21,7 @@ Arrives opened now_opened before now (Ok (Brings p n)) buf =
     (p < opened) × (0 < n) × (n ≤ length buf) × (now_opened ≡ opened) × Adds (Came p (take n buf)) before now
 Arrives opened now_opened before now (Ok (Drains p)) buf = (now_opened ≡ opened) × Adds (Drained p) before now
 Arrives opened now_opened before now (Ok (Closes p)) buf = (now_opened ≡ opened) × Adds (Ended p) before now
-Arrives opened now_opened before now (Ok Quiet) buf = (now_opened ≡ opened) × (now ≡ before)
+Arrives opened now_opened before now (Ok Quiet) buf = (now_opened ≡ opened) × Adds Passed before now
 Arrives opened now_opened before now (Err e) buf = (now_opened ≡ opened) × (now ≡ before)
 
 -- a connection that doesn't take all bytes is full
@@ -29,6 +29,17 @@ abbrev pub PutsOn : ℕ → (before now : Option (List Happening)) → Result �
 PutsOn p before now (Ok n) bytes =
     (n ≤ length bytes) × Adds (Went p (take n bytes) (nat_lt n (length bytes))) before now
 PutsOn p before now (Err e) bytes = Adds (Failed p) before now
+
+-- how often what happens next was waited for
+abbrev pub waits_of : Happening → ℕ
+waits_of (Began p) = 1
+waits_of (Came p bytes) = 1
+waits_of (Went p bytes full) = 0
+waits_of (Failed p) = 0
+waits_of (Drained p) = 1
+waits_of (Ended p) = 1
+waits_of (Closed p) = 0
+waits_of Passed = 1
 
 -- ---- one connection, in what happened, the newest first
 

@@ -6,7 +6,7 @@ use Rattle.port_loop.specs.declared.handler.HandlerErr.TheVariants.{Failed, Memo
 use Rattle.port_loop.specs.declared.serving.LoopErr.{LoopErr}
 use Rattle.port_loop.specs.declared.serving.LoopErr.TheVariants.{PortFault, HandlerFault, Memory}
 use Rattle.port_loop.specs.declared.ports.Happening.{Happening}
-use Rattle.port_loop.specs.Steps.{Answer, Change, Handled, Lawful, Settled, Step, after_all, handled_in, happened}
+use Rattle.port_loop.specs.Steps.{Answer, Change, Handled, Lawful, Settled, Step, after_all, handled_in, happened, waits_in}
 
 -- how the loop ends if the handler does
 abbrev pub loop_err : HandlerErr → LoopErr
@@ -40,17 +40,19 @@ pub record Ran {S : Type 0} (reply : Answer S) (step : Change S) (old new : S) (
   pub times : Told times_before (times_of steps ++ more) times_now
   pub one : length more ≤ 1
 
--- unless the handler failed or memory was missing, all is settled
-abbrev pub Finishes : {S : Type 0} → Answer S → Change S → S → (times_before times_now : Option (List ℕ)) → List Step
-    → Result ⊤ LoopErr → Type 0
-Finishes reply step old before now steps (Ok done) = Settled reply step old steps × Told before (times_of steps) now
-Finishes reply step old before now steps (Err PortFault) = Settled reply step old steps × Told before (times_of steps) now
-Finishes reply step old before now steps (Err HandlerFault) = ⊤
-Finishes reply step old before now steps (Err Memory) = ⊤
+-- unless the handler failed or memory was missing, all is settled; at the end the loop has waited as often as it was to
+abbrev pub Finishes : {S : Type 0} → Answer S → Change S → S → (times_before times_now : Option (List ℕ)) → (turns : ℕ)
+    → List Step → Result ⊤ LoopErr → Type 0
+Finishes reply step old before now turns steps (Ok done) =
+    Settled reply step old steps × Told before (times_of steps) now × (waits_in steps ≡ turns)
+Finishes reply step old before now turns steps (Err PortFault) =
+    Settled reply step old steps × Told before (times_of steps) now
+Finishes reply step old before now turns steps (Err HandlerFault) = ⊤
+Finishes reply step old before now turns steps (Err Memory) = ⊤
 
 abbrev pub Serves : {S : Type 0} → Answer S → Change S → (old new : S) → (times_before times_now : Option (List ℕ))
-    → (told_before told_now : Option (List Happening)) → Result ⊤ LoopErr → Type 0
-Serves reply step old new times_before times_now told_before told_now result =
+    → (told_before told_now : Option (List Happening)) → (turns : ℕ) → Result ⊤ LoopErr → Type 0
+Serves reply step old new times_before times_now told_before told_now turns result =
     (steps : List Step) × AddsAll (happened steps) told_before told_now
     × Ran reply step old new times_before times_now steps
-    × Finishes reply step old times_before times_now steps result
+    × Finishes reply step old times_before times_now turns steps result

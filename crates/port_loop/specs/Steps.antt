@@ -1,10 +1,10 @@
 -- The steps of a loop over many connections, and when they are lawful.
-use Rattle.std.specs.Prelude.{◌≡◌, ◌⊎◌, ⊤, ℕ, ◌<◌, ◌≤◌, true, false, nat_eq, if◌then◌else◌, List, [], ◌∷◌, ◌++◌, length, map, None, Some}
+use Rattle.std.specs.Prelude.{◌≡◌, ◌⊎◌, ⊤, ℕ, ◌+◌, ◌<◌, ◌≤◌, true, false, nat_eq, if◌then◌else◌, List, [], ◌∷◌, ◌++◌, length, map, None, Some}
 use Rattle.osd_bytes.specs.Records.{Begun, framed, fresh, split}
 use Rattle.port_loop.specs.declared.serving.TheConstants.{MOST_UNSENT}
-use Rattle.port_loop.specs.Ports.{came_on, is_full, is_known, is_open, has_failed, went_on}
+use Rattle.port_loop.specs.Ports.{came_on, is_full, is_known, is_open, has_failed, waits_of, went_on}
 use Rattle.port_loop.specs.declared.ports.Happening.{Happening}
-use Rattle.port_loop.specs.declared.ports.Happening.TheVariants.{Began, Came, Went, Failed, Drained, Ended, Closed}
+use Rattle.port_loop.specs.declared.ports.Happening.TheVariants.{Began, Came, Went, Failed, Drained, Ended, Closed, Passed}
 use Rattle.port_loop.specs.Sessions.{read_on}
 
 -- a record that came whole, and on which connection
@@ -34,6 +34,12 @@ abbrev pub happened : List Step → List Happening
 happened [] = []
 happened (Happens x ∷ older) = x ∷ happened older
 happened (Handles h ∷ older) = happened older
+
+-- how often what happens next was waited for
+abbrev pub waits_in : List Step → ℕ
+waits_in [] = 0
+waits_in (Happens x ∷ older) = waits_in older + waits_of x
+waits_in (Handles h ∷ older) = waits_in older
 
 -- the records that were handled, the oldest first
 abbrev pub handled_in : List Step → List Handled
@@ -116,6 +122,7 @@ Follows reply step first (Happens (Began p)) older =
 Follows reply step first (Happens (Came p bytes)) older = Settled reply step first older
 Follows reply step first (Happens (Drained p)) older = Settled reply step first older
 Follows reply step first (Happens (Ended p)) older = Settled reply step first older
+Follows reply step first (Happens Passed) older = Settled reply step first older
 Follows reply step first (Happens (Went p bytes full)) older =
     (is_open p (happened older) ≡ true) × (more : List ℕ) × Unsent reply step first p older (bytes ++ more)
 Follows reply step first (Happens (Failed p)) older = is_open p (happened older) ≡ true

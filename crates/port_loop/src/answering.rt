@@ -20,7 +20,7 @@ pub(crate) fn answer_all<H: Handler, C: Clock>(
     records: &ByteLists,
 ) -> Result<(), HandlerErr>
     ensures leaves { (opened : ℕ) (told : Option (List Happening)) (at : ℕ → Option Sess) →
-        Leaves H.reply_to H.state_after
+        Leaves 0 H.reply_to H.state_after
         (around opened told (H.state server.old) (C.times clock.old)) (on port records.now) (holding port session.old at)
         (around opened told (H.state server.new) (C.times clock.new)) (on port []) (holding port session.new at) result }
     ensures handler { IsErrOf result Failed → Rose (H.faults server.old) (H.faults server.new) }

@@ -141,11 +141,18 @@ impl MemPorts {
         room
     }
 
+    fn rest(&mut self) -> Arrival
+        ensures { Arrived self.old self.new result [] }
+    {
+        self.note(Happening::Passed);
+        Arrival::Quiet
+    }
+
     fn open(&mut self) -> Arrival
         ensures { Arrived self.old self.new result [] }
     {
         if self.opened == u64::MAX {
-            return Arrival::Quiet;
+            return self.rest();
         }
         let port = self.opened;
         self.opened += 1;
@@ -159,7 +166,7 @@ impl MemPorts {
         let mut bytes = bytes;
         let count = copy_front(bytes.as_slice(), buf);
         if count == 0 || port >= self.opened {
-            return Arrival::Quiet;
+            return self.rest();
         }
         bytes.truncate(count);
         self.note(Happening::Came { port, bytes });
@@ -204,7 +211,7 @@ impl Ports for MemPorts {
                 self.note(Happening::Ended { port });
                 Ok(Arrival::Closes { port })
             }
-            Planned::Quiet => Ok(Arrival::Quiet),
+            Planned::Quiet => Ok(self.rest()),
         }
     }
 

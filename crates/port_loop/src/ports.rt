@@ -21,7 +21,7 @@ pub enum Arrival {
     Quiet,
 }
 
-/// What happened on a connection.
+/// What happened on a connection, or on none.
 #[derive(Drop)]
 pub enum Happening {
     /// It began.
@@ -55,6 +55,8 @@ pub enum Happening {
     Closed {
         port: u64,
     },
+    /// Nothing happened on any connection for a while.
+    Passed,
 }
 
 /// Connections that stand side by side, each under a number of its own, which is never used again.

@@ -81,7 +81,7 @@ fn put_out<H: Handler, P: Ports>(
     mut session: Session,
 ) -> Result<(), Memory>
     requires lifted { get nat_cmp table.old port ≡ None }
-    ensures leaves { (state : H.State) (times : Option (List ℕ)) → Leaves H.reply_to H.state_after
+    ensures leaves { (state : H.State) (times : Option (List ℕ)) → Leaves 0 H.reply_to H.state_after
         (around (P.opened ports.old) (P.told ports.old) state times) (on port []) (holding port session (get nat_cmp table.old))
         (around (P.opened ports.new) (P.told ports.new) state times) calm (get nat_cmp table.new) result }
     ensures later { P.faults ports.old ≤ P.faults ports.new }
@@ -113,7 +113,7 @@ fn bring<H: Handler, P: Ports, C: Clock>(
     piece: &[u8],
 ) -> Result<(), HandlerErr>
     ensures leaves { (before : Option (List Happening)) → Adds (Came port piece.now) before (P.told ports.old) →
-        port < P.opened ports.old → Leaves H.reply_to H.state_after
+        port < P.opened ports.old → Leaves 1 H.reply_to H.state_after
         (around (P.opened ports.old) before (H.state server.old) (C.times clock.old)) calm (get nat_cmp table.old)
         (around (P.opened ports.new) (P.told ports.new) (H.state server.new) (C.times clock.new)) calm (get nat_cmp table.new)
         result }
@@ -134,7 +134,7 @@ fn bring<H: Handler, P: Ports, C: Clock>(
 // Puts more of what a connection owes, on which there is room again.
 fn drain<H: Handler, P: Ports>(ports: &mut P, table: &mut Table, port: u64) -> Result<(), Memory>
     ensures leaves { (before : Option (List Happening)) (state : H.State) (times : Option (List ℕ)) →
-        Adds (Drained port) before (P.told ports.old) → Leaves H.reply_to H.state_after
+        Adds (Drained port) before (P.told ports.old) → Leaves 1 H.reply_to H.state_after
         (around (P.opened ports.old) before state times) calm (get nat_cmp table.old)
         (around (P.opened ports.new) (P.told ports.new) state times) calm (get nat_cmp table.new) result }
     ensures later { P.faults ports.old ≤ P.faults ports.new }
@@ -202,7 +202,7 @@ pub fn serve_many<H: Handler, P: Ports, C: Clock>(
     turns: u64,
 ) -> Result<(), LoopErr>
     ensures serves { Serves H.reply_to H.state_after (H.state server.old) (H.state server.new)
-        (C.times clock.old) (C.times clock.new) (P.told ports.old) (P.told ports.new) result }
+        (C.times clock.old) (C.times clock.new) (P.told ports.old) (P.told ports.new) turns result }
     ensures port { IsErrOf result PortFault → Rose (P.faults ports.old) (P.faults ports.new) }
     ensures handler { IsErrOf result HandlerFault → Rose (H.faults server.old) (H.faults server.new) }
 {

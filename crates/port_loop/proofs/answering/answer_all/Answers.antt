@@ -39,7 +39,7 @@ returns-in_err-owe-clause-leaves g c = λ opened told at.
 
 pub loop-i-preserved : goal.loop-i-preserved
 loop-i-preserved g c = record {
-  moves = λ opened told at. moves-then (c.loop-i.invariant.moves opened told at)
+  moves = λ opened told at. moves-then {k = 0} (c.loop-i.invariant.moves opened told at)
       (rw (drop-got c.args.records.now c.loop-i.i c.as_slice.result.now (search rules))
       (handles-one (around opened told (g.H.Handler.state c.loop-i.server) (g.C.Clock.times c.loop-i.clock))
       (around opened told (g.H.Handler.state c.handle.new.self) (g.C.Clock.times c.now-now.new.self)) at c.args.port

@@ -7,7 +7,7 @@ use Rattle.port_loop.proofs.answering.answer_all.Given as goal
 abbrev pub invariant-loop-i : goal.invariant-loop-i
 invariant-loop-i g l = record {
   moves : (opened : ℕ) (told : Option (List Happening)) (at : ℕ → Option Sess) →
-      Moves g.H.Handler.reply_to g.H.Handler.state_after
+      Moves 0 g.H.Handler.reply_to g.H.Handler.state_after
       (around opened told (g.H.Handler.state l.initial.server) (g.C.Clock.times l.initial.clock)) (on l.port l.records)
       (holding l.port l.initial.session at)
       (around opened told (g.H.Handler.state l.server) (g.C.Clock.times l.clock)) (on l.port (drop l.i l.records))

@@ -1,4 +1,4 @@
-use Rattle.std.proofs.Common.{rules, refl, None}
+use Rattle.std.proofs.Common.{rules, ◌≡◌, ◌∙◌, refl, None}
 use Rattle.std.proofs.lemmas.Result.{err_from_is_err_and}
 use Rattle.std.specs.Ordering.{nat_cmp}
 use Rattle.std.specs.BTreeMap.{get}
@@ -19,7 +19,7 @@ pub returns-in_err-turn-clause-serves : goal.returns-in_err-turn-clause-serves
 returns-in_err-turn-clause-serves g c =
     let p = err_from_is_err_and c.from_residual.result c.from_residual.ensures.1 in
     rw (p.1, p.2)
-    (serve-ended g.H.Handler.reply_to g.H.Handler.state_after
+    (serve-ended c.args.turns g.H.Handler.reply_to g.H.Handler.state_after
     (around (g.P.Ports.opened c.args.ports.now) (g.P.Ports.told c.args.ports.now) (g.H.Handler.state c.args.server.now)
     (g.C.Clock.times c.args.clock.now))
     (around (g.P.Ports.opened c.loop.ports) (g.P.Ports.told c.loop.ports) (g.H.Handler.state c.loop.server)
@@ -38,7 +38,8 @@ loop-preserved g c = record {
 
 pub returns-clause-serves : goal.returns-clause-serves
 returns-clause-serves g c =
-    finished (around (g.P.Ports.opened c.args.ports.now) (g.P.Ports.told c.args.ports.now) (g.H.Handler.state
+    let all = finished (around (g.P.Ports.opened c.args.ports.now) (g.P.Ports.told c.args.ports.now) (g.H.Handler.state
     c.args.server.now) (g.C.Clock.times c.args.clock.now))
     (around (g.P.Ports.opened c.loop.ports) (g.P.Ports.told c.loop.ports) (g.H.Handler.state c.loop.server)
-    (g.C.Clock.times c.loop.clock)) (λ q. None) (get nat_cmp c.loop.table) (λ q. refl) c.loop.invariant.moves
+    (g.C.Clock.times c.loop.clock)) (λ q. None) (get nat_cmp c.loop.table) (λ q. refl) c.loop.invariant.moves in
+    let over : c.loop.counter ≡ c.args.turns = search rules in (all.0, all.1, all.2, (all.3.0, all.3.1, all.3.2 ∙ over))

@@ -6,7 +6,7 @@ use Rattle.port_loop.proofs.serving.serve_many.Given as goal
 
 abbrev pub invariant-loop : goal.invariant-loop
 invariant-loop g l = record {
-  moves : Moves g.H.Handler.reply_to g.H.Handler.state_after
+  moves : Moves l.counter g.H.Handler.reply_to g.H.Handler.state_after
       (around (g.P.Ports.opened l.initial.ports) (g.P.Ports.told l.initial.ports) (g.H.Handler.state l.initial.server)
       (g.C.Clock.times l.initial.clock)) calm (λ q. None)
       (around (g.P.Ports.opened l.ports) (g.P.Ports.told l.ports) (g.H.Handler.state l.server) (g.C.Clock.times l.clock)) calm

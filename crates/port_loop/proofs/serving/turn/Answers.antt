@@ -4,7 +4,7 @@ use Rattle.std.specs.Ordering.{nat_cmp}
 use Rattle.std.specs.BTreeMap.{get}
 use Rattle.port_loop.specs.Points.{around}
 use Rattle.port_loop.specs.Points.{calm}
-use Rattle.port_loop.proofs.TurnLaws.{stops-same, turn-began, turn-began-stops, turn-ended}
+use Rattle.port_loop.proofs.TurnLaws.{stops-same, turn-began, turn-began-stops, turn-ended, turn-failed, turn-passed}
 use Rattle.port_loop.proofs.serving.turn.Goals as goal
 
 pub returns-in_err-grow-clause-turns : goal.returns-in_err-grow-clause-turns
@@ -45,3 +45,21 @@ returns-in-Closes-clause-turns g c =
     (g.C.Clock.times c.args.clock.now)) (get nat_cmp c.args.table.now) (get nat_cmp c.lift.new.table) c.in-Closes.port
     arrives.0 arrives.1 refl refl
     c.lift.ensures.sets
+
+pub returns-in-Quiet-clause-turns : goal.returns-in-Quiet-clause-turns
+returns-in-Quiet-clause-turns g c =
+    let arrives = rw c.in-Quiet.is at c.in_ok-port.ensures.arrives in
+    turn-passed (around (g.P.Ports.opened c.args.ports.now) (g.P.Ports.told c.args.ports.now) (g.H.Handler.state
+    c.args.server.now) (g.C.Clock.times c.args.clock.now))
+    (around (g.P.Ports.opened c.next.new.self) (g.P.Ports.told c.next.new.self) (g.H.Handler.state c.args.server.now)
+    (g.C.Clock.times c.args.clock.now)) (get nat_cmp c.args.table.now) arrives.0 arrives.1 refl refl
+
+pub returns-in_err-port-clause-turns : goal.returns-in_err-port-clause-turns
+returns-in_err-port-clause-turns g c =
+    let p = err_from_is_err_and c.from_residual-in_err-port.result c.from_residual-in_err-port.ensures.1 in
+    rw (p.1, p.2)
+    (turn-failed (around (g.P.Ports.opened c.args.ports.now) (g.P.Ports.told c.args.ports.now) (g.H.Handler.state
+    c.args.server.now) (g.C.Clock.times c.args.clock.now))
+    (around (g.P.Ports.opened c.next.new.self) (g.P.Ports.told c.next.new.self) (g.H.Handler.state c.args.server.now)
+    (g.C.Clock.times c.args.clock.now)) (get nat_cmp c.args.table.now) c.in_err-port.ensures.arrives.0
+    c.in_err-port.ensures.arrives.1 refl refl)
