@@ -1,0 +1,347 @@
+-- How a loop goes by one step more.
+use Rattle.std.proofs.Common.{◌≡◌, ◌<◌, ◌≤◌, ℕ, ◌+◌, Bool, false, nat_eq, List, [], ◌∷◌, ◌++◌, map, take, drop, Option, None, Some, refl, sym, ap, subst, ◌∙◌, append_assoc, arith}
+use Rattle.std.proofs.lemmas.List.{append-nil, map-append, take-append-drop}
+use Rattle.osd_bytes.specs.Clocks.{TellsTime}
+use Rattle.osd_bytes.specs.Records.{Begun, Split, framed, fresh, split}
+use Rattle.osd_bytes.proofs.RecordLaws.{carried, split-append, split-nil}
+use Rattle.port_loop.specs.Points.{Around, Goes, Rests, Sets, Stands, Unused, Work, calm, is_busy, on}
+use Rattle.port_loop.specs.Ports.{came_on, is_full, is_open, went_on}
+use Rattle.port_loop.specs.declared.ports.Happening.{Happening}
+use Rattle.port_loop.specs.declared.ports.Happening.TheVariants.{Began, Came, Went, Failed, Drained, Ended, Closed, Passed}
+use Rattle.port_loop.specs.Serving.{Told, times_of}
+use Rattle.port_loop.specs.Sessions.{Reads, Sess, new_session, read_on}
+use Rattle.port_loop.specs.Steps.{Answer, Change, Follows, Handled, HasEnd, Step, Taken, after_all, frames_on, handled_in, happened, record_of, taken_in, taken_on, whole_in}
+use Rattle.port_loop.specs.Steps.Step.{Happens, Handles}
+use Rattle.port_loop.proofs.ListLaws.{after-append, everywhere, frames-append, other, same, told-append}
+use Rattle.port_loop.proofs.StepLaws.{Alike, alike-other, apart, full-other, goes-settled, opens, port_of, rests-alike, stands-alike, unused-other}
+
+-- something happened on a connection; what is to be shown is about that one
+pub goes-happens : {S : Type 0} {reply : Answer S} {step : Change S} {first : S} {since : Option (List ℕ)} {a b : Around S}
+    {w x : Work} {at bt : ℕ → Option Sess} {steps : List Step} (h : Happening)
+    → Follows reply step first (Happens h) steps
+    → taken_in (h ∷ happened steps) ≡ map record_of (handled_in steps) ++ x.pending
+    → b.state ≡ a.state → b.times ≡ a.times
+    → Stands reply step first (Happens h ∷ steps) (port_of h) (bt (port_of h))
+    → (is_busy x.busy (port_of h) ≡ false → Rests (Happens h ∷ steps) (port_of h) (bt (port_of h)))
+    → ((q : ℕ) → nat_eq (port_of h) q ≡ false → bt q ≡ at q)
+    → ((q : ℕ) → nat_eq (port_of h) q ≡ false → is_busy w.busy q ≡ false)
+    → ((q : ℕ) → b.opened ≤ q → Unused reply step first (Happens h ∷ steps) q)
+    → Goes reply step first since a w at steps → Goes reply step first since b x bt (Happens h ∷ steps)
+goes-happens {S} {reply} {step} {first} {since} {a} {b} {w} {x} {at} {bt} {steps} h follows records state same_times here rests
+    there free unused g = record {
+      lawful = (follows, g.lawful);
+      records = records;
+      state = state ∙ g.state;
+      times = subst (λ (t : Option (List ℕ)). Told since (times_of steps) t) (sym same_times) g.times;
+      each = λ q. everywhere (λ r. Stands reply step first (Happens h ∷ steps) r (bt r)) (port_of h) q here
+          (λ ne. subst (λ (o : Option Sess). Stands reply step first (Happens h ∷ steps) q o) (sym (there q ne))
+          (stands-alike (at q) (alike-other q h steps ne) (g.each q)));
+      rests = λ q. everywhere (λ r. is_busy x.busy r ≡ false → Rests (Happens h ∷ steps) r (bt r)) (port_of h) q rests
+          (λ ne idle. subst (λ (o : Option Sess). Rests (Happens h ∷ steps) q o) (sym (there q ne))
+          (rests-alike q (Happens h ∷ steps) steps (at q) (full-other q h steps ne) (g.rests q (free q ne))));
+      unused = unused;
+    }
+
+-- ---- what comes from outside
+
+pub goes-began : {S : Type 0} {reply : Answer S} {step : Change S} {first : S} {since : Option (List ℕ)} {a b : Around S}
+    {at bt : ℕ → Option Sess} {steps : List Step} (p : ℕ)
+    → p ≡ a.opened → b.opened ≡ a.opened + 1 → b.state ≡ a.state → b.times ≡ a.times → Sets p (Some new_session) at bt
+    → Goes reply step first since a calm at steps → Goes reply step first since b calm bt (Happens (Began p) ∷ steps)
+goes-began {S} {reply} {step} {first} {since} {a} {b} {at} {bt} {steps} p number opened state times sets g =
+    let u = g.unused p (omega (arith, number)) in
+    goes-happens (Began p) (goes-settled g, u.unknown) g.records state times
+    (subst (λ (o : Option Sess). Stands reply step first (Happens (Began p) ∷ steps) p o) (sym sets.here)
+    (rw (same p) refl, rw u.came (ap (λ (s : Split). s.begun) (split-nil fresh)), rw (u.frames, u.went) refl))
+    (λ idle. subst (λ (o : Option Sess). Rests (Happens (Began p) ∷ steps) p o) (sym sets.here)
+    (record { begun = (fresh, refl); bound = omega arith; all = λ e. refl }))
+    sets.there (λ q ne. refl)
+    (λ q above. unused-other q (Began p) steps (other p q (λ e. omega (arith, opened, above, number, e)))
+    (g.unused q (omega (arith, opened, above)))) g
+
+pub goes-ignored : {S : Type 0} {reply : Answer S} {step : Change S} {first : S} {since : Option (List ℕ)} {a b : Around S}
+    {at bt : ℕ → Option Sess} {steps : List Step} (p : ℕ) (bytes : List ℕ)
+    → at p ≡ None → p < a.opened → b.opened ≡ a.opened → b.state ≡ a.state → b.times ≡ a.times → Sets p None at bt
+    → Goes reply step first since a calm at steps → Goes reply step first since b calm bt (Happens (Came p bytes) ∷ steps)
+goes-ignored {S} {reply} {step} {first} {since} {a} {b} {at} {bt} {steps} p bytes none less opened state times sets g =
+    let shut : is_open p (happened steps) ≡ false =
+    subst (λ (o : Option Sess). Stands reply step first steps p o) none (g.each p) in
+    goes-happens (Came p bytes) (goes-settled g)
+    (rw shut (append-nil (taken_in (happened steps)) ∙ g.records)) state times
+    (subst (λ (o : Option Sess). Stands reply step first (Happens (Came p bytes) ∷ steps) p o) (sym sets.here) shut)
+    (λ idle. subst (λ (o : Option Sess). Rests (Happens (Came p bytes) ∷ steps) p o) (sym sets.here) tt)
+    sets.there (λ q ne. refl)
+    (λ q above. unused-other q (Came p bytes) steps (other p q (λ e. omega (arith, opened, above, less, e)))
+    (g.unused q (omega (arith, opened, above)))) g
+
+-- a piece is read, and its records are in hand
+pub goes-came : {S : Type 0} {reply : Answer S} {step : Change S} {first : S} {since : Option (List ℕ)} {a b : Around S}
+    {at bt : ℕ → Option Sess} {steps : List Step} (p : ℕ) (bytes : List ℕ) (records : List (List ℕ)) (s t : Sess)
+    → at p ≡ Some s → Reads bytes records s t → b.opened ≡ a.opened → b.state ≡ a.state → b.times ≡ a.times
+    → Sets p (Some t) at bt
+    → Goes reply step first since a calm at steps
+    → Goes reply step first since b (on p records) bt (Happens (Came p bytes) ∷ steps)
+goes-came {S} {reply} {step} {first} {since} {a} {b} {at} {bt} {steps} p bytes records s t is reads opened state times sets g =
+    let h : Stands reply step first steps p (Some s) = opens reply step first steps p s (at p) is (g.each p) in
+    let whole : whole_in (came_on p (happened steps)) bytes ≡ records =
+    ap (λ (x : Option Begun). (read_on x bytes).records) h.1 ∙ ap (λ (x : Split). x.records) reads.0 in
+    goes-happens (Came p bytes) (goes-settled g)
+    (rw (h.0, whole) (ap (λ (l : List Taken). l ++ map (taken_on p) records) (g.records ∙ append-nil _))) state times
+    (subst (λ (o : Option Sess). Stands reply step first (Happens (Came p bytes) ∷ steps) p o) (sym sets.here) (
+      h.0,
+      rw (same p, h.0) (ap (λ (x : Split). x.begun) (split-append fresh (came_on p (happened steps)) bytes)
+          ∙ ap (λ (x : Option Begun). (carried (split fresh (came_on p (happened steps))).records x bytes).begun) h.1
+          ∙ begun-carried (split fresh (came_on p (happened steps))).records s.begun bytes
+          ∙ ap (λ (x : Split). x.begun) reads.0),
+      rw reads.1 h.2,
+    ))
+    (λ idle. absurd (cc (sym idle ∙ same p)))
+    sets.there (λ q ne. refl)
+    (λ q above. let u = g.unused q (omega (arith, opened, above)) in
+    unused-other q (Came p bytes) steps (apart p q h.0 u) u) g
+  where
+    begun-carried : (rs : List (List ℕ)) (b : Option Begun) (bytes : List ℕ) →
+        (carried rs b bytes).begun ≡ (read_on b bytes).begun
+    begun-carried rs None bytes = refl
+    begun-carried rs (Some b) bytes = refl
+
+pub goes-drained : {S : Type 0} {reply : Answer S} {step : Change S} {first : S} {since : Option (List ℕ)} {a b : Around S}
+    {at : ℕ → Option Sess} {steps : List Step} (p : ℕ)
+    → b.opened ≡ a.opened → b.state ≡ a.state → b.times ≡ a.times
+    → Goes reply step first since a calm at steps
+    → Goes reply step first since b (on p []) at (Happens (Drained p) ∷ steps)
+goes-drained {S} {reply} {step} {first} {since} {a} {b} {at} {steps} p opened state times g =
+    let alike : Alike reply step first p (Happens (Drained p) ∷ steps) steps =
+    record { stays = refl; came = refl; went = refl; frames = refl } in
+    goes-happens (Drained p) (goes-settled g) g.records state times (stands-alike (at p) alike (g.each p))
+    (λ idle. absurd (cc (sym idle ∙ same p)))
+    (λ q ne. refl) (λ q ne. refl)
+    (λ q above. let u = g.unused q (omega (arith, opened, above)) in record {
+      unknown = u.unknown;
+      shut = u.shut;
+      came = u.came;
+      went = u.went;
+      empty = everywhere (λ r. is_full r (happened steps) ≡ false → is_full r (Drained p ∷ happened steps) ≡ false) p q
+          (λ e. rw (same p) refl) (λ ne e. rw ne e) u.empty;
+      frames = u.frames;
+    }) g
+
+shut-ended : (h : Happening) (p q : ℕ) (log : List Happening) → is_open p (h ∷ log) ≡ false
+    → (nat_eq p q ≡ false → is_open q (h ∷ log) ≡ is_open q log) → is_open q log ≡ false → is_open q (h ∷ log) ≡ false
+shut-ended h p q log here there shut =
+    everywhere (λ r. (nat_eq p r ≡ false → is_open r (h ∷ log) ≡ is_open r log) → is_open r log ≡ false → is_open r (h ∷ log)
+    ≡ false)
+    p q (λ t s. here) (λ ne t s. t ne ∙ s) there shut
+
+pub goes-ended : {S : Type 0} {reply : Answer S} {step : Change S} {first : S} {since : Option (List ℕ)} {a b : Around S}
+    {at bt : ℕ → Option Sess} {steps : List Step} (p : ℕ)
+    → b.opened ≡ a.opened → b.state ≡ a.state → b.times ≡ a.times → Sets p None at bt
+    → Goes reply step first since a calm at steps → Goes reply step first since b calm bt (Happens (Ended p) ∷ steps)
+goes-ended {S} {reply} {step} {first} {since} {a} {b} {at} {bt} {steps} p opened state times sets g =
+    goes-happens (Ended p) (goes-settled g) g.records state times
+    (subst (λ (o : Option Sess). Stands reply step first (Happens (Ended p) ∷ steps) p o) (sym sets.here) (rw (same p) refl))
+    (λ idle. subst (λ (o : Option Sess). Rests (Happens (Ended p) ∷ steps) p o) (sym sets.here) tt)
+    sets.there (λ q ne. refl)
+    (λ q above. let u = g.unused q (omega (arith, opened, above)) in record {
+      unknown = u.unknown;
+      shut = shut-ended (Ended p) p q (happened steps) (rw (same p) refl) (λ ne. rw ne refl) u.shut;
+      came = u.came;
+      went = u.went;
+      empty = u.empty;
+      frames = u.frames;
+    }) g
+
+-- ---- what the loop does
+
+pub goes-went : {S : Type 0} {reply : Answer S} {step : Change S} {first : S} {since : Option (List ℕ)} {a b : Around S}
+    {at bt : ℕ → Option Sess} {steps : List Step} (p n : ℕ) (full : Bool) (s t : Sess)
+    → at p ≡ Some s → t ≡ record s { unsent = drop n s.unsent } → b.opened ≡ a.opened → b.state ≡ a.state → b.times ≡ a.times
+    → Sets p (Some t) at bt
+    → Goes reply step first since a (on p []) at steps
+    → Goes reply step first since b (on p []) bt (Happens (Went p (take n s.unsent) full) ∷ steps)
+goes-went {S} {reply} {step} {first} {since} {a} {b} {at} {bt} {steps} p n full s t is is_t opened state times sets g =
+    let h : Stands reply step first steps p (Some s) = opens reply step first steps p s (at p) is (g.each p) in
+    goes-happens (Went p (take n s.unsent) full)
+    (h.0, drop n s.unsent, h.2 ∙ ap (λ (l : List ℕ). went_on p (happened steps) ++ l) (sym (take-append-drop n s.unsent)))
+    g.records state times
+    (subst (λ (o : Option Sess). Stands reply step first (Happens (Went p (take n s.unsent) full) ∷ steps) p o)
+    (sym (sets.here ∙ ap (λ (x : Sess). Some x) is_t)) (
+      h.0,
+      h.1,
+      rw (same p)
+          (h.2 ∙ ap (λ (l : List ℕ). went_on p (happened steps) ++ l) (sym (take-append-drop n s.unsent))
+          ∙ sym (append_assoc (went_on p (happened steps)) (take n s.unsent) (drop n s.unsent))),
+    ))
+    (λ idle. absurd (cc (sym idle ∙ same p)))
+    sets.there (λ q ne. ne)
+    (λ q above. let u = g.unused q (omega (arith, opened, above)) in
+    unused-other q (Went p (take n s.unsent) full) steps (apart p q h.0 u) u) g
+
+pub goes-failed : {S : Type 0} {reply : Answer S} {step : Change S} {first : S} {since : Option (List ℕ)} {a b : Around S}
+    {at : ℕ → Option Sess} {steps : List Step} (p : ℕ) (s : Sess)
+    → at p ≡ Some s → b.opened ≡ a.opened → b.state ≡ a.state → b.times ≡ a.times
+    → Goes reply step first since a (on p []) at steps
+    → Goes reply step first since b (on p []) at (Happens (Failed p) ∷ steps)
+goes-failed {S} {reply} {step} {first} {since} {a} {b} {at} {steps} p s is opened state times g =
+    let h : Stands reply step first steps p (Some s) = opens reply step first steps p s (at p) is (g.each p) in
+    let alike : Alike reply step first p (Happens (Failed p) ∷ steps) steps =
+    record { stays = refl; came = refl; went = refl; frames = refl } in
+    goes-happens (Failed p) h.0 g.records state times (stands-alike (at p) alike (g.each p))
+    (λ idle. absurd (cc (sym idle ∙ same p)))
+    (λ q ne. refl) (λ q ne. ne)
+    (λ q above. let u = g.unused q (omega (arith, opened, above)) in
+    unused-other q (Failed p) steps (apart p q h.0 u) u) g
+
+pub goes-closed : {S : Type 0} {reply : Answer S} {step : Change S} {first : S} {since : Option (List ℕ)} {a b : Around S}
+    {at bt : ℕ → Option Sess} {steps : List Step} (p : ℕ)
+    → HasEnd reply step first p steps → b.opened ≡ a.opened → b.state ≡ a.state → b.times ≡ a.times → Sets p None at bt
+    → Goes reply step first since a (on p []) at steps
+    → Goes reply step first since b calm bt (Happens (Closed p) ∷ steps)
+goes-closed {S} {reply} {step} {first} {since} {a} {b} {at} {bt} {steps} p ends opened state times sets g =
+    goes-happens (Closed p) ends g.records state times
+    (subst (λ (o : Option Sess). Stands reply step first (Happens (Closed p) ∷ steps) p o) (sym sets.here) (rw (same p) refl))
+    (λ idle. subst (λ (o : Option Sess). Rests (Happens (Closed p) ∷ steps) p o) (sym sets.here) tt)
+    sets.there (λ q ne. ne)
+    (λ q above. let u = g.unused q (omega (arith, opened, above)) in record {
+      unknown = u.unknown;
+      shut = shut-ended (Closed p) p q (happened steps) (rw (same p) refl) (λ ne. rw ne refl) u.shut;
+      came = u.came;
+      went = u.went;
+      empty = u.empty;
+      frames = u.frames;
+    }) g
+
+-- nothing is to be done for it any more
+pub goes-rests : {S : Type 0} {reply : Answer S} {step : Change S} {first : S} {since : Option (List ℕ)} {a : Around S}
+    {at bt : ℕ → Option Sess} {steps : List Step} (p : ℕ)
+    → Rests steps p (at p) → ((q : ℕ) → bt q ≡ at q)
+    → Goes reply step first since a (on p []) at steps → Goes reply step first since a calm bt steps
+goes-rests {S} {reply} {step} {first} {since} {a} {at} {bt} {steps} p rests alike g = record {
+  lawful = g.lawful;
+  records = g.records;
+  state = g.state;
+  times = g.times;
+  each = λ q. subst (λ (o : Option Sess). Stands reply step first steps q o) (sym (alike q)) (g.each q);
+  rests = λ q idle. subst (λ (o : Option Sess). Rests steps q o) (sym (alike q))
+      (everywhere (λ r. Rests steps r (at r)) p q rests (λ ne. g.rests q ne));
+  unused = g.unused;
+}
+
+-- nothing happened on any connection
+pub goes-passed : {S : Type 0} {reply : Answer S} {step : Change S} {first : S} {since : Option (List ℕ)} {a b : Around S}
+    {at : ℕ → Option Sess} {steps : List Step}
+    → b.opened ≡ a.opened → b.state ≡ a.state → b.times ≡ a.times
+    → Goes reply step first since a calm at steps → Goes reply step first since b calm at (Happens Passed ∷ steps)
+goes-passed {S} {reply} {step} {first} {since} {a} {b} {at} {steps} opened state times g =
+    let alike : (q : ℕ) → Alike reply step first q (Happens Passed ∷ steps) steps =
+    λ q. record { stays = refl; came = refl; went = refl; frames = refl } in record {
+      lawful = (goes-settled g, g.lawful);
+      records = g.records;
+      state = state ∙ g.state;
+      times = subst (λ (t : Option (List ℕ)). Told since (times_of steps) t) (sym times) g.times;
+      each = λ q. stands-alike (at q) (alike q) (g.each q);
+      rests = λ q idle. rests-alike q (Happens Passed ∷ steps) steps (at q) refl (g.rests q idle);
+      unused = λ q above. let u = g.unused q (omega (arith, opened, above)) in record {
+        unknown = u.unknown;
+        shut = u.shut;
+        came = u.came;
+        went = u.went;
+        empty = u.empty;
+        frames = u.frames;
+      };
+    }
+
+-- the call failed
+pub goes-on : {S : Type 0} {reply : Answer S} {step : Change S} {first : S} {since : Option (List ℕ)} {a b : Around S} {w : Work}
+    {at : ℕ → Option Sess} {steps : List Step}
+    → b.opened ≡ a.opened → b.state ≡ a.state → b.times ≡ a.times
+    → Goes reply step first since a w at steps → Goes reply step first since b w at steps
+goes-on {S} {reply} {step} {first} {since} {a} {b} {w} {at} {steps} opened state times g = record {
+  lawful = g.lawful;
+  records = g.records;
+  state = state ∙ g.state;
+  times = subst (λ (t : Option (List ℕ)). Told since (times_of steps) t) (sym times) g.times;
+  each = g.each;
+  rests = g.rests;
+  unused = λ q above. g.unused q (omega (arith, opened, above));
+}
+
+-- the sessions are the same
+pub goes-at : {S : Type 0} {reply : Answer S} {step : Change S} {first : S} {since : Option (List ℕ)} {a : Around S} {w : Work}
+    {at bt : ℕ → Option Sess} {steps : List Step}
+    → ((q : ℕ) → bt q ≡ at q)
+    → Goes reply step first since a w at steps → Goes reply step first since a w bt steps
+goes-at {S} {reply} {step} {first} {since} {a} {w} {at} {bt} {steps} alike g = record {
+  lawful = g.lawful;
+  records = g.records;
+  state = g.state;
+  times = g.times;
+  each = λ q. subst (λ (o : Option Sess). Stands reply step first steps q o) (sym (alike q)) (g.each q);
+  rests = λ q idle. subst (λ (o : Option Sess). Rests steps q o) (sym (alike q)) (g.rests q idle);
+  unused = g.unused;
+}
+
+-- ---- a record is handled
+
+frame-one : {S : Type 0} (reply : Answer S) (step : Change S) (p : ℕ) (d : S) (time : ℕ) (message : List ℕ)
+    → frames_on reply step p d (record { port = p; time = time; message = message } ∷ []) ≡ framed (reply d time message)
+frame-one reply step p d time message = rw (same p) (append-nil (framed (reply d time message)))
+
+-- what is owed on other connections stays
+handles-other : {S : Type 0} (reply : Answer S) (step : Change S) (first : S) (q : ℕ) (h : Handled) (steps : List Step)
+    → nat_eq h.port q ≡ false → Alike reply step first q (Handles h ∷ steps) steps
+handles-other reply step first q h steps ne = record {
+  stays = refl;
+  came = refl;
+  went = refl;
+  frames = frames-append reply step q first (handled_in steps) (h ∷ [])
+      ∙ rw ne (append-nil (frames_on reply step q first (handled_in steps)));
+}
+
+pub goes-handles : {S : Type 0} {reply : Answer S} {step : Change S} {first : S} {since : Option (List ℕ)} {a b : Around S}
+    {at bt : ℕ → Option Sess} {steps : List Step} (p time : ℕ) (message : List ℕ) (rest : List (List ℕ)) (s t : Sess)
+    → at p ≡ Some s → t ≡ record s { unsent = s.unsent ++ framed (reply a.state time message) }
+    → b.opened ≡ a.opened → b.state ≡ step a.state time message → TellsTime a.times b.times time → Sets p (Some t) at bt
+    → Goes reply step first since a (on p (message ∷ rest)) at steps
+    → Goes reply step first since b (on p rest) bt
+    (Handles (record { port = p; time = time; message = message }) ∷ steps)
+goes-handles {S} {reply} {step} {first} {since} {a} {b} {at} {bt} {steps} p time message rest s t is is_t opened state tells sets
+    g =
+    let h : Handled = record { port = p; time = time; message = message } in
+    let open_p : Stands reply step first steps p (Some s) = opens reply step first steps p s (at p) is (g.each p) in record {
+      lawful = ((map (taken_on p) rest, g.records), g.lawful);
+      records = g.records
+          ∙ sym (append_assoc (map record_of (handled_in steps)) (taken_on p message ∷ []) (map (taken_on p) rest))
+          ∙ ap (λ (l : List Taken). l ++ map (taken_on p) rest) (sym (map-append record_of (handled_in steps) (h ∷ [])));
+      state = state ∙ ap (λ (d : S). step d time message) g.state ∙ sym (after-append step first (handled_in steps) (h ∷ []));
+      times = subst (λ (ts : List ℕ). Told since ts b.times)
+          (sym (map-append (λ (k : Handled). k.time) (handled_in steps) (h ∷ [])))
+          (told-append since a.times b.times (times_of steps) (time ∷ []) g.times (b.times, tells, refl));
+      each = λ q. everywhere (λ r. Stands reply step first (Handles h ∷ steps) r (bt r)) p q
+          (subst (λ (o : Option Sess). Stands reply step first (Handles h ∷ steps) p o)
+          (sym (sets.here ∙ ap (λ (x : Sess). Some x) is_t)) (
+            open_p.0,
+            open_p.1,
+            frames-append reply step p first (handled_in steps) (h ∷ [])
+                ∙ ap (λ (l : List ℕ). l ++ frames_on reply step p (after_all step first (handled_in steps)) (h ∷ [])) open_p.2
+                ∙ append_assoc (went_on p (happened steps)) s.unsent
+                (frames_on reply step p (after_all step first (handled_in steps)) (h ∷ []))
+                ∙ ap (λ (l : List ℕ). went_on p (happened steps) ++ (s.unsent ++ l))
+                (frame-one reply step p (after_all step first (handled_in steps)) time message
+                ∙ ap (λ (d : S). framed (reply d time message)) (sym g.state)),
+          ))
+          (λ ne. subst (λ (o : Option Sess). Stands reply step first (Handles h ∷ steps) q o) (sym (sets.there q ne))
+          (stands-alike (at q) (handles-other reply step first q h steps ne) (g.each q)));
+      rests = λ q ne. subst (λ (o : Option Sess). Rests (Handles h ∷ steps) q o) (sym (sets.there q ne))
+          (rests-alike q (Handles h ∷ steps) steps (at q) refl (g.rests q ne));
+      unused = λ q above.
+          let u = g.unused q (omega (arith, opened, above)) in
+          let ne = apart p q open_p.0 u in record {
+            unknown = u.unknown;
+            shut = u.shut;
+            came = u.came;
+            went = u.went;
+            empty = u.empty;
+            frames = frames-append reply step q first (handled_in steps) (h ∷ []) ∙ rw (u.frames, ne) refl;
+          };
+    }

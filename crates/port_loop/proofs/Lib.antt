@@ -1,0 +1,6 @@
+mod ListLaws
+mod StepLaws
+mod GoingLaws
+mod LeavingLaws
+mod TurnLaws
+mod PieceLaws

@@ -1,0 +1,94 @@
+ghost use Rattle.std.specs.Prelude.{◌≡◌, ℕ, List, Option};
+ghost use Rattle.osd_bytes.specs.Causes.{HasCause};
+ghost use Rattle.port_loop.specs.Ports.{Adds, Arrives, PutsOn};
+ghost use Rattle.port_loop.specs.declared.ports.Happening.{Happening};
+ghost use Rattle.port_loop.specs.declared.ports.Happening.TheVariants.{Closed};
+
+use osd_bytes::{Bytes, Fault};
+
+/// What happened next on some connection.
+#[derive(Clone, Copy)]
+pub enum Arrival {
+    /// A connection is open now, under this number.
+    Opens { port: u64 },
+    /// So many bytes came on it, and are at the front of the buffer.
+    Brings { port: u64, count: usize },
+    /// There is room on it again.
+    Drains { port: u64 },
+    /// It is at its end: its peer hung up, it failed, or it was silent too long.
+    Closes { port: u64 },
+    /// Nothing happened for a while.
+    Quiet,
+}
+
+/// What happened on a connection, or on none.
+#[derive(Drop)]
+pub enum Happening {
+    /// It began.
+    Began {
+        port: u64,
+    },
+    /// Bytes came on it.
+    Came {
+        port: u64,
+        bytes: Bytes,
+    },
+    /// Bytes were put on it, and it was full then, or not.
+    Went {
+        port: u64,
+        bytes: Bytes,
+        is_full: bool,
+    },
+    /// A put on it failed.
+    Failed {
+        port: u64,
+    },
+    /// There was room on it again.
+    Drained {
+        port: u64,
+    },
+    /// It ended by itself.
+    Ended {
+        port: u64,
+    },
+    /// It was closed from here.
+    Closed {
+        port: u64,
+    },
+    /// Nothing happened on any connection for a while.
+    Passed,
+}
+
+/// Connections that stand side by side, each under a number of its own, which is never used again.
+///
+/// No call waits for one peer: `next` waits for all of them, and `put` leaves what there is no room for. A connection on
+/// which a `put` didn't take all is full until it drains.
+///
+/// The count of calls that failed never falls, and stays at its greatest number. A [`Fault`] comes only if it rose.
+pub trait Ports {
+    /// How many connections were opened.
+    ghost opened: { Self → ℕ };
+
+    /// How many calls failed.
+    ghost faults: { Self → ℕ };
+
+    /// What happened on the connections, the newest first, if the ports tell that. They may cease to.
+    ghost told: { Self → Option (List Happening) };
+
+    /// Waits for what happens next on any connection, at most for a while. The buffer isn't empty.
+    fn next(&mut self, buf: &mut [u8]) -> Result<Arrival, Fault>
+        ensures arrives { Arrives (opened self.old) (opened self.new) (told self.old) (told self.new) result buf.new }
+        ensures cause { HasCause (faults self.old) (faults self.new) result };
+
+    /// Puts bytes on a connection, from the front, as many as there is room for; perhaps none.
+    fn put(&mut self, port: u64, bytes: &[u8]) -> Result<usize, Fault>
+        ensures puts { PutsOn port (told self.old) (told self.new) result bytes.now }
+        ensures opened { opened self.new ≡ opened self.old }
+        ensures cause { HasCause (faults self.old) (faults self.new) result };
+
+    /// Closes a connection. It never fails.
+    fn close(&mut self, port: u64)
+        ensures told { Adds (Closed port) (told self.old) (told self.new) }
+        ensures opened { opened self.new ≡ opened self.old }
+        ensures same { faults self.new ≡ faults self.old };
+}
