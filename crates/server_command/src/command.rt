@@ -1,4 +1,6 @@
 ghost use Rattle.std.specs.Prelude.{◌≡◌, IfErr, OnOk};
+ghost use Rattle.osd_bytes.specs.Reading.{TakesAtMost};
+ghost use Rattle.osd_bytes.specs.declared.lines.TheConstants.{MAX_READ};
 ghost use Rattle.cluster_text.specs.Outside.{network_at, streams_at};
 ghost use Rattle.server_command.specs.Ends.{EndsServer, ServesAs, ServesIn, StopsIn, StopsServer};
 
@@ -73,6 +75,7 @@ fn serve_cluster<S: Source, K: Sink, L: Links, C: Clock, P: Place>(
     ensures stops { IfErr result (StopsServer connections
         (streams_at S.Source K.Sink source.old sink.old) (streams_at S.Source K.Sink source.new sink.new)
         (network_at L.Links C.Clock links.old clock.old) (network_at L.Links C.Clock links.new clock.new)) }
+    ensures input { TakesAtMost MAX_READ (S.left source.old) (S.left source.new) }
 {
     let cluster = match cluster_from(alloc, Reader::Server, source) {
         Ok(cluster) => cluster,
@@ -111,6 +114,7 @@ pub fn server_command<S: Source, K: Sink, L: Links, C: Clock, P: Place>(
     ensures stops { IfErr result (EndsServer connections
         (streams_at S.Source K.Sink source.old sink.old) (streams_at S.Source K.Sink source.new sink.new)
         (network_at L.Links C.Clock links.old clock.old) (network_at L.Links C.Clock links.new clock.new)) }
+    ensures input { TakesAtMost MAX_READ (S.left source.old) (S.left source.new) }
 {
     match serve_cluster(alloc, connections, source, sink, links, clock, placer) {
         Ok(()) => Ok(()),

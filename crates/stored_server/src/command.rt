@@ -1,5 +1,7 @@
 // The command of a metadata server with a store.
 ghost use Rattle.std.specs.Prelude.{◌≡◌, IfErr, IfOk};
+ghost use Rattle.osd_bytes.specs.Reading.{TakesAtMost};
+ghost use Rattle.osd_bytes.specs.declared.lines.TheConstants.{MAX_READ};
 ghost use Rattle.cluster_text.specs.Outside.{network_at, streams_at};
 ghost use Rattle.server_command.proofs.Described.{IsSound};
 ghost use Rattle.stored_server.specs.Ends.{EndsStored, ServesStoredAs, StopsStoredServer};
@@ -79,6 +81,7 @@ fn serve_stored_cluster<S: Source, K: Sink, L: Links, C: Clock, D: Disk, P: Plac
     ensures stops { IfErr result (λ e. StopsStoredServer D.Disk connections
         (streams_at S.Source K.Sink source.old sink.old) (streams_at S.Source K.Sink source.new sink.new)
         (network_at L.Links C.Clock links.old clock.old) (network_at L.Links C.Clock links.new clock.new) disk e.1 e.0) }
+    ensures input { TakesAtMost MAX_READ (S.left source.old) (S.left source.new) }
 {
     let cluster = match cluster_from(alloc, Reader::Server, source) {
         Ok(cluster) => cluster,
@@ -134,6 +137,7 @@ pub fn stored_server_command<S: Source, K: Sink, L: Links, C: Clock, D: Disk, P:
     ensures stops { IfErr result (λ e. EndsStored D.Disk connections
         (streams_at S.Source K.Sink source.old sink.old) (streams_at S.Source K.Sink source.new sink.new)
         (network_at L.Links C.Clock links.old clock.old) (network_at L.Links C.Clock links.new clock.new) disk e.1 e.0) }
+    ensures input { TakesAtMost MAX_READ (S.left source.old) (S.left source.new) }
 {
     match serve_stored_cluster(
         alloc,
