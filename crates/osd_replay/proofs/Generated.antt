@@ -1,7 +1,7 @@
 -- Events that are made one after another.
 use Rattle.std.proofs.Common.{◌≡◌, ℕ, suc, ◌+◌, ◌-◌, ◌<◌, List, [], ◌∷◌, ◌++◌, refl, sym, ap, ◌∙◌, append_assoc, arith}
 use Rattle.scenario_text.specs.declared.event.Event.{Event}
-use Rattle.osd_replay.specs.Generator.{calls_from, call_event, next_random}
+use Rattle.generate_law.specs.Scenario.{calls_from, call_event, next_random}
 
 next_call : (n k x m : ℕ) → n ≡ suc m → calls_from n k x ≡ call_event k x ∷ calls_from m (k + 1) (next_random x)
 next_call n k x m e = rw e refl

@@ -4,8 +4,10 @@ pub mod Written
 pub mod Counting
 pub mod SoFar
 pub mod Promised
+pub mod Completing
 pub mod Inspecting
 pub mod Stopping
 pub mod Generated
 pub mod Making
 pub mod Placed
+pub mod ShownBytes

@@ -7,7 +7,7 @@ use Rattle.scenario_text.specs.declared.event.Event.{Event}
 use Rattle.scenario_text.specs.declared.line.Line.{Line}
 use Rattle.scenario_text.specs.declared.line.Line.TheVariants.{Last}
 use Rattle.scenario_text.specs.LineSpelling.{lines_text}
-use Rattle.world_history.specs.State.{empty_world}
+use Rattle.world_history.specs.State.{World, empty_world}
 use Rattle.world_history.specs.declared.summary.Summary.{Summary}
 use Rattle.scenario_text.specs.Spelling.{Fits}
 use Rattle.scenario_text.proofs.Histories.{lines_text_more}
@@ -18,7 +18,11 @@ use Rattle.osd_replay.specs.Ends.{Ends, PutsError}
 use Rattle.osd_replay.specs.Puts.{Puts}
 use Rattle.osd_replay.specs.Stops.{error_of, status_of}
 use Rattle.osd_replay.specs.Generate.{Made, FillsBehind, StopsBehind, StopsAmong, ComesTo, IsDone, IsWriteFault, Promises, result_text}
-use Rattle.osd_replay.specs.Generator.{scenario_of}
+use Rattle.generate_law.specs.Plays.{Plays, NoneIsRefused}
+use Rattle.generate_law.specs.Scenario.{scenario_of}
+use Rattle.generate_law.proofs.Counting.{scenario_has_counts}
+use Rattle.generate_law.proofs.Refusing.{scenario_is_unguessed}
+use Rattle.osd_replay.specs.Transcript.{Tells}
 use Rattle.osd_replay.specs.LineCarried.{CarriesEvent, CarriesBy, StopsEvent, StopsIn}
 use Rattle.osd_replay.specs.declared.carry_out.Carried.{Carried}
 use Rattle.osd_replay.specs.declared.generate.Digested.{Digested}
@@ -40,7 +44,7 @@ made_by front e old new text false whole may m by holds = record {
   world = by.world;
   history = m.history ++ by.lines;
   shows = by.shows;
-  tells = tells_more front m.world by.world m.history by.lines e m.tells by.carries by.fits;
+  tells = tells_more front m.world by.world m.history by.lines e m.tells by.carries by.fits by.carried;
   watches = by.watches m.history m.tells.stands (event_written e may) m.watches;
   holds = subst (λ (x : List ℕ). Holds new.digest x)
       (sym (lines_text_more m.history by.lines ∙ ap (λ (x : List ℕ). lines_text m.history ++ x) (sym by.text_is)))
@@ -90,6 +94,10 @@ pub made_none : (d : Digested) → Shows d.world.parties empty_world → Watches
 made_none d shows watches holds =
     record { world = empty_world; history = []; shows = shows; tells = tells_none; watches = watches; holds = holds }
 
+-- so they are played
+plays_it : {events : List Event} → {w : World} → {h : List Line} → Tells events w h → Plays events w h
+plays_it {events} {w} {h} t = record { stands = t.stands; events_are = t.events_are }
+
 pub comes_to : HistoriesAreSound → (seed calls : ℕ) (events : List Event) (d : Digested) (text : List ℕ) →
     events ≡ scenario_of seed calls → Made events d
     → ((h : List Line) → Holds d.digest (lines_text h) →
@@ -108,6 +116,8 @@ comes_to law seed calls events d text is m told =
         few = told_few law (scenario_of seed calls) here.world here.history here.tells;
         last = Last d.world.watch.moments.calm d.world.watch.guesses.unguessed;
         ends = last_said d.world here.history here.watches;
+        counted = scenario_has_counts seed calls here.world here.history (plays_it here.tells);
+        clean = scenario_is_unguessed seed calls here.world here.history (plays_it here.tells);
       };
       text_is =
           told here.history here.holds
@@ -135,13 +145,15 @@ only_error : (b a : Ends) (error : List ℕ) (whole : Bool) → Puts b.taken a.t
     PutsError b a [] error
 only_error b a error whole put = tells b a b.taken [] error b.writes_failed whole (appends_none b.taken) put refl
 
-pub not_made : (seed calls : ℕ) (b a : Ends) (stop : Stop) (whole : Bool) → StopsAmong (scenario_of seed calls) stop →
+pub not_made : NoneIsRefused → (seed calls : ℕ) (b a : Ends) (stop : Stop) (whole : Bool) →
+    StopsAmong (scenario_of seed calls) stop →
     Puts b.taken a.taken b.writes_failed a.writes_failed (error_of stop 0) whole → Promises seed calls b a (status_of stop 0)
-not_made seed calls b a (Refused kind) whole h put =
-    record { number_is = refl; stopped = record { at = h; puts = only_error b a _ whole put } }
-not_made seed calls b a Read whole h put = absurd h.stops
-not_made seed calls b a Memory whole h put = record { puts = only_error b a _ whole put }
-not_made seed calls b a (Full quantity) whole h put = record { at = h; puts = only_error b a _ whole put }
+not_made none seed calls b a (Refused kind) whole h put =
+    absurd (cc (sym (none seed calls h.events h.next h.rest h.stops.world h.stops.history h.all_are (plays_it h.stops.tells))
+    ∙ h.stops.refused))
+not_made none seed calls b a Read whole h put = absurd h.stops
+not_made none seed calls b a Memory whole h put = record { puts = only_error b a _ whole put }
+not_made none seed calls b a (Full quantity) whole h put = record { at = h; puts = only_error b a _ whole put }
 
 -- ---- pieces of text
 

@@ -34,7 +34,7 @@ use Rattle.osd_replay.specs.declared.status.Status.{Status}
 use Rattle.osd_replay.specs.declared.status.Status.TheVariants.{Done, BadWords, BadScenario, ReadFault, WriteFault, Memory, Full as IsFull}
 use Rattle.osd_replay.specs.declared.stop.Stop.{Stop}
 use Rattle.osd_replay.specs.declared.stop.Stop.TheVariants.{Refused, Read, Memory as WantsMemory, Full as StopsFull}
-use Rattle.osd_replay.proofs.Telling.{told_sound, told_text, told_few, tells_none, tells_more}
+use Rattle.osd_replay.proofs.Telling.{told_sound, told_text, told_few, carried_on, tells_none, tells_more}
 use Rattle.exchange_law.proofs.CountWorlds.{event_written}
 use Rattle.osd_replay.proofs.Written.{fit_more, events_fit}
 use Rattle.osd_replay.proofs.SoFar.{SoFar, Reached, events_more, reached_more, reached_none, appends_none}
@@ -267,6 +267,7 @@ cuts_next b now next taken more middle number old new line carried s y t c cut =
   text = s.law.cuts.text s.world s.history cut.lines c.event cut.fills
       (told_text s.law s.events s.world s.history s.tells (events_fit s.lines s.events s.spelled)) c.fits;
   few = s.law.cuts.few s.world s.history cut.lines c.event s.tells.stands cut.fills;
+  carried = carried_on s.history cut.lines s.tells.carried cut.carried;
 }
 
 -- the sink fails in the lines of an event
@@ -284,7 +285,7 @@ part_by b a now next taken more middle number upto old new line carried true s y
     refl (rw cut.text_is at short) s.out (rw cut.text_is at out) rose
 part_by b a now next taken more middle number upto old new line carried false s y t c by short out rose =
     let told : Tells (s.events ++ c.event ∷ []) by.world (s.history ++ by.lines) =
-    tells_more s.events s.world by.world s.history by.lines c.event s.tells by.carries by.fits in
+    tells_more s.events s.world by.world s.history by.lines c.event s.tells by.carries by.fits by.carried in
     let go : Runs b.left (s.lines ++ line ∷ []) by.world (s.history ++ by.lines) = record {
       begins = begins b.left (s.lines ++ line ∷ []) more next
           (reached_more b.left now next s.lines line taken more s.reached y t);

@@ -88,7 +88,7 @@ spells_more lines events w h line old new carried false whole spelled tells watc
   world_after = by.world;
   history_after = h ++ by.lines;
   spelled = events_more lines events line (c.event ∷ []) spelled (inr (c.event, [], refl, c.fits, c.spells, refl));
-  tells = tells_more events w by.world h by.lines c.event tells by.carries by.fits;
+  tells = tells_more events w by.world h by.lines c.event tells by.carries by.fits by.carried;
   shows = by.shows;
   watches = by.watches h tells.stands (event_written c.event c.fits) watches;
   text_is = lines_text_more h by.lines ∙ ap (λ (x : List ℕ). lines_text h ++ x) (sym by.text_is);

@@ -1,5 +1,5 @@
 -- What carrying out an event gives is what carrying out its line gives.
-use Rattle.std.proofs.Common.{◌≡◌, ℕ, Bool, true, false, List, [], Some, Result, Ok, Err, IfErr, IfOk, OnOk, ap, ◌∙◌, inr}
+use Rattle.std.proofs.Common.{◌≡◌, ℕ, Bool, true, false, List, [], Some, Result, Ok, Err, IfErr, IfOk, OnOk, ap, subst, ◌∙◌, inr}
 use Rattle.scenario_text.specs.declared.event.Event.{Event}
 use Rattle.scenario_text.specs.declared.line.Line.{Line}
 use Rattle.scenario_text.specs.LineSpelling.{lines_text}
@@ -8,6 +8,7 @@ use Rattle.world_history.specs.declared.err.WorldErr.{WorldErr}
 use Rattle.world_history.specs.declared.err.WorldErr.TheVariants as why
 use Rattle.world_history.specs.State.{World}
 use Rattle.world_history.specs.Refusals.{refusal}
+use Rattle.history_claims.specs.Carried.{AreCarried}
 use Rattle.layout_world.specs.State.{WorldState, Shows}
 use Rattle.layout_world.specs.Steps.{StepsAs}
 use Rattle.layout_world.specs.Watching.{WatchesOn}
@@ -21,10 +22,10 @@ use Rattle.osd_replay.specs.declared.stop.Stop.TheVariants.{Refused, Read, Memor
 
 pub carried_by : (e : Event) (lines : List Line) (old new : WorldState) (r : Result (Unit {0}) WorldErr) (is_full : Bool)
     (text : List ℕ) (w : World) → StepsAs e [] lines old new r → OnOk r (WatchesOn e [] lines old new) →
-    step_gives r ≡ Ok is_full → text ≡ lines_text lines
+    step_gives r ≡ Ok is_full → text ≡ lines_text lines → AreCarried lines
     → Shows old.parties w → CarriesBy w e old new text is_full
-carried_by e lines old new (Ok u) true text w steps on full is shows = absurd (cc full)
-carried_by e lines old new (Ok u) false text w steps on full is shows =
+carried_by e lines old new (Ok u) true text w steps on full is carried shows = absurd (cc full)
+carried_by e lines old new (Ok u) false text w steps on full is carried shows =
     let s = steps w shows in
     record {
       lines = s.goes.lines;
@@ -35,20 +36,27 @@ carried_by e lines old new (Ok u) false text w steps on full is shows =
       watches =
           λ h st may k. on w h s.goes.lines shows st s.goes.appended may k;
       text_is = is ∙ ap lines_text s.goes.appended;
+      carried = subst AreCarried s.goes.appended carried;
     }
-carried_by e lines old new (Err why.KeptFull) false text w steps on full is shows = absurd (cc full)
-carried_by e lines old new (Err why.KeptFull) true text w steps on full is shows =
+carried_by e lines old new (Err why.KeptFull) false text w steps on full is carried shows = absurd (cc full)
+carried_by e lines old new (Err why.KeptFull) true text w steps on full is carried shows =
     let s = steps w shows in
-    record { lines = s.lines; fills = s.fills; lawful = s.lawful; text_is = is ∙ ap lines_text s.appended }
-carried_by e lines old new (Err why.Memory) is_full text w steps on full is shows = absurd (cc full)
-carried_by e lines old new (Err why.NoName) is_full text w steps on full is shows = absurd (cc full)
-carried_by e lines old new (Err why.Taken) is_full text w steps on full is shows = absurd (cc full)
-carried_by e lines old new (Err why.Dead) is_full text w steps on full is shows = absurd (cc full)
-carried_by e lines old new (Err why.Alive) is_full text w steps on full is shows = absurd (cc full)
-carried_by e lines old new (Err why.NotKept) is_full text w steps on full is shows = absurd (cc full)
-carried_by e lines old new (Err why.Down) is_full text w steps on full is shows = absurd (cc full)
-carried_by e lines old new (Err why.Running) is_full text w steps on full is shows = absurd (cc full)
-carried_by e lines old new (Err (why.NoMessage n)) is_full text w steps on full is shows = absurd (cc full)
+    record {
+      lines = s.lines;
+      fills = s.fills;
+      lawful = s.lawful;
+      text_is = is ∙ ap lines_text s.appended;
+      carried = subst AreCarried s.appended carried;
+    }
+carried_by e lines old new (Err why.Memory) is_full text w steps on full is carried shows = absurd (cc full)
+carried_by e lines old new (Err why.NoName) is_full text w steps on full is carried shows = absurd (cc full)
+carried_by e lines old new (Err why.Taken) is_full text w steps on full is carried shows = absurd (cc full)
+carried_by e lines old new (Err why.Dead) is_full text w steps on full is carried shows = absurd (cc full)
+carried_by e lines old new (Err why.Alive) is_full text w steps on full is carried shows = absurd (cc full)
+carried_by e lines old new (Err why.NotKept) is_full text w steps on full is carried shows = absurd (cc full)
+carried_by e lines old new (Err why.Down) is_full text w steps on full is carried shows = absurd (cc full)
+carried_by e lines old new (Err why.Running) is_full text w steps on full is carried shows = absurd (cc full)
+carried_by e lines old new (Err (why.NoMessage n)) is_full text w steps on full is carried shows = absurd (cc full)
 
 refused_in : (w : World) (e : Event) (cause : WorldErr) (stop : Stop) → refusal w e ≡ Some cause →
     Refused (WorldKind cause) ≡ stop → StopsIn w e stop

@@ -6,11 +6,12 @@ use Rattle.scenario_text.specs.declared.line.Line.{Line}
 use Rattle.scenario_text.specs.declared.line.Line.TheVariants.{Last}
 use Rattle.world_history.specs.State.{World, empty_world}
 use Rattle.world_history.specs.Runs.{Carries}
-use Rattle.world_history.specs.History.{Step, AreCarried, end_of, lines_of_steps}
+use Rattle.world_history.specs.History.{Step, end_of, lines_of_steps}
 use Rattle.world_history.specs.History.Begins.{Nothing}
 use Rattle.world_history.specs.Calm.{calm}
 use Rattle.calm_law.specs.Watching.{WatchesAll}
 use Rattle.layout_world.specs.State.{WorldState}
+use Rattle.history_claims.specs.Carried.{AreCarried}
 use Rattle.history_claims.specs.Sound.{IsSound, HistoriesAreSound}
 use Rattle.osd_replay.specs.Transcript.{Tells, EndsWith}
 use Rattle.exchange_law.specs.Text.{AreOfText, AreFew}
@@ -47,18 +48,24 @@ told_text law events w h t fit = law.text w h t.stands (subst EventsFit (sym t.e
 pub told_few : HistoriesAreSound → (events : List Event) (w : World) (h : List Line) → Tells events w h → AreFew h
 told_few law events w h t = law.few w h t.stands t.fits
 
+-- messages are of bytes in further lines, too
+pub carried_on : (xs ys : List Line) → AreCarried xs → AreCarried ys → AreCarried (xs ++ ys)
+carried_on [] ys p q = q
+carried_on (x ∷ xs) ys p q = (p.0, carried_on xs ys p.1 q)
+
 -- nothing was carried out
 pub tells_none : Tells [] empty_world []
 tells_none = record {
   stands = record { steps = []; carried = tt; world_is = refl; lines_are = refl };
   fits = omega arith;
   events_are = refl;
+  carried = tt;
 }
 
 -- one event more
 pub tells_more : (events : List Event) (w w' : World) (h lines : List Line) (e : Event) → Tells events w h
-    → Carries w e lines w' → w'.network.kept ≤ MAX_KEPT → Tells (events ++ e ∷ []) w' (h ++ lines)
-tells_more events w w' h lines e t c kept =
+    → Carries w e lines w' → w'.network.kept ≤ MAX_KEPT → AreCarried lines → Tells (events ++ e ∷ []) w' (h ++ lines)
+tells_more events w w' h lines e t c kept carried =
     let step : Step = record { event = e; lines = lines; after = w' } in
     let s : List Step = t.stands.steps in
     record {
@@ -74,4 +81,5 @@ tells_more events w w' h lines e t c kept =
       events_are =
           map-append (λ (x : Step). x.event) s (step ∷ [])
           ∙ ap (λ (es : List Event). es ++ e ∷ []) t.events_are;
+      carried = carried_on h lines t.carried carried;
     }

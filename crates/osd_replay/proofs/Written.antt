@@ -8,7 +8,7 @@ use Rattle.scenario_text.specs.declared.event.Event.TheVariants as event
 use Rattle.scenario_text.specs.Spelling.{Fits}
 use Rattle.history_claims.specs.Texts.{EventsFit}
 use Rattle.osd_replay.specs.Replay.{HasEvents}
-use Rattle.osd_replay.specs.Generator.{makes_drive, makes_file, call_event, calls_from, next_random, offset_of, length_of, opening, scenario_of}
+use Rattle.generate_law.specs.Scenario.{makes_drive, makes_file, call_event, calls_from, next_random, offset_of, length_of, opening, scenario_of}
 
 -- the lines of a scenario spell such events
 pub events_fit : (lines : List (List ℕ)) (events : List Event) → HasEvents lines events → EventsFit events

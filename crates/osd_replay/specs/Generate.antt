@@ -14,6 +14,7 @@ use Rattle.world_history.specs.declared.summary.Summary.{Summary}
 use Rattle.world_history.specs.State.{World}
 use Rattle.world_history.specs.Refusals.{refusal}
 use Rattle.world_history.specs.Runs.{FillsUp}
+use Rattle.world_history.specs.Guesses.{unguessed}
 use Rattle.world_history.specs.Summing.{summary_of}
 use Rattle.world_watch.specs.Capping.{capped_summary}
 use Rattle.scenario_text.specs.Spelling.{Fits}
@@ -23,8 +24,9 @@ use Rattle.calm_law.specs.Watching.{WatchesAll}
 use Rattle.layout_world.specs.State.{Shows}
 use Rattle.history_claims.specs.Sound.{IsSound}
 use Rattle.osd_replay.specs.Ends.{Ends, PutsError}
-use Rattle.osd_replay.specs.Errors.{error_line, full_name, kind_name}
-use Rattle.osd_replay.specs.Generator.{scenario_of}
+use Rattle.osd_replay.specs.Errors.{error_line, full_name}
+use Rattle.generate_law.specs.Counts.{HasCounts}
+use Rattle.generate_law.specs.Scenario.{scenario_of}
 use Rattle.osd_replay.specs.Transcript.{Tells, EndsWith, final_text}
 use Rattle.osd_replay.specs.declared.generate.Digested.{Digested}
 use Rattle.osd_replay.specs.declared.status.Quantity.{Quantity}
@@ -140,6 +142,9 @@ pub record Outcome (seed calls : ℕ) : Type 0 where
   pub few : AreFew history
   pub last : Line
   pub ends : EndsWith history last
+  -- it has one call more than are asked for: a write, and then each second one is a write. Nothing in it was guessed
+  pub counted : HasCounts calls (summary_of history)
+  pub clean : unguessed history ≡ true
 
 -- what is told of it
 abbrev pub outcome_text : (seed calls : ℕ) → Outcome seed calls → List ℕ
@@ -164,24 +169,20 @@ pub record IsWriteFault (seed calls : ℕ) (before after : Ends) : Type 0 where
   pub out : Appends before.taken after.taken (take upto (outcome_text seed calls outcome))
   pub rose : Rose before.writes_failed after.writes_failed
 
--- an event of the scenario isn't carried out, and only the error line went out
+-- an event of the scenario isn't carried out, and only the error line went out, which has no number
 pub record IsStopped (seed calls : ℕ) (before after : Ends) (stop : Stop) (reason : List ℕ) : Type 0 where
   pub at : StopsAt (scenario_of seed calls) stop
   pub puts : PutsError before after [] (error_line 0 reason)
-
--- that line has no number
-pub record IsBadScenario (seed calls : ℕ) (before after : Ends) (number : ℕ) (kind : ScenarioKind) : Type 0 where
-  pub number_is : number ≡ 0
-  pub stopped : IsStopped seed calls before after (Refused kind) (kind_name kind)
 
 -- there was no memory
 pub record IsMemory (before after : Ends) : Type 0 where
   pub puts : PutsError before after [] (error_line 0 (codes "memory"))
 
+-- No event of the scenario is refused.
 abbrev pub Promises : (seed calls : ℕ) → Ends → Ends → Status → Type 0
 Promises seed calls before after Done = IsDone seed calls before after
 Promises seed calls before after BadWords = ⊥
-Promises seed calls before after (BadScenario number kind) = IsBadScenario seed calls before after number kind
+Promises seed calls before after (BadScenario number kind) = ⊥
 Promises seed calls before after ReadFault = ⊥
 Promises seed calls before after WriteFault = IsWriteFault seed calls before after
 Promises seed calls before after Memory = IsMemory before after

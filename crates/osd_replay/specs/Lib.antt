@@ -5,11 +5,11 @@ pub mod Stops
 pub mod Ends
 pub mod Transcript
 pub mod Replay
+pub mod Complete
 pub mod LineCarried
 pub mod Finish
 pub mod Commands
 pub mod Inspect
 pub mod Placing
-pub mod Generator
 pub mod Generate
 pub mod Run

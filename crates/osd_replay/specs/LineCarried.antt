@@ -16,6 +16,7 @@ use Rattle.world_history.specs.Runs.{Carries, FillsUp}
 use Rattle.world_history.specs.History.{StandsFor, Lawful}
 use Rattle.history_law.specs.Read.{is_written}
 use Rattle.calm_law.specs.Watching.{WatchesAll}
+use Rattle.history_claims.specs.Carried.{AreCarried}
 use Rattle.layout_world.specs.State.{WorldState, Shows}
 use Rattle.osd_replay.specs.declared.carry_out.Carried.{Carried}
 use Rattle.osd_replay.specs.declared.status.ScenarioKind.{ScenarioKind}
@@ -41,6 +42,7 @@ pub record CarriesWhole (w : World) (e : Event) (old new : WorldState) (text : L
   pub watches : (h : List Line) → StandsFor w h → is_written e ≡ true → WatchesAll h old.watch
       → WatchesAll (h ++ lines) new.watch
   pub text_is : text ≡ lines_text lines
+  pub carried : AreCarried lines
 
 -- An event stops just before what would pass the limit of kept bytes. These are its lines up to there; behind any
 -- history for which the world stands they are lawful.
@@ -49,6 +51,7 @@ pub record CarriesCut (w : World) (e : Event) (text : List ℕ) : Type 0 where
   pub fills : FillsUp w e lines
   pub lawful : (h : List Line) → StandsFor w h → Lawful (h ++ lines)
   pub text_is : text ≡ lines_text lines
+  pub carried : AreCarried lines
 
 -- by whether the limit was met
 abbrev pub CarriesBy : World → Event → (old new : WorldState) → List ℕ → (is_full : Bool) → Type 0

@@ -14,6 +14,7 @@ use Rattle.world_history.specs.Runs.{FillsUp}
 use Rattle.world_history.specs.History.{Lawful}
 use Rattle.history_law.specs.Read.{AreWritten}
 use Rattle.exchange_law.specs.Text.{AreOfText, AreFew}
+use Rattle.history_claims.specs.Carried.{AreCarried}
 use Rattle.history_claims.specs.Sound.{IsSound}
 use Rattle.osd_replay.specs.Ends.{Ends, Begins, IsAll, IsLineAt, PassesNext, PutsError}
 use Rattle.osd_replay.specs.Errors.{error_line, full_name, kind_name}
@@ -75,6 +76,7 @@ pub record CutsNext (input : Option (List ℕ)) (lines : List (List ℕ)) (w : W
   pub written : AreWritten (h ++ cut)
   pub text : AreOfText (h ++ cut)
   pub few : AreFew (h ++ cut)
+  pub carried : AreCarried (h ++ cut)
 
 -- ---- what each status promises
 

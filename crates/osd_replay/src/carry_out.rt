@@ -2,6 +2,7 @@
 ghost use Rattle.std.specs.Prelude.{◌≡◌, [], IfOk, IfErr};
 ghost use Rattle.osd_replay.specs.LineCarried.{CarriesEvent, CarriesLine, StopsEvent, StopsLine, step_gives};
 
+use crate::shown::show_bytes;
 use crate::status::ScenarioKind;
 use crate::stop::Stop;
 use layout_world::{Lines, World, WorldErr};
@@ -62,6 +63,7 @@ pub fn carry_out_event<P: Place>(
         Ok(is_full) => is_full,
         Err(stop) => return Err(stop),
     };
+    show_bytes(lines.as_slice());
     let text = append_lines(emptied(room), lines.as_slice())?;
     Ok(Carried { text, is_full })
 }

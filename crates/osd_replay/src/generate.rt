@@ -5,12 +5,13 @@ ghost use Rattle.osd_replay.specs.Ends.{ends};
 ghost use Rattle.osd_replay.specs.Generate.{count_line, counts_text, digest_line, IsToldOf};
 ghost use Rattle.history_claims.specs.Texts.{EventsFit};
 ghost use Rattle.osd_replay.specs.Generate.{Made, MakesMore, StopsMaking, StopsAmong, ComesTo, Promises};
-ghost use Rattle.osd_replay.specs.Generator.{scenario_of};
+ghost use Rattle.generate_law.specs.Scenario.{scenario_of};
 
 use crate::carry_out::{Carried, carry_out_event};
 use crate::generator::scenario;
 use crate::status::{Quantity, Status};
 use crate::stop::{Stop, stopped};
+use generate_law::none_is_refused;
 use history_claims::histories_are_sound;
 use layout_world::{Summary, World};
 use osd_bytes::{Sink, put_all};
@@ -174,6 +175,7 @@ pub fn generate<K: Sink, P: Place>(
         (ends left reads (K.taken sink.old) (K.faults sink.old))
         (ends left reads (K.taken sink.new) (K.faults sink.new)) result }
 {
+    none_is_refused();
     match carried_out(alloc, seed, calls, placer) {
         Ok(text) => match put_all(sink, text.as_slice()) {
             Ok(()) => Status::Done,

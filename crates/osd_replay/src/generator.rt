@@ -1,7 +1,7 @@
 // The scenario that is made from a seed.
 ghost use Rattle.std.specs.Prelude.{◌≡◌, ◌++◌, ◌≤◌, ◌<◌, ◌+◌, ◌%◌, ◌∷◌, [], Some, IfOk, OnOk, replicate};
 ghost use Rattle.scenario_text.specs.declared.event.Event.TheVariants as event;
-ghost use Rattle.osd_replay.specs.Generator as made;
+ghost use Rattle.generate_law.specs.Scenario as made;
 
 use osd_lists::{Bytes, Memory};
 use scenario_text::{Call, ClientName, DriveName, Event, FileMap, FileName};

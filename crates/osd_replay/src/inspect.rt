@@ -1,5 +1,7 @@
 // Structures of RFC 5664, shown or checked line by line.
 ghost use Rattle.std.specs.Prelude.{◌≡◌, ◌≢◌, ℕ, List, Ok, IfOk, IfErr};
+ghost use Rattle.osd_bytes.specs.Reading.{TakesAtMost};
+ghost use Rattle.osd_bytes.specs.declared.lines.TheConstants.{MAX_READ};
 ghost use Rattle.hex.specs.Hex.{decode_of};
 ghost use Rattle.osd_replay.specs.Ends.{ends};
 ghost use Rattle.osd_replay.specs.Inspect.{refusal, checked, answer_of, Answers, StopsInspection, Promises};
@@ -106,9 +108,10 @@ pub fn inspect<S: Source, K: Sink>(
     source: &mut S,
     sink: &mut K,
 ) -> Status
-    ensures { Promises inspection kind
+    ensures promise { Promises inspection kind
         (ends (S.left source.old) (S.faults source.old) (K.taken sink.old) (K.faults sink.old))
         (ends (S.left source.new) (S.faults source.new) (K.taken sink.new) (K.faults sink.new)) result }
+    ensures input { TakesAtMost MAX_READ (S.left source.old) (S.left source.new) }
 {
     let mut reader = LineReader::new(alloc);
     let mut number = 0;

@@ -10,6 +10,7 @@ mod inspect;
 mod placing;
 mod put_line;
 mod replay;
+mod shown;
 mod status;
 mod stop;
 mod top_call;

@@ -1,9 +1,12 @@
 // A scenario replayed line by line.
 ghost use Rattle.std.specs.Prelude.{◌≡◌, []};
+ghost use Rattle.osd_bytes.specs.Reading.{TakesAtMost};
+ghost use Rattle.osd_bytes.specs.declared.lines.TheConstants.{MAX_READ};
 ghost use Rattle.scenario_text.specs.declared.line.Line.TheVariants.{Last};
 ghost use Rattle.world_history.specs.State.{empty_world};
 ghost use Rattle.calm_law.specs.Watching.{WatchesAll};
 ghost use Rattle.layout_world.specs.State.{Shows};
+ghost use Rattle.osd_replay.specs.Complete.{Completes};
 ghost use Rattle.osd_replay.specs.Ends.{ends};
 ghost use Rattle.osd_replay.specs.Finish.{Finishes};
 ghost use Rattle.osd_replay.specs.Replay.{Promises};
@@ -46,9 +49,10 @@ fn carry_out_lines<S: Source, K: Sink, P: Place>(
     requires places { P.is_placer placer.now }
     requires is_new { Shows world.now.parties empty_world }
     requires watches { WatchesAll [] world.now.watch }
-    ensures { Promises
+    ensures promise { Promises
         (ends (S.left source.old) (S.faults source.old) (K.taken sink.old) (K.faults sink.old))
         (ends (S.left source.new) (S.faults source.new) (K.taken sink.new) (K.faults sink.new)) result }
+    ensures input { TakesAtMost MAX_READ (S.left source.old) (S.left source.new) }
 {
     histories_are_sound();
     let mut reader = LineReader::new(alloc);
@@ -84,9 +88,13 @@ pub fn replay<S: Source, K: Sink, P: Place>(
     placer: &P,
 ) -> Status
     requires { P.is_placer placer.now }
-    ensures { Promises
+    ensures promise { Promises
         (ends (S.left source.old) (S.faults source.old) (K.taken sink.old) (K.faults sink.old))
         (ends (S.left source.new) (S.faults source.new) (K.taken sink.new) (K.faults sink.new)) result }
+    ensures complete { Completes
+        (ends (S.left source.old) (S.faults source.old) (K.taken sink.old) (K.faults sink.old))
+        (ends (S.left source.new) (S.faults source.new) (K.taken sink.new) (K.faults sink.new)) result }
+    ensures input { TakesAtMost MAX_READ (S.left source.old) (S.left source.new) }
 {
     histories_are_sound();
     let mut world = match World::new(alloc) {

@@ -1,5 +1,7 @@
 // The top call.
 ghost use Rattle.std.specs.Prelude.{◌≡◌, ◌↔◌, IsNone, map, string_bytes};
+ghost use Rattle.osd_bytes.specs.Reading.{TakesAtMost};
+ghost use Rattle.osd_bytes.specs.declared.lines.TheConstants.{MAX_READ};
 ghost use Rattle.osd_replay.specs.Ends.{ends};
 ghost use Rattle.osd_replay.specs.Commands.{command_of};
 ghost use Rattle.osd_replay.specs.Run.{Promises};
@@ -33,6 +35,7 @@ pub fn run<S: Source, K: Sink, P: Place>(
         (ends (S.left source.old) (S.faults source.old) (K.taken sink.old) (K.faults sink.old))
         (ends (S.left source.new) (S.faults source.new) (K.taken sink.new) (K.faults sink.new)) result }
     ensures words { (result ≡ Status.BadWords) ↔ IsNone (command_of (map string_bytes words.now)) }
+    ensures input { TakesAtMost MAX_READ (S.left source.old) (S.left source.new) }
 {
     match command_named(words) {
         Some(Command::Replay) => replay(alloc, source, sink, placer),

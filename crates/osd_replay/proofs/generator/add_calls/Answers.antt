@@ -1,5 +1,5 @@
 use Rattle.std.proofs.Common.{rules, arith, ◌≡◌, ◌++◌, ◌∷◌, [], refl}
-use Rattle.osd_replay.specs.Generator.{call_event}
+use Rattle.generate_law.specs.Scenario.{call_event}
 use Rattle.osd_replay.proofs.Generated.{one_call}
 use Rattle.osd_replay.proofs.generator.add_calls.Goals as goal
 use Rattle.osd_replay.proofs.generator.add_calls.Goals.{in-Some+in_ok-call+in_ok-push, in_default}

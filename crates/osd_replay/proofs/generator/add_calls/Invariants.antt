@@ -1,5 +1,5 @@
 use Rattle.std.proofs.Common.{◌≡◌, ◌++◌, ◌≤◌, ◌-◌}
-use Rattle.osd_replay.specs.Generator.{calls_from}
+use Rattle.generate_law.specs.Scenario.{calls_from}
 use Rattle.osd_replay.proofs.generator.add_calls.Given as goal
 
 abbrev pub invariant-loop-k : goal.invariant-loop-k

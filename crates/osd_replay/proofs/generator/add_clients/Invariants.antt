@@ -1,6 +1,6 @@
 use Rattle.std.proofs.Common.{◌≡◌, ◌++◌, ◌≤◌}
 use Rattle.scenario_text.specs.declared.event.Event.TheVariants.{Client}
-use Rattle.osd_replay.specs.Generator.{each_below}
+use Rattle.generate_law.specs.Scenario.{each_below}
 use Rattle.osd_replay.proofs.generator.add_clients.Given as goal
 
 abbrev pub invariant-loop-number : goal.invariant-loop-number

@@ -1,5 +1,5 @@
 use Rattle.std.proofs.Common.{◌≡◌, ◌++◌, ◌≤◌}
-use Rattle.osd_replay.specs.Generator.{each_below, makes_drive}
+use Rattle.generate_law.specs.Scenario.{each_below, makes_drive}
 use Rattle.osd_replay.proofs.generator.add_drives.Given as goal
 
 abbrev pub invariant-loop-number : goal.invariant-loop-number

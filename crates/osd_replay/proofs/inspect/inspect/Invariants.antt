@@ -1,7 +1,7 @@
 use Rattle.std.proofs.Common.{◌≡◌, ◌≤◌, ◌-◌, ◌+◌, true, false}
 use Rattle.std.specs.Io.KnownBytes.{IsAtEnd}
-use Rattle.osd_bytes.specs.declared.lines.TheConstants.{MAX_INPUT}
-use Rattle.osd_bytes.specs.Reading.{known_of}
+use Rattle.osd_bytes.specs.declared.lines.TheConstants.{MAX_INPUT, MAX_READ}
+use Rattle.osd_bytes.specs.Reading.{known_of, read_of, ReadsOn}
 use Rattle.osd_replay.proofs.Counting.{Counted}
 use Rattle.osd_replay.proofs.Inspecting.{Inspecting}
 use Rattle.osd_replay.proofs.inspect.inspect.Given as goal
@@ -10,6 +10,8 @@ abbrev pub invariant-lines : goal.invariant-lines
 invariant-lines g l = record {
   reader : l.reader.over ≡ false;
   within : l.reader.taken ≤ MAX_INPUT;
+  read : ReadsOn 0 (read_of l.reader) (g.S.Source.left l.fn.source) (g.S.Source.left l.source);
+  bound : read_of l.reader ≤ MAX_READ;
   number : l.number ≤ l.reader.taken;
   ended : l.reader.ahead.ended ≡ true → IsAtEnd (g.S.Source.left l.source);
   reads : g.S.Source.faults l.source ≡ g.S.Source.faults l.fn.source;

@@ -1,4 +1,6 @@
 use Rattle.std.proofs.Common.{arith, refl, ap, Err, ◌≡◌, ◌∙◌}
+use Rattle.osd_bytes.proofs.ReadLaws.{reads-none, reads-then, within-most}
+use Rattle.osd_bytes.specs.declared.lines.TheConstants.{MAX_READ}
 use Rattle.osd_bytes.specs.Put.{written_of}
 use Rattle.osd_replay.specs.LineCarried.{CarriesLine, StopsLine}
 use Rattle.osd_replay.proofs.SoFar.{nothing_yet, goes_on}
@@ -13,6 +15,8 @@ lines-init g c =
     rw c.new-reader.ensures record {
       reader = refl;
       within = omega arith;
+      read = reads-none 0 (g.S.Source.left c.args.source.now);
+      bound = omega arith;
       number = omega arith;
       ended = λ h. absurd (cc h);
       reads = refl;
@@ -23,8 +27,8 @@ lines-init g c =
           (g.K.Sink.taken c.args.sink.now) c.args.world.now c.requires.is_new c.requires.watches c.histories_are_sound.ensures);
     }
 
-pub returns-in-Ok-None : goal.returns-in-Ok-None
-returns-in-Ok-None g c =
+pub returns-in-Ok-None-clause-promise : goal.returns-in-Ok-None-clause-promise
+returns-in-Ok-None-clause-promise g c =
     let here = rw c.in-Ok-None.field-0-is at c.in-Ok-None.ensures in
     let inv = c.lines.invariant in
     finished _ _ _ _ c.lines.reader.taken (g.K.Sink.taken c.lines.sink) c.lines.number
@@ -32,8 +36,8 @@ returns-in-Ok-None g c =
     (at_end _ _ _ _ here.at_end inv.ended (here.end refl)) (here.cause.same ∙ inv.reads) inv.writes
     (λ h watches. last_said c.lines.world h watches) c.finish.ensures.ends
 
-pub returns-in-Err : goal.returns-in-Err
-returns-in-Err g c =
+pub returns-in-Err-clause-promise : goal.returns-in-Err-clause-promise
+returns-in-Err-clause-promise g c =
     let inv = c.lines.invariant in
     rw (c.stopped.ensures.status, c.stop_of.ensures)
     (no_line _ _ _ c.lines.reader.taken (g.K.Sink.taken c.lines.sink) c.lines.number
@@ -45,8 +49,8 @@ returns-in-Err g c =
           c.in-Err.ensures.newlines h,
     )) inv.writes (rw c.stop_of.ensures at c.stopped.ensures.puts.1))
 
-pub returns-in-Err-carry_out : goal.returns-in-Err-carry_out
-returns-in-Err-carry_out g c =
+pub returns-in-Err-carry_out-clause-promise : goal.returns-in-Err-carry_out-clause-promise
+returns-in-Err-carry_out-clause-promise g c =
     let here = rw c.in-Ok-Some.field-0-is at c.in-Ok-Some.ensures in
     let inv = c.lines.invariant in
     let stops : StopsLine c.in-Ok-Some.line c.lines.world c.in-Err-carry_out.stop =
@@ -57,8 +61,8 @@ returns-in-Err-carry_out g c =
     c.in-Err-carry_out.stop
     inv.so_far here.answer stops inv.writes c.stopped-in-Err-carry_out.ensures.puts.1)
 
-pub returns-in-Err-put_all : goal.returns-in-Err-put_all
-returns-in-Err-put_all g c =
+pub returns-in-Err-put_all-clause-promise : goal.returns-in-Err-put_all-clause-promise
+returns-in-Err-put_all-clause-promise g c =
     let here = rw c.in-Ok-Some.field-0-is at c.in-Ok-Some.ensures in
     let inv = c.lines.invariant in
     let carried : CarriesLine c.in-Ok-Some.line c.lines.world c.carry_out.new.world c.in-Ok.carried =
@@ -79,6 +83,8 @@ lines-preserved g c =
     record {
       reader = here.over.1 tt;
       within = here.within;
+      read = reads-then 0 _ _ _ _ _ inv.read here.reads;
+      bound = here.bound;
       number = omega (arith, inv.number, here.counts tt);
       ended = at_end _ _ _ _ here.at_end inv.ended;
       newlines = counted_more _ _ _ _ _ _ (g.S.Source.left c.next_line.new.s) c.in-Ok-Some.line inv.newlines here.newlines;
@@ -89,8 +95,8 @@ lines-preserved g c =
           inv.so_far here.lines here.takes carried c.if-is_full.false (rw bytes at c.in-Ok-put_all.ensures.ok);
     }
 
-pub returns-then-is_full : goal.returns-then-is_full
-returns-then-is_full g c =
+pub returns-then-is_full-clause-promise : goal.returns-then-is_full-clause-promise
+returns-then-is_full-clause-promise g c =
     let here = rw c.in-Ok-Some.field-0-is at c.in-Ok-Some.ensures in
     let inv = c.lines.invariant in
     let carried : CarriesLine c.in-Ok-Some.line c.lines.world c.carry_out.new.world c.in-Ok.carried =
@@ -102,3 +108,23 @@ returns-then-is_full g c =
     c.in-Ok-Some.line c.in-Ok.carried
     inv.so_far here.lines here.takes carried c.if-is_full.true (rw bytes at c.in-Ok-put_all.ensures.ok)
     (c.in-Ok-put_all.ensures.cause.same ∙ inv.writes) c.stopped-then-is_full.ensures.puts.1)
+
+pub returns-in-Err-carry_out-clause-input : goal.returns-in-Err-carry_out-clause-input
+returns-in-Err-carry_out-clause-input g c =
+    within-most 0 _ MAX_READ _ _ (reads-then 0 _ _ _ _ _ c.lines.invariant.read c.next_line.ensures.reads) c.next_line.ensures.bound
+
+pub returns-in-Err-put_all-clause-input : goal.returns-in-Err-put_all-clause-input
+returns-in-Err-put_all-clause-input g c =
+    within-most 0 _ MAX_READ _ _ (reads-then 0 _ _ _ _ _ c.lines.invariant.read c.next_line.ensures.reads) c.next_line.ensures.bound
+
+pub returns-then-is_full-clause-input : goal.returns-then-is_full-clause-input
+returns-then-is_full-clause-input g c =
+    within-most 0 _ MAX_READ _ _ (reads-then 0 _ _ _ _ _ c.lines.invariant.read c.next_line.ensures.reads) c.next_line.ensures.bound
+
+pub returns-in-Ok-None-clause-input : goal.returns-in-Ok-None-clause-input
+returns-in-Ok-None-clause-input g c =
+    within-most 0 _ MAX_READ _ _ (reads-then 0 _ _ _ _ _ c.lines.invariant.read c.next_line.ensures.reads) c.next_line.ensures.bound
+
+pub returns-in-Err-clause-input : goal.returns-in-Err-clause-input
+returns-in-Err-clause-input g c =
+    within-most 0 _ MAX_READ _ _ (reads-then 0 _ _ _ _ _ c.lines.invariant.read c.next_line.ensures.reads) c.next_line.ensures.bound
