@@ -1,6 +1,6 @@
 -- The ends of a run: its input and its output, the links and the clock.
 use Rattle.std.specs.Prelude.{◌≡◌, ℕ, List, Option}
-use Rattle.osd_bytes.specs.Connections.{Traffic}
+use Rattle.osd_bytes.specs.Connections.{Standing, Traffic}
 use Rattle.osd_bytes.specs.Counts.{Faults}
 use Rattle.osd_bytes.specs.declared.clock.Clock.{Ghosts as ClockGhosts}
 use Rattle.osd_bytes.specs.declared.links.Links.{Ghosts as LinksGhosts}
@@ -13,7 +13,7 @@ use Rattle.cluster_text.specs.Outside.{Streams, streams}
 use Rattle.client_command.specs.Reports.{OnLinks, on_links}
 
 -- the bytes that the source has left and that the sink has taken, what came and went on the links, and the times of the
--- clock, where they tell them; and the counts of the calls that failed
+-- clock, where they tell them; the counts of the calls that failed; and the addresses of the links
 pub record Ends : Type 0 where
   pub left : Option (List ℕ)
   pub reads_failed : ℕ
@@ -21,23 +21,25 @@ pub record Ends : Type 0 where
   pub writes_failed : ℕ
   pub told : Option Traffic
   pub faults : Faults
+  pub standing : Standing
   pub times : Option (List ℕ)
 
-abbrev pub ends : Option (List ℕ) → ℕ → Option (List ℕ) → ℕ → Option Traffic → Faults → Option (List ℕ) → Ends
-ends left reads_failed taken writes_failed told faults times = record {
+abbrev pub ends : Option (List ℕ) → ℕ → Option (List ℕ) → ℕ → Option Traffic → Faults → Standing → Option (List ℕ) → Ends
+ends left reads_failed taken writes_failed told faults standing times = record {
   left = left;
   reads_failed = reads_failed;
   taken = taken;
   writes_failed = writes_failed;
   told = told;
   faults = faults;
+  standing = standing;
   times = times;
 }
 
 abbrev pub ends_at : {A B D E : Type 0} → SourceGhosts A → SinkGhosts B → LinksGhosts D → ClockGhosts E
     → (source : A) → (sink : B) → (links : D) → (clock : E) → Ends
 ends_at s k l c source sink links clock = ends (s.left source) (s.faults source) (k.taken sink) (k.faults sink)
-    (l.told links) (l.faults links) (c.times clock)
+    (l.told links) (l.faults links) (l.standing links) (c.times clock)
 
 -- ---- what each command sees of them
 
@@ -62,6 +64,7 @@ links_of e = on_links e.told e.faults
 pub record AsksNobody (before now : Ends) : Type 0 where
   pub told : now.told ≡ before.told
   pub faults : now.faults ≡ before.faults
+  pub standing : now.standing ≡ before.standing
   pub times : now.times ≡ before.times
 
 -- nothing was read, and the clock wasn't asked

@@ -23,13 +23,20 @@ use Rattle.pnfs_run.specs.Ends.{AsksNobody, Ends, LeavesInput, drive_ends, links
 
 -- ---- what the words ask for
 
+-- the links have the addresses that they had, or those of the drive in the cluster that the text describes
+abbrev pub HasDrivesAddresses : (number : ℕ) → (before now : Ends) → Type 0
+HasDrivesAddresses number before now = drive.SettlesAsText number before.left now.left before.standing now.standing
+
 -- a drive serves all connections, or stops
 abbrev pub DriveEnds : DriveWords → (before now : Ends) → Status → Type 0
 DriveEnds w before now status =
-    ((status ≡ Done)
-    × drive.ServesAs w.number w.connections (streams_of before) (streams_of now) (drive_ends before) (drive_ends now))
+    HasDrivesAddresses w.number before now
+    × (((status ≡ Done)
+    × drive.ServesAs w.number w.connections (streams_of before) (streams_of now) (drive_ends before) (drive_ends now)
+    now.standing)
     ⊎ ((why : CommandStop) × (status ≡ by_stop why)
-    × drive.EndsDrive w.number w.connections (streams_of before) (streams_of now) (drive_ends before) (drive_ends now) why)
+    × drive.EndsDrive w.number w.connections (streams_of before) (streams_of now) (drive_ends before) (drive_ends now)
+    now.standing why))
 
 -- a server serves all connections, or stops
 abbrev pub ServerEnds : ServerWords → (before now : Ends) → Status → Type 0
@@ -44,9 +51,9 @@ abbrev pub ClientEnds : ClientWords → (before now : Ends) → Status → Type 
 ClientEnds w before now status =
     (now.times ≡ before.times)
     × (((end : ClientEnd) × (status ≡ by_client end)
-    × WorksAs w (streams_of before) (streams_of now) (links_of before) (links_of now) end)
+    × WorksAs w (streams_of before) (streams_of now) (links_of before) (links_of now) now.standing end)
     ⊎ ((why : CommandStop) × (status ≡ by_stop why)
-    × EndsClient w (streams_of before) (streams_of now) (links_of before) (links_of now) why))
+    × EndsClient w (streams_of before) (streams_of now) (links_of before) (links_of now) now.standing why))
 
 -- ---- words
 

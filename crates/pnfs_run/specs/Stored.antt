@@ -12,17 +12,19 @@ use Rattle.pnfs_run.specs.declared.status.Status.{Status}
 use Rattle.pnfs_run.specs.declared.status.Status.TheVariants.{Done, BadWords}
 use Rattle.pnfs_run.specs.Exit.{by_stored}
 use Rattle.pnfs_run.specs.Ends.{Ends, drive_ends, server_ends, streams_of}
+use Rattle.pnfs_run.specs.Network.{HasDrivesAddresses}
 
 -- the drive serves all connections from its store, or stops
 abbrev pub StoredDriveEnds : {D : Type 0} → DiskGhosts D → (disk left : D) → StoredDriveWords → (before now : Ends) → Status →
     Type 0
 StoredDriveEnds s disk left w before now status =
-    ((status ≡ Done)
+    HasDrivesAddresses w.drive.number before now
+    × (((status ≡ Done)
     × ServesStoredAs s w.drive.number w.drive.connections (streams_of before) (streams_of now) (drive_ends before)
-    (drive_ends now) disk left)
+    (drive_ends now) now.standing disk left)
     ⊎ ((why : StoredStop) × (status ≡ by_stored why)
     × EndsStored s w.drive.number w.drive.connections (streams_of before) (streams_of now) (drive_ends before)
-    (drive_ends now) disk left why)
+    (drive_ends now) now.standing disk left why))
 
 -- the server serves all connections from its journal, or stops
 abbrev pub StoredServerEnds : {D : Type 0} → DiskGhosts D → (disk left : D) → StoredServerWords → (before now : Ends) → Status →

@@ -1,5 +1,7 @@
 // The three commands over a network.
 ghost use Rattle.std.specs.Prelude.{◌≡◌, ℕ, List, Option, map, string_bytes};
+ghost use Rattle.osd_bytes.specs.Reading.{TakesAtMost};
+ghost use Rattle.osd_bytes.specs.declared.lines.TheConstants.{MAX_READ};
 ghost use Rattle.cluster_text.specs.Lines.{PutsLine};
 ghost use Rattle.command_words.specs.declared.words.WordsErr.TheVariants as words_err;
 ghost use Rattle.command_words.specs.Options.{client_options, drive_options, server_options};
@@ -63,6 +65,7 @@ pub(crate) fn run_drive<S: Source, K: Sink, L: Links, C: Clock>(
         (ends_at S.Source K.Sink L.Links C.Clock source.old sink.old links.old clock.old)
         (ends_at S.Source K.Sink L.Links C.Clock source.new sink.new links.new clock.new) result }
     ensures words { JudgesWords (Refuses drive_options drive_gives (map string_bytes words.now) words_err.Bad) result }
+    ensures input { TakesAtMost MAX_READ (S.left source.old) (S.left source.new) }
 {
     let asked = match drive_words(alloc, words) {
         Ok(asked) => asked,
@@ -90,6 +93,7 @@ pub(crate) fn run_server<S: Source, K: Sink, L: Links, C: Clock, P: Place>(
         (ends_at S.Source K.Sink L.Links C.Clock source.old sink.old links.old clock.old)
         (ends_at S.Source K.Sink L.Links C.Clock source.new sink.new links.new clock.new) result }
     ensures words { JudgesWords (Refuses server_options server_gives (map string_bytes words.now) words_err.Bad) result }
+    ensures input { TakesAtMost MAX_READ (S.left source.old) (S.left source.new) }
 {
     let asked = match server_words(alloc, words) {
         Ok(asked) => asked,
@@ -111,10 +115,11 @@ pub(crate) fn run_client<S: Source, K: Sink, L: Links>(
 ) -> Status
     ensures promise { (times : Option (List ℕ)) → Runs client_options client_gives ClientEnds (map string_bytes words.now)
         (ends (S.left source.old) (S.faults source.old) (K.taken sink.old) (K.faults sink.old)
-        (L.told links.old) (L.faults links.old) times)
+        (L.told links.old) (L.faults links.old) (L.standing links.old) times)
         (ends (S.left source.new) (S.faults source.new) (K.taken sink.new) (K.faults sink.new)
-        (L.told links.new) (L.faults links.new) times) result }
+        (L.told links.new) (L.faults links.new) (L.standing links.new) times) result }
     ensures words { JudgesWords (Refuses client_options client_gives (map string_bytes words.now) words_err.Bad) result }
+    ensures input { TakesAtMost MAX_READ (S.left source.old) (S.left source.new) }
 {
     let asked = match client_words(alloc, words) {
         Ok(asked) => asked,

@@ -1,5 +1,7 @@
 // The commands of a drive and of a server with a store.
 ghost use Rattle.std.specs.Prelude.{map, string_bytes};
+ghost use Rattle.osd_bytes.specs.Reading.{TakesAtMost};
+ghost use Rattle.osd_bytes.specs.declared.lines.TheConstants.{MAX_READ};
 ghost use Rattle.command_words.specs.declared.words.WordsErr.TheVariants as words_err;
 ghost use Rattle.command_words.specs.Asked.{Refuses};
 ghost use Rattle.command_words.specs.StoredAsked.{stored_drive_gives, stored_drive_options};
@@ -36,6 +38,7 @@ pub(crate) fn run_stored_drive<S: Source, K: Sink, L: Links, C: Clock, D: Disk>(
     ensures words { JudgesWords
         (Refuses stored_drive_options stored_drive_gives (map string_bytes words.now) words_err.Bad) result.0 }
     ensures disk { LeavesDisk disk result.1 result.0 }
+    ensures input { TakesAtMost MAX_READ (S.left source.old) (S.left source.new) }
 {
     let asked = match stored_drive_words(alloc, words) {
         Ok(asked) => asked,
@@ -78,6 +81,7 @@ pub(crate) fn run_stored_server<S: Source, K: Sink, L: Links, C: Clock, D: Disk,
     ensures words { JudgesWords
         (Refuses stored_server_options stored_server_gives (map string_bytes words.now) words_err.Bad) result.0 }
     ensures disk { LeavesDisk disk result.1 result.0 }
+    ensures input { TakesAtMost MAX_READ (S.left source.old) (S.left source.new) }
 {
     let asked = match stored_server_words(alloc, words) {
         Ok(asked) => asked,

@@ -4,6 +4,8 @@ ghost use Rattle.stripe_repair.specs.Placing.{IsPlacer};
 ghost use Rattle.zone_place.specs.Choosing.{IsZonePlacer};
 ghost use Rattle.pnfs_run.specs.Ends.{ends_at};
 ghost use Rattle.pnfs_run.specs.Party.{party_of};
+ghost use Rattle.osd_bytes.specs.Reading.{TakesAtMost};
+ghost use Rattle.osd_bytes.specs.declared.lines.TheConstants.{MAX_READ};
 ghost use Rattle.pnfs_run.specs.Run.{AreBad, JudgesWords, Promises, RunsAlone};
 ghost use Rattle.pnfs_run.specs.Stored.{KeepsDisk};
 
@@ -42,6 +44,7 @@ where
         (ends_at S.Source K.Sink L.Links C.Clock source.new sink.new links.new clock.new) result.0 }
     ensures words { JudgesWords (AreBad (party_of (map string_bytes words.now)) (map string_bytes words.now)) result.0 }
     ensures disk { KeepsDisk (party_of (map string_bytes words.now)) disk result.1 result.0 }
+    ensures input { TakesAtMost MAX_READ (S.left source.old) (S.left source.new) }
 {
     let placement = Placement {
         drives: placer,

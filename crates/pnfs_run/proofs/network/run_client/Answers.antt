@@ -1,4 +1,6 @@
 use Rattle.std.proofs.Common.{refl, inr, map, string_bytes}
+use Rattle.osd_bytes.specs.declared.lines.TheConstants.{MAX_READ}
+use Rattle.osd_bytes.proofs.ReadLaws.{takes-none}
 use Rattle.command_words.specs.Options.{client_options}
 use Rattle.command_words.specs.Asked.{client_gives}
 use Rattle.pnfs_run.specs.Network.{ClientEnds}
@@ -18,10 +20,15 @@ pub returns-in-Err-client_command-clause-promise :
 returns-in-Err-client_command-clause-promise g c = λ times.
     stopped client_options client_gives ClientEnds (map string_bytes c.args.words.now)
     (ends (g.S.Source.left c.args.source.now) (g.S.Source.faults c.args.source.now) (g.K.Sink.taken c.args.sink.now)
-    (g.K.Sink.faults c.args.sink.now) (g.L.Links.told c.args.links.now) (g.L.Links.faults c.args.links.now) times)
+    (g.K.Sink.faults c.args.sink.now) (g.L.Links.told c.args.links.now) (g.L.Links.faults c.args.links.now)
+    (g.L.Links.standing c.args.links.now) times)
     (ends (g.S.Source.left c.client_command.new.source) (g.S.Source.faults c.client_command.new.source)
     (g.K.Sink.taken c.client_command.new.sink) (g.K.Sink.faults c.client_command.new.sink)
-    (g.L.Links.told c.client_command.new.links) (g.L.Links.faults c.client_command.new.links) times)
+    (g.L.Links.told c.client_command.new.links) (g.L.Links.faults c.client_command.new.links)
+    (g.L.Links.standing c.client_command.new.links) times)
     c.in-Ok.asked c.in-Err-client_command.stop c.from-in-Err-client_command.result
     c.from-in-Err-client_command.ensures c.in-Ok.ensures.asks
     (refl, inr (c.in-Err-client_command.stop, refl, c.in-Err-client_command.ensures.stops))
+
+pub returns-in-Err-clause-input : goal.returns-in-Err-clause-input
+returns-in-Err-clause-input g c = takes-none MAX_READ (g.S.Source.left c.args.source.now)

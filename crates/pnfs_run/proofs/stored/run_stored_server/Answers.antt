@@ -1,4 +1,6 @@
 use Rattle.std.proofs.Common.{refl, inl, inr, map, string_bytes}
+use Rattle.osd_bytes.specs.declared.lines.TheConstants.{MAX_READ}
+use Rattle.osd_bytes.proofs.ReadLaws.{takes-none}
 use Rattle.command_words.specs.StoredAsked.{stored_server_gives, stored_server_options}
 use Rattle.pnfs_run.specs.declared.status.Status.TheVariants.{Done}
 use Rattle.pnfs_run.specs.Ends.{ends_at}
@@ -27,3 +29,6 @@ returns-clause-promise g c =
     c.stored_server_command.new.links c.stored_server_command.new.clock)
     c.in-Ok.asked c.in-Err-stored_server_command.refusal.0 c.from.result c.from.ensures c.in-Ok.ensures.asks
     (inr (c.in-Err-stored_server_command.refusal.0, refl, c.in-Err-stored_server_command.ensures.stops))
+
+pub returns-in-Err-clause-input : goal.returns-in-Err-clause-input
+returns-in-Err-clause-input g c = takes-none MAX_READ (g.S.Source.left c.args.source.now)
