@@ -25,6 +25,12 @@ ITEM = re.compile(r"`(?P<crate>[a-z0-9_]+)::(?P<names>[A-Za-z0-9_:]+)")
 #: A file of a crate and items of it, as in `world_history/specs/Moves.antt` (`Act`).
 ITEMS_OF = re.compile(r"`(?:crates/)?(?P<crate>[a-z0-9_]+)/(?:specs|src)/[A-Za-z0-9_/]+\.(?:rt|antt)` \((?P<names>[^)]*)\)")
 PATH = re.compile(r"[A-Za-z0-9_.*-]+(/[A-Za-z0-9_.*-]+)*/?")
+#: A page, as code names it.
+PAGE = re.compile(r"\bdocs/[A-Za-z_/0-9-]+\.md\b")
+#: Where code is that names pages.
+CODE_TOPS = {"bench", "cases", "crates", "tools"}
+#: What a page says that is there for the sake of code that names it by an old path.
+SIGNPOST = "Comments and messages of the code still name it here."
 #: What a path ends with that is one of this repository wherever it begins.
 SOURCES = (".md", ".rt", ".antt", ".py", ".edit", ".rows")
 #: Where a build, or a run, puts what isn't in the repository.
@@ -33,12 +39,18 @@ MADE = {"out", ".git", "__pycache__"}
 
 def pages() -> List[str]:
     """The documents, by their paths from the top."""
-    return PAGES + sorted(os.path.relpath(path, TOP) for path in glob.glob(os.path.join(TOP, "docs", "*.md")))
+    return PAGES + sorted(os.path.relpath(path, TOP) for path in glob.glob(os.path.join(TOP, "docs", "**", "*.md"), recursive=True))
 
 
 def text_of(page: str) -> str:
     """The text of a page."""
     with open(os.path.join(TOP, page), encoding="utf-8") as file:
+        return file.read()
+
+
+def code_of(path: str) -> str:
+    """The text of a file, whatever bytes it has."""
+    with open(os.path.join(TOP, path), encoding="utf-8", errors="replace") as file:
         return file.read()
 
 
@@ -112,6 +124,18 @@ class Documents(unittest.TestCase):
                 with self.subTest(page=page, path=path):
                     self.assertTrue(self.exists(path), "no file or folder has this path")
 
+    def test_each_page_that_code_names_exists(self):
+        named = set()
+        for path in sorted(self.paths):
+            if path.split("/")[0] in CODE_TOPS and "/proofs/" not in path and os.path.isfile(os.path.join(TOP, path)):
+                for page in PAGE.findall(code_of(path)):
+                    named.add(page)
+                    with self.subTest(path=path, page=page):
+                        self.assertIn(page, self.paths)
+        for page in pages():
+            if SIGNPOST in text_of(page):
+                self.assertIn(page, named, "no code names the page here any more: take the signpost away")
+
     def test_each_link_leads_somewhere(self):
         for page, link in self.links():
             with self.subTest(page=page, link=link):
@@ -132,8 +156,11 @@ class Documents(unittest.TestCase):
         for page in pages():
             for place in HEADING_OF.finditer(text_of(page)):
                 with self.subTest(page=page, cited=place[0]):
-                    beside = os.path.join("docs", place["page"])
-                    self.assertIn(place["heading"], titles(text_of(beside if beside in self.paths else place["page"])))
+                    self.assertIn(place["heading"], titles(text_of(self.page_named(place["page"]))))
+
+    def page_named(self, name: str) -> str:
+        """The path of a page that a document cites, by its path from the top or by the end of it."""
+        return next(page for page in pages() if ("/" + page).endswith("/" + name) and SIGNPOST not in text_of(page))
 
     def test_each_item_is_in_its_crate(self):
         for page in pages():
