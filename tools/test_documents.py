@@ -4,6 +4,7 @@ import fnmatch
 import glob
 import os
 import re
+import subprocess
 import sys
 import unittest
 from typing import Dict, Iterator, List, Set, Tuple
@@ -186,6 +187,10 @@ class Documents(unittest.TestCase):
             sources = [path for path in files if path.endswith((".rt", ".antt")) and "/proofs/" not in path]
             cls.words[crate] = set(re.findall(r"\w+", " ".join(files + [text_of(path) for path in sources])))
         return cls.words[crate]
+
+    def test_the_list_of_crates_is_made(self):
+        made = subprocess.run([sys.executable, os.path.join(TOP, "tools", "crates")], stdout=subprocess.PIPE, check=True).stdout.decode()
+        self.assertIn(made, text_of("docs/laws/PROOFS.md"), "tools/crates --write makes it")
 
     def test_readme_is_short(self):
         self.assertLessEqual(len(text_of("README.md").split()), MOST_WORDS)
