@@ -30,6 +30,8 @@ PATH = re.compile(r"[A-Za-z0-9_.*-]+(/[A-Za-z0-9_.*-]+)*/?")
 PAGE = re.compile(r"\bdocs/[A-Za-z_/0-9-]+\.md\b")
 #: Where code is that names pages.
 CODE_TOPS = {"bench", "cases", "crates", "tools"}
+#: The heading of what was decided on a day.
+DAY = re.compile(r"## \d{1,2} [A-Z][a-z]+ \d{4}")
 #: What a page says that is there for the sake of code that names it by an old path.
 SIGNPOST = "Comments and messages of the code still name it here."
 #: What a path ends with that is one of this repository wherever it begins.
@@ -199,6 +201,19 @@ class Documents(unittest.TestCase):
         for field in fields:
             with self.subTest(field=field):
                 self.assertRegex(text_of("docs/laws/HEADLINE.md"), rf"`{field}[`.]", "the page lacks the field")
+
+    def test_each_decision_is_listed_and_has_its_day(self):
+        folder = os.path.join("docs", "decisions")
+        listed = dict(re.findall(r"^- \[([^\]]+)\]\(([^)]+)\)", text_of(os.path.join(folder, "README.md")), re.MULTILINE))
+        found = sorted(os.path.basename(page) for page in pages() if os.path.dirname(page) == folder and not page.endswith("README.md"))
+        self.assertEqual(found, sorted(listed.values()))
+        self.assertEqual(len(found), len({name[:3] for name in found}), "two pages have one number")
+        for title, name in listed.items():
+            with self.subTest(page=name):
+                lines = text_of(os.path.join(folder, name)).splitlines()
+                self.assertEqual(lines[0], "# " + title)
+                self.assertTrue(title.startswith(name[:3] + ". "))
+                self.assertRegex(lines[2], DAY)
 
     def test_readme_is_short(self):
         self.assertLessEqual(len(text_of("README.md").split()), MOST_WORDS)
