@@ -25,6 +25,10 @@ PLACEHOLDER = re.compile(r"(^|/)[A-Z]+(/|$|\.(edit|txt)$)")
 ITEM = re.compile(r"`(?P<crate>[a-z0-9_]+)::(?P<names>[A-Za-z0-9_:]+)")
 #: A file of a crate and items of it, as in `world_history/specs/Moves.antt` (`Act`).
 ITEMS_OF = re.compile(r"`(?:crates/)?(?P<crate>[a-z0-9_]+)/(?:specs|src)/[A-Za-z0-9_/]+\.(?:rt|antt)` \((?P<names>[^)]*)\)")
+#: A name of code: words that are joined by `_`, or by capitals.
+NAME = re.compile(r"[A-Za-z][A-Za-z0-9]*(_[A-Za-z0-9]+)+|[A-Z]?[a-z0-9]+([A-Z][a-z0-9]*)+")
+#: Names that aren't of this repository: of systemd, of Rust and of `rt`; and those that tell how others are made.
+OF_OTHERS = {"PrivateTmp", "RestartPreventExitStatus", "assert_eq", "RT_JOBS"} | {"cluster_SEED", "storm_SEED", "dD"}
 PATH = re.compile(r"[A-Za-z0-9_.*-]+(/[A-Za-z0-9_.*-]+)*/?")
 #: A page, as code names it.
 PAGE = re.compile(r"\bdocs/[A-Za-z_/0-9-]+\.md\b")
@@ -72,6 +76,14 @@ def cited(text: str) -> Iterator[str]:
         codes = CODE.findall(line) + [line] * line.startswith("    ")
         for code in codes:
             yield from code.split()
+
+
+def names_in(text: str) -> Iterator[str]:
+    """The names of code that a page cites in sentences, also as parts of longer ones, as in `Kept.zoned`."""
+    for code in CODE.findall(text):
+        for word in re.findall(r"[A-Za-z0-9_./:*$-]+", code):
+            if "/" not in word and not word.endswith(SOURCES):
+                yield from (part for part in re.split(r"::|\.", word) if NAME.fullmatch(part))
 
 
 def anchor(heading: str) -> str:
@@ -179,6 +191,19 @@ class Documents(unittest.TestCase):
         for crate, names in cited:
             if os.path.join("crates", crate) in self.paths:
                 yield from ((crate, name) for name in names if name)
+
+    def test_each_name_is_somewhere(self):
+        known = self.words_of_code()
+        for page in pages():
+            for name in sorted(set(names_in(text_of(page))) - OF_OTHERS):
+                with self.subTest(page=page, name=name):
+                    self.assertTrue(name in known, "no code has this name")
+
+    def words_of_code(self) -> Set[str]:
+        """All words of the sources, the tools and the cases, and of the names of their files."""
+        paths = [path for path in self.paths if path.split("/")[0] in CODE_TOPS and os.path.isfile(os.path.join(TOP, path))]
+        texts = (code_of(path) for path in paths + ["crates.txt", "test"])
+        return set(re.findall(r"\w+", " ".join(paths))).union(*(re.findall(r"\w+", text) for text in texts))
 
     @classmethod
     def words_of(cls, crate: str) -> Set[str]:
