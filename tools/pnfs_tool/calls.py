@@ -1,8 +1,10 @@
 """Carries out calls and orders, and tries again where that helps.
 
-Each run of the program is a new client that begins with the number it is given. So the tool asks the server for
-the right number before its first request, and again behind each run that didn't say its `next`. It asks by a
-request with a number far away: the server answers 10063 with the number that it expects, and does nothing.
+Each run of the program is a new client that begins with the number it is given. So the tool finds a fresh number
+before its first request, and again after each run that didn't say its `next`. It asks by a request with a number
+far away: the server answers 10063 with the number that it expects, and does nothing. A request of a run that was
+killed may come later under that number. So the tool spends the number on a request that does nothing: once the
+server has taken that, no earlier run's request has a number that is still to come.
 """
 import time
 from typing import Callable, List, NamedTuple, Optional, Set
@@ -120,7 +122,7 @@ class Waiting:
 
 
 class Caller:
-    """Carries out calls as one client, whose number it knows or asks for."""
+    """Carries out calls as one client, whose number it knows or finds."""
 
     def __init__(self, program: Program, spare_file: int, patience: float, tell: Callable[[str], None]):
         self.program = program
@@ -133,24 +135,29 @@ class Caller:
         self.timed_out = 0
         self.late: Set[int] = set()
 
-    def ask_number(self) -> Answer:
-        """Asks the server for the number of the next request, once."""
-        ran = self.program.run(FAR_NUMBER, f"read f{self.spare_file} 0 1")
-        answer = read_answer(ran, self.program.client, "read")
-        words = answer.outcome or []
-        if answer.status == 10 and words[:2] == ["status", SEQ_MISORDERED] and len(words) == 3 and words[2].isdecimal():
-            if 0 < int(words[2]) < FAR_NUMBER:
-                self.next = int(words[2])
-                return answer
-        if answer.status in (0, 10):
-            raise End(10, f"the numbers of client {self.program.client} are used up ({answer.words()}): "
-                          "take another with --client")
+    def ask(self, sequence: int) -> Answer:
+        """Asks for a byte of the spare file under this number."""
+        ran = self.program.run(sequence, f"read f{self.spare_file} 0 1")
+        return read_answer(ran, self.program.client, "read")
+
+    def find_number(self) -> Answer:
+        """Finds a number that no earlier run has used, in two requests. The number is known afterwards, or the answer says why not."""
+        answer = self.ask(FAR_NUMBER)
+        expected = expected_number(answer)
+        if expected is None:
+            if answer.status in (0, 10):
+                raise End(10, f"the numbers of client {self.program.client} are used up ({answer.words()}): "
+                              "take another with --client")
+            return answer
+        answer = self.ask(expected)
+        if answer.next and expected_number(answer) is None:
+            self.next = answer.next
         return answer
 
     def once(self, call: Call) -> Answer:
-        """Carries out the call once, under the right number; the answer may be that of asking for it."""
+        """Carries out the call once, under a fresh number; the answer may be that of asking for it."""
         if self.next is None:
-            asked = self.ask_number()
+            asked = self.find_number()
             if self.next is None:
                 return asked
         self.calls += 1
@@ -208,6 +215,14 @@ class Caller:
             self.again += 1
             if waiting.is_new(step.why):
                 self.tell(f"{words}: {step.why}; trying again")
+
+
+def expected_number(answer: Answer) -> Optional[int]:
+    """The number that the server expects, where it refused another."""
+    words = answer.outcome or []
+    if answer.status != 10 or words[:2] != ["status", SEQ_MISORDERED] or len(words) != 3 or not words[2].isdecimal():
+        return None
+    return int(words[2]) if 0 < int(words[2]) < FAR_NUMBER else None
 
 
 def fits(answer: Answer, call: Call) -> bool:
