@@ -278,6 +278,14 @@ class Wrong(Tool):
             self.assertEqual(end.status, 10, outcome)
             self.assertIn(outcome, end.message)
 
+    def test_a_lost_file_is_told_of(self):
+        for is_lost, said in ((False, "rebuild the file first"), (True, "put a copy there")):
+            program = Scripted("o c0 write degraded 2\nnext 19\n", 10)
+            caller = calls.Caller(program, 63, 0.0, lambda line: None, lambda file: is_lost)
+            with self.assertRaises(End) as caught:
+                caller.carry_out(Call(0, 0, 3, b"abc"))
+            self.assertIn(said, caught.exception.message)
+
     def test_no_program(self):
         self.run_tool("get", "f0", program="/nonexistent/program", status=22)
 

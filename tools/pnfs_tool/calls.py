@@ -78,7 +78,7 @@ def step_behind(answer: Answer) -> Optional[Step]:
 
 
 HELP_BEHIND = {
-    "lost": "more of a stripe is lost than its parity brings back: restore the file from a copy",
+    "lost": "more of a stripe is lost than its parity brings back: put a copy of the file under another number",
     "degraded": "too many components are missing for a write: rebuild the file first",
     "nofile": "the server has no such file",
     "spent": "the file's tags or the grants' numbers are used up",
@@ -87,6 +87,10 @@ HELP_BEHIND = {
     "checkvalue": "this drive has another key than the server's cluster text says",
     "slotspent": "the numbers of this client are used up: take another with --client",
 }
+
+
+HELP_WHERE_LOST = ("more of it is lost than its parity brings back, so no rebuild helps and it can't be written again: add a file "
+                   "with another number to the cluster text, start the server again, and put a copy there")
 
 
 class Waiting:
@@ -124,11 +128,13 @@ class Waiting:
 class Caller:
     """Carries out calls as one client, whose number it knows or finds."""
 
-    def __init__(self, program: Program, spare_file: int, patience: float, tell: Callable[[str], None]):
+    def __init__(self, program: Program, spare_file: int, patience: float, tell: Callable[[str], None],
+                 is_lost: Callable[[int], bool] = lambda file: False):
         self.program = program
         self.spare_file = spare_file
         self.patience = patience
         self.tell = tell
+        self.is_lost = is_lost
         self.next: Optional[int] = None
         self.calls = 0
         self.again = 0
@@ -191,7 +197,8 @@ class Caller:
             tries += 1
             step = step_behind(answer)
             if step is None or not waiting.goes_on(step, tries):
-                raise given_up(call.name(), answer, step, tries)
+                is_lost = answer.outcome is not None and answer.outcome[0] == "degraded" and self.is_lost(call.file)
+                raise given_up(call.name(), answer, step, tries, is_lost)
             self.again += 1
             if not step.knows_number:
                 self.next = None
@@ -232,8 +239,8 @@ def fits(answer: Answer, call: Call) -> bool:
     return bytes_read(answer, call.length) is not None
 
 
-def given_up(name: str, answer: Answer, step: Optional[Step], tries: int) -> End:
-    """The end of a run whose call wasn't ok, with all that a person may need to know."""
+def given_up(name: str, answer: Answer, step: Optional[Step], tries: int, is_lost: bool = False) -> End:
+    """The end of a run whose call wasn't ok, with all that a person may need to know; `is_lost` if no rebuild helps the file."""
     parts = [f"{name}: {answer.words()}"]
     if answer.status not in (0, 8, 10):
         parts.append(PROGRAM_STATUSES.get(answer.status, f"the program ended with status {answer.status}"))
@@ -243,7 +250,7 @@ def given_up(name: str, answer: Answer, step: Optional[Step], tries: int) -> End
         parts.append(ORDER_ENDS[answer.order])
     else:
         said = (answer.outcome or []) + ([answer.refusal] if answer.refusal else [])
-        parts.extend(HELP_BEHIND[word] for word in said if word in HELP_BEHIND)
+        parts.extend([HELP_WHERE_LOST] if is_lost else [HELP_BEHIND[word] for word in said if word in HELP_BEHIND])
     message = ": ".join(parts)
     if answer.messages:
         lines = answer.messages.split("\n")
