@@ -3,6 +3,9 @@ import argparse
 import re
 from typing import List
 
+#: The server among parties.
+SERVER = "server"
+
 EPILOG = """\
 calls (they use a number of the client, which the tool asks the server for):
   put F < DATA              writes DATA, at most 16777216 bytes, as the whole of file F (f0 to f63).
@@ -18,6 +21,9 @@ to see how the cluster is (each asks for a layout of a file's first byte, like a
   metrics [--store NAME]..  the same for Prometheus, in its text format, with the size of each store or journal NAME that can be seen here
   ls                        the files: number, size and state
   watch [SECONDS]           'status' again and again, every 5 seconds or as many as are given
+  wait [PARTY]..            ends as soon as these parties answer, drives as d0 and the server as 'server', or all of the cluster
+                            text: status 24 if they don't within --patience seconds. It asks for no layout and uses no number.
+                            --process PID gives up at once when this process has ended
 
 orders (the server only begins with them: how they end is told on its standard error, and as far as it shows by --wait):
   revoke F     ends every grant of F, and repairs what unfinished writes left
@@ -45,7 +51,7 @@ exit status:
   21  the program's answer is none to what was asked
   22  the program couldn't be run
   23  F ends before the bytes that 'read' asked for; those before its end were put out
-  24  'status': something of the cluster doesn't answer, or lacks something
+  24  'status': something of the cluster doesn't answer, or lacks something; 'wait': a party doesn't answer
   25  '--wait': the job didn't end in time, or nothing is known of it
   26  '--wait' with 'rebuild': a component is missing still, since no drive was free for it
   27  '--wait' with 'rebuild': more of F is missing than its parity brings back
@@ -70,6 +76,13 @@ def drive_name(word: str) -> int:
     if not re.fullmatch(r"d(0|[1-9][0-9]?)", word) or int(word[1:]) > 63:
         raise argparse.ArgumentTypeError(f"'{word}' is no drive: d0 to d63")
     return int(word[1:])
+
+
+def party_name(word: str) -> str:
+    """A drive, or the server."""
+    if word != SERVER:
+        drive_name(word)
+    return word
 
 
 def number(word: str) -> int:
@@ -117,6 +130,9 @@ def parser() -> argparse.ArgumentParser:
     commands.add_parser("ls", allow_abbrev=False)
     watch = commands.add_parser("watch", allow_abbrev=False)
     watch.add_argument("seconds", type=number, nargs="?", default=5, metavar="SECONDS")
+    wait = commands.add_parser("wait", allow_abbrev=False)
+    wait.add_argument("parties", type=party_name, nargs="*", metavar="PARTY")
+    wait.add_argument("--process", type=number, metavar="PID", help="give up when this process has ended")
     write = commands.add_parser("write", allow_abbrev=False)
     write.add_argument("file", type=file_name, metavar="F")
     write.add_argument("offset", type=number, metavar="OFFSET")
