@@ -15,6 +15,10 @@ calls (they use a number of the client, which the tool asks the server for):
   write F OFFSET < DATA     writes DATA from byte OFFSET on
   read F OFFSET LENGTH      reads these bytes; status 23 where F ends before
 
+A long copy is many calls, each whole in itself: other clients may read and write between them, and a copy that
+stops has written, or put out, a part from the front. A call of whose run nothing is known is tried again,
+so it may be carried out twice.
+
 to see how the cluster is (each asks for a layout of a file's first byte, like a reader, and gives it back):
   status [--json]           drives, server and files: who answers, what is missing, what waits for what. Status 24 if
                             something doesn't answer or lacks something
@@ -34,31 +38,29 @@ orders (the server only begins with them: how they end is told on its standard e
   declare D    takes drive D (d0 to d63) for lost, for good. Refused where something takes connections at its
                address, unless --even-if-alive follows
 
-A long copy is many calls, each whole in itself: other clients may read and write between them, and a copy that
-stops has written, or put out, a part from the front. A call behind whose run nothing is known is tried again,
-so it may be carried out twice.
-
 exit status:
-  0   done: each call was acknowledged, each byte that was asked for was read
-  2   the words are none of these
-  4   the cluster text or standard input couldn't be read
-  5   standard output failed
-  8   the server didn't answer, as often as it was asked
-  9   the cluster text is refused
-  10  the call or the order was refused, or what is in its way didn't go away: standard error says what
-  20  refused by this tool, which sent nothing of it: the drive is alive, F is longer than DATA or DATA too long,
-      there is no such file or drive in the cluster text, or the client number is in use
-  21  the program's answer is none to what was asked
-  22  the program couldn't be run
-  23  F ends before the bytes that 'read' asked for; those before its end were put out
-  24  'status': something of the cluster doesn't answer, or lacks something; 'wait': a party doesn't answer
-  25  '--wait': the job didn't end in time, or nothing is known of it
-  26  '--wait' with 'rebuild': a component is missing still, since no drive was free for it
-  27  '--wait' with 'rebuild': more of F is missing than its parity brings back
-  130 Ctrl-C
+  0    done: each call was acknowledged, each byte that was asked for was read
+  2    the words are none of these
+  4    the cluster text or standard input couldn't be read
+  5    standard output failed
+  8    the server didn't answer, as often as it was asked
+  9    the cluster text is refused
+  10   the call or the order was refused, or what is in its way didn't go away: standard error says what
+  20   refused by this tool, which sent nothing of it: the drive is alive, F is longer than DATA or DATA too long,
+       there is no such file or drive in the cluster text, or the client number is in use
+  21   the program's answer is none to what was asked
+  22   the program couldn't be run
+  23   F ends before the bytes that 'read' asked for; those before its end were put out
+  24   'status': something of the cluster doesn't answer, or lacks something; 'wait': a party doesn't answer
+  25   '--wait': the job didn't end in time, or nothing is known of it
+  26   '--wait' with 'rebuild': a component is missing still, since no drive was free for it
+  27   '--wait' with 'rebuild': more of F is missing than its parity brings back
+  130  Ctrl-C
 Other statuses are the program's own (./pnfs_osd --help).
 
-The program is that of --program or $PNFS_OSD, else crates/pnfs_osd/out/pnfs_osd, which ./pnfs_osd builds.
+The program is that of --program or $PNFS_OSD, else crates/pnfs_osd/out/pnfs_osd, which ./pnfs_osd builds; an installed
+tool takes the pnfs_osd of the PATH.
+
 Client numbers are held by locks in /tmp/pnfs_osd.locks ($PNFS_LOCKS), for one machine. Give each machine its own.
 docs/use/OPERATIONS.md goes through a cluster's first hour.
 """
