@@ -86,7 +86,7 @@ class Completions(unittest.TestCase):
         self.assertEqual(self.completed("-c", CLUSTER, "get", ""), ["f0"])
         self.assertEqual(self.completed("-q", "-c", CLUSTER, "rebuild", "--wait", "f"), ["f0"])
         self.assertEqual(self.completed("-c", CLUSTER, "declare", ""), ["d0", "d1", "d2", "d3"])
-        self.assertEqual(self.completed("--cluster", CLUSTER, "wait", "d0", ""), ["server", "d0", "d1", "d2", "d3"])
+        self.assertEqual(self.completed("--cluster", CLUSTER, "wait", "d0", ""), ["server", "drives", "d0", "d1", "d2", "d3"])
         self.assertEqual(self.completed("get", ""), [])
 
     def test_values(self):

@@ -257,6 +257,7 @@ class Status(Seeing):
         self.cluster({0: (5000, [0, 1, 2])})
         self.assertEqual(self.tool("wait"), "")
         self.assertEqual(self.tool("wait", "d2", "server"), "")
+        self.assertEqual(self.tool("wait", "drives"), "")
         self.assertEqual([request.sequence for request in self.server.requests], [4_294_967_280] * 2)
         self.assertEqual(self.server.granted, 0)
 
@@ -267,7 +268,8 @@ class Status(Seeing):
         self.tool("wait", "d0", "server")
         self.tool("--patience", "0", "wait", "d1", status=24)
         self.assertEqual(self.messages, "pnfs: d1 doesn't answer; given up after 0 seconds\n")
-        self.tool("--patience", "1", "wait", status=24)
+        self.tool("--patience", "0", "wait", status=24)
+        self.tool("--patience", "0", "wait", "drives", status=24)
         self.tool("wait", "d3", status=20)
 
     def test_wait_for_what_begins_late(self):

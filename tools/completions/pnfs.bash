@@ -112,7 +112,7 @@ _pnfs() {
     case $kind in
         file) mapfile -t COMPREPLY < <(compgen -W "$(_pnfs_names "$cluster" file f)" -- "$word") ;;
         drive) mapfile -t COMPREPLY < <(compgen -W "$(_pnfs_names "$cluster" drive d)" -- "$word") ;;
-        party) mapfile -t COMPREPLY < <(compgen -W "server $(_pnfs_names "$cluster" drive d)" -- "$word") ;;
+        party) mapfile -t COMPREPLY < <(compgen -W "server drives $(_pnfs_names "$cluster" drive d)" -- "$word") ;;
         client) mapfile -t COMPREPLY < <(compgen -W "0 1 2 3 4 5 6 7 8 9 10 11 12 13 14 15" -- "$word") ;;
         path) compopt -o filenames 2>/dev/null; mapfile -t COMPREPLY < <(compgen -f -- "$word") ;;
     esac

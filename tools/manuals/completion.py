@@ -16,7 +16,7 @@ NAMES = r"""_pnfs_names() {
 BASH_VALUES = {
     FILE: '$(_pnfs_names "$cluster" file f)',
     DRIVE: '$(_pnfs_names "$cluster" drive d)',
-    PARTY: 'server $(_pnfs_names "$cluster" drive d)',
+    PARTY: 'server drives $(_pnfs_names "$cluster" drive d)',
     CLIENT: CLIENTS,
 }
 
@@ -113,7 +113,7 @@ def for_zsh() -> str:
     lines = ["#compdef pnfs", FIRST, "", NAMES, "",
              "_pnfs_files() { compadd -- $(_pnfs_names \"$_pnfs_cluster\" file f) }",
              "_pnfs_drives() { compadd -- $(_pnfs_names \"$_pnfs_cluster\" drive d) }",
-             "_pnfs_parties() { compadd -- server $(_pnfs_names \"$_pnfs_cluster\" drive d) }", "",
+             "_pnfs_parties() { compadd -- server drives $(_pnfs_names \"$_pnfs_cluster\" drive d) }", "",
              "_pnfs() {", "    local curcontext=$curcontext state line _pnfs_cluster", "    typeset -A opt_args",
              "    local -a commands=("]
     lines += [f"        '{command.name}:{zsh_text(command.told)}'" for command in words.commands]

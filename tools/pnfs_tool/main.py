@@ -17,7 +17,7 @@ from .program import Program, program_path
 from .seeing import LOST, Onlooker, see_cluster, see_files
 from .showing import as_json, as_list, as_text
 from .waiting import is_up, rebuilt, wait_for_end, wait_for_parties
-from .words import SERVER, words_of
+from .words import DRIVES, SERVER, words_of
 
 MAX_TEXT = 67_108_864   # of a cluster text, as the program takes it
 ALL_FILES = range(64)
@@ -128,11 +128,12 @@ def show_cluster(words: argparse.Namespace, cluster: Cluster) -> int:
 def wait(words: argparse.Namespace, cluster: Cluster) -> int:
     """Carries out wait."""
     drives = [f"d{number}" for number in sorted(cluster.drives)]
-    for party in words.parties:
+    parties = sum((drives if word == DRIVES else [word] for word in words.parties or [DRIVES, SERVER]), [])
+    for party in parties:
         if party not in drives + [SERVER]:
             raise End(NOT_ASKED, f"the cluster text has no drive {party}")
     onlooker = Onlooker(cluster.server, words.client)
-    wait_for_parties(words.parties or drives + [SERVER], lambda party: is_up(cluster, party, onlooker, spare_file(cluster)),
+    wait_for_parties(parties, lambda party: is_up(cluster, party, onlooker, spare_file(cluster)),
                      words.process, words.patience)
     return DONE
 

@@ -3,8 +3,8 @@ import argparse
 import re
 from typing import List
 
-#: The server among parties.
-SERVER = "server"
+#: The server among parties, and all drives.
+SERVER, DRIVES = "server", "drives"
 
 EPILOG = """\
 calls (they use a number of the client, which the tool asks the server for):
@@ -25,9 +25,9 @@ to see how the cluster is (each asks for a layout of a file's first byte, like a
   metrics [--store NAME]..  the same for Prometheus, in its text format, with the size of each store or journal NAME that can be seen here
   ls                        the files: number, size and state
   watch [SECONDS]           'status' again and again, every 5 seconds or as many as are given
-  wait [PARTY]..            ends as soon as these parties answer, drives as d0 and the server as 'server', or all of the cluster
-                            text: status 24 if they don't within --patience seconds. It asks for no layout and uses no number.
-                            --process PID gives up at once when this process has ended
+  wait [PARTY]..            ends as soon as these parties answer: drives as d0 or all of them as 'drives', and the server as
+                            'server'; without a PARTY all of the cluster text. Status 24 if they don't within --patience seconds.
+                            It asks for no layout and uses no number. --process PID gives up at once when this process has ended
 
 orders (the server only begins with them: how they end is told on its standard error, and as far as it shows by --wait):
   revoke F     ends every grant of F, and repairs what unfinished writes left
@@ -81,8 +81,8 @@ def drive_name(word: str) -> int:
 
 
 def party_name(word: str) -> str:
-    """A drive, or the server."""
-    if word != SERVER:
+    """A drive, all drives, or the server."""
+    if word not in (SERVER, DRIVES):
         drive_name(word)
     return word
 
