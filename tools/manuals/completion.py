@@ -50,7 +50,7 @@ def for_bash() -> str:
     """The completion for bash."""
     words = table()
     all_options = words.options + [option for command in words.commands for option in command.options]
-    with_value = sorted({name for option in all_options if option.kind for name in option.names})
+    with_value = {name for option in all_options if option.kind for name in option.names} - {"-c", "--cluster"}
     kinds = {option.kind: [] for option in all_options if option.kind}  # type: ignore[var-annotated]
     for option in all_options:
         if option.kind:
@@ -62,7 +62,7 @@ def for_bash() -> str:
               '        before=${COMP_WORDS[place]}',
               "        case $before in",
               "            -c | --cluster) cluster=${COMP_WORDS[place + 1]/#\\~/$HOME}; place=$((place + 1)) ;;",
-              "            " + " | ".join(name for name in with_value if name not in ("-c", "--cluster")) + ") place=$((place + 1)) ;;",
+              f"            {' | '.join(sorted(with_value))}) place=$((place + 1)) ;;",
               "            -*) before= ;;",
               '            *) if [ -z "$command" ]; then command=$before; else at=$((at + 1)); fi; before= ;;',
               "        esac",

@@ -18,7 +18,8 @@ def bold(text: str) -> str:
 
 def head(name: str, version: str) -> List[str]:
     """The first lines of a page of section 1."""
-    return ['.\\" Made by tools/manual --write: change the texts that it reads.', f'.TH {name.upper()} 1 "" "{version}" "pnfs_osd"']
+    return ['.\\" Made by tools/manual --write: change the texts that it reads.',
+            f'.TH {name.upper()} 1 "" "{version}" "pnfs_osd"']
 
 
 def section(name: str) -> List[str]:

@@ -1,7 +1,8 @@
 """Waits until parties answer, and until the job of an order has ended, as far as that shows from outside.
 
-A party that was started takes connections before it is ready, and answers the first after it has said `listening`. A file that a job works on refuses requests for layouts. So the job has ended when a layout is granted again, and the layout tells
-which components are missing then.
+A party that was started takes connections before it is ready, and answers the first after it has said `listening`. A file that a
+job works on refuses requests for layouts. So the job has ended when a layout is granted again, and the layout tells which
+components are missing then.
 """
 import os
 import time
@@ -78,7 +79,8 @@ def is_up(cluster: Cluster, party: str, onlooker: Onlooker, file: int) -> bool:
 
 
 def wait_for_parties(parties: List[str], asks: Callable[[str], bool], process: Optional[int], patience: float) -> None:
-    """Asks these parties, one after the other, until each has answered. Ends the run where that takes longer, or without the process."""
+    """Asks these parties, one after the other, until each has answered. Ends the run where that takes longer than the patience, or
+    the process has ended before."""
     until = time.monotonic() + patience
     for party in parties:
         pause = FIRST_PAUSE
