@@ -301,6 +301,8 @@ class Status(Seeing):
         self.tool("--patience", "60", "wait", "d0", "--process", str(ended.pid), status=24)
         self.assertEqual(self.messages, f"pnfs: process {ended.pid} has ended, and d0 doesn't answer\n")
         self.tool("wait", "server", "--process", str(os.getpid()))
+        self.tool("wait", "server", "--process", str(ended.pid), status=24)
+        self.assertEqual(self.messages, f"pnfs: process {ended.pid} has ended, and another one answers in its place\n")
 
     def test_the_client_number_is_held(self):
         self.cluster({0: (1, [0, 1, 2])})

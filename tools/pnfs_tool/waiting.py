@@ -91,3 +91,5 @@ def wait_for_parties(parties: List[str], asks: Callable[[str], bool], process: O
                 raise End(NOT_WELL, f"{party} doesn't answer; given up after {patience} seconds")
             time.sleep(pause)
             pause = min(pause * 2, LONGEST_PAUSE)
+    if has_ended(process):
+        raise End(NOT_WELL, f"process {process} has ended, and another one answers in its place")
