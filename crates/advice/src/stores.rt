@@ -6,6 +6,9 @@ use std::alloc::{AllocError, Global};
 // The place of a drive's number in its store.
 const NUMBER_PLACE: u64 = 8;
 
+// The place of the first gate, behind the header.
+const FIRST_GATE: u64 = 24;
+
 // What may be done about the file of a drive.
 fn rest_for_drive(cause: &FileCause) -> &'static str {
     match cause {
@@ -63,17 +66,17 @@ pub fn failed_disk(
     }
 }
 
-// What is wrong with a file that is no store of the party from this place on.
+// What is wrong with the header of a file that is no store of the party: its name and version, or the drive's number.
 fn fault_at(asker: Asker, at: u64) -> &'static str {
     match at {
-        0 if asker == Asker::Server => "isn't the journal of a server",
-        0 => "isn't the store of a drive",
         NUMBER_PLACE => "is the store of a drive with another number",
-        _ => "was cut short or changed (docs/STORES.md)",
+        _ if asker == Asker::Server => "isn't the journal of a server",
+        _ => "isn't the store of a drive",
     }
 }
 
-/// What a person is told if a file is no store of the drive, or no journal of a server, from this place on.
+/// What a person is told if a file is no store of the drive, or no journal of a server, from this place on: what its header
+/// says, or which record isn't as it was written.
 pub fn refused_store(
     alloc: Global,
     asker: Asker,
@@ -81,6 +84,11 @@ pub fn refused_store(
     at: u64,
 ) -> Result<String, AllocError> {
     let file = Printable::new(store.as_bytes());
-    let fault = fault_at(asker, at);
-    format!(in alloc; "pnfs_osd: the file {file} {fault}. It is left as it is\n")
+    if at < FIRST_GATE {
+        let fault = fault_at(asker, at);
+        return format!(in alloc; "pnfs_osd: the file {file} {fault}. It is left as it is\n");
+    }
+    format!(in alloc;
+        "pnfs_osd: the file {file}: the record at byte {at} was cut short or changed (docs/STORES.md). It is left as it is\n"
+    )
 }

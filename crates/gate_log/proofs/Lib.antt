@@ -1,6 +1,9 @@
+pub mod Appended
 pub mod Appending
 pub mod Crash
 pub mod Fronts
 pub mod OneLog
 pub mod Reading
 pub mod Records
+pub mod Sums
+pub mod Turned

@@ -342,11 +342,11 @@ const RECORDS: &[(&[Body], Opened)] = &[
     (&[Body::Bytes(&[1])], Opened::Refused(24)),
     (&[Body::Bytes(b"no command")], Opened::Refused(24)),
     (&[Body::Of(WRITE)], Opened::Refused(24)),
-    (&[Body::Of(MAKE), Body::Of(READ)], Opened::Refused(290)),
-    (&[Body::Of(MAKE), Body::Of(MAKE)], Opened::Refused(290)),
+    (&[Body::Of(MAKE), Body::Of(READ)], Opened::Refused(298)),
+    (&[Body::Of(MAKE), Body::Of(MAKE)], Opened::Refused(298)),
     (
         &[Body::Of(MAKE), Body::Bytes(&[SECOND_FORMAT, 2])],
-        Opened::Refused(290),
+        Opened::Refused(298),
     ),
 ];
 
