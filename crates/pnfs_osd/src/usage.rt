@@ -2,7 +2,7 @@
 // they can be read before the program is built: keep the lines between a constant's first line and its quotation mark.
 
 const VERSION: &str = "\
-pnfs_osd 0.1.0
+pnfs_osd 0.2.0
 ";
 
 /// What the program is told to do, and how it ends.
