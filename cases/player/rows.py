@@ -5,6 +5,7 @@ import os
 import random
 import shutil
 import signal
+import stat
 import sys
 import tempfile
 import time
@@ -95,6 +96,16 @@ class Run:
         at, put = int(place), bytes.fromhex(digits)
         content = self._read(name)
         self._write(name, content[:at] + put + content[at + len(put):])
+
+    def _mode(self, words: List[str], _: Row) -> None:
+        name, digits = words
+        os.chmod(self._path(name), int(digits, 8))
+
+    def _has_mode(self, words: List[str], _: Row) -> None:
+        name, digits = words
+        had = stat.S_IMODE(os.stat(self._path(name)).st_mode)
+        if had != int(digits, 8):
+            raise Fault("the file's mode has to be %s and is %o" % (digits, had))
 
     def _same(self, words: List[str], _: Row) -> None:
         first, second = (self._read(name) for name in words)
@@ -329,6 +340,7 @@ class Run:
         rows: Dict[str, Callable[[List[str], Row], None]] = {
             "cluster": self._cluster, "text": self._text, "bytes": self._bytes, "filled": self._filled,
             "repeated": self._repeated, "cut": self._cut, "change": self._change,
+            "mode": self._mode, "has-mode": self._has_mode,
             "prefixes": self._prefixes, "fills": self._fills, "last": self._last,
             "same": self._same, "has": self._has, "digest": self._digest,
             "says": self._says, "end": self._end, "sleep": self._sleep, "limit": self._set_limit, "let": self._let,

@@ -9,12 +9,17 @@ const NUMBER_PLACE: u64 = 8;
 // The place of the first gate, behind the header.
 const FIRST_GATE: u64 = 24;
 
+// What may be done about a file that others can read.
+const FOR_THE_OWNER: &str =
+    "Start it as the user who owns the file, or have that user give it mode 0600.\n";
+
 // What may be done about the file of a drive.
 fn rest_for_drive(cause: &FileCause) -> &'static str {
     match cause {
         FileCause::NoFolder => "The file is made where there is none, but its folder isn't.\n",
         FileCause::InUse =>
             "One drive at a time can serve from a store: end the other one first.\n",
+        FileCause::NotPrivate => FOR_THE_OWNER,
         FileCause::Full => {
             "All that was answered is in the store. Make room, and start the drive again: it goes on from there.\n"
         }
@@ -31,6 +36,7 @@ fn rest_for_server(cause: &FileCause) -> &'static str {
         FileCause::NoFolder => "The file is made where there is none, but its folder isn't.\n",
         FileCause::InUse =>
             "One server at a time can serve from a journal: end the other one first.\n",
+        FileCause::NotPrivate => FOR_THE_OWNER,
         FileCause::Full => {
             "All that was answered is in the journal. Make room, and start the server again: it goes on from there.\n"
         }
