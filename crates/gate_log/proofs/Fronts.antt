@@ -1,9 +1,9 @@
 -- One record more at the end of a log's front.
-use Rattle.std.proofs.Common.{◌≡◌, ℕ, List, [], ◌∷◌, ◌++◌, length, refl, sym, ◌∙◌, ap, append_assoc}
+use Rattle.std.proofs.Common.{◌≡◌, ℕ, List, [], ◌∷◌, ◌++◌, refl, sym, ◌∙◌, ap, append_assoc}
 use Rattle.std.proofs.lemmas.List.{append-nil}
 use Rattle.gate_log.specs.declared.form.Form.TheVariants.{Checked}
 use Rattle.gate_log.specs.Entries.{piece_of}
-use Rattle.gate_log.specs.Forms.{IsBody, record_of}
+use Rattle.gate_log.specs.Forms.{record_of}
 use Rattle.gate_log.specs.Logs.{Gated, records_of, IsRecord, AreRecords, bodies_of, IsFront, IsLog}
 
 records_push : (rs : List Gated) (r : Gated) →

@@ -1,5 +1,6 @@
 pub mod Appended
 pub mod Appending
+pub mod ByTable
 pub mod Crash
 pub mod Fronts
 pub mod OneLog

@@ -1,5 +1,5 @@
 -- One byte that differs shows in the checksum.
-use Rattle.std.proofs.Common.{◌≡◌, ◌⊎◌, inl, inr, ℕ, zero, suc, ◌+◌, ◌-◌, ◌/◌, ◌%◌, ◌<◌, ◌^◌, List, [], ◌∷◌, ◌++◌, length, drop, get_or, sym, ◌∙◌, ap, subst, arith, refl}
+use Rattle.std.proofs.Common.{◌≡◌, ◌⊎◌, inl, inr, ℕ, zero, suc, ◌+◌, ◌/◌, ◌%◌, ◌<◌, ◌^◌, List, [], ◌∷◌, ◌++◌, length, drop, get_or, sym, ◌∙◌, ap, subst, arith, refl}
 use Rattle.std.specs.Prelude.{bit_xor}
 use Rattle.std.specs.Int.Bits.{xor_assoc, xor_self, xor_zero_l}
 use Rattle.std.proofs.lemmas.Bool.{cases_eq}
@@ -23,15 +23,15 @@ same_right a b c e = same_left c a b (xor_comm c a ∙ e ∙ xor_comm b c)
 
 -- ---- one bit
 
-even_bit : (r : ℕ) → r % 2 ≡ 0 → after_bit r ≡ r / 2
+pub even_bit : (r : ℕ) → r % 2 ≡ 0 → after_bit r ≡ r / 2
 unfolding after_bit
 even_bit r e = rw e refl
 
-odd_bit : (r : ℕ) → r % 2 ≡ 1 → after_bit r ≡ bit_xor (r / 2) POLYNOMIAL
+pub odd_bit : (r : ℕ) → r % 2 ≡ 1 → after_bit r ≡ bit_xor (r / 2) POLYNOMIAL
 unfolding after_bit
 odd_bit r e = rw e refl
 
-parity : (r : ℕ) → (r % 2 ≡ 0) ⊎ (r % 2 ≡ 1)
+pub parity : (r : ℕ) → (r % 2 ≡ 0) ⊎ (r % 2 ≡ 1)
 parity r = elim (cases_eq (r % 2) 0) [ inl e ↦ inl e | inr ne ↦ inr (omega (arith, ne)) ]
 
 low_bit : (r : ℕ) → r < 2 ^ 32 → after_bit r < 2 ^ 32
@@ -116,10 +116,6 @@ low_bytes (byte ∷ bytes) r are low =
     low_bytes bytes (after_bits 8 (bit_xor r byte)) (λ i. are (suc i)) (low_byte r byte low (are 0))
 
 -- ---- one step of it
-
-pub bit_done : (k r : ℕ) → k < 8 → after_bits (8 - k) r ≡ after_bits (8 - (k + 1)) (after_bit r)
-unfolding after_bits
-bit_done k r lt = let left : 8 - k ≡ suc (8 - (k + 1)) = omega (arith, lt) in rw left refl
 
 pub byte_done : (r i : ℕ) (bytes : List ℕ) → i < length bytes
     → after_bytes r (drop i bytes) ≡ after_bytes (after_bits 8 (bit_xor r (get_or bytes i 0))) (drop (i + 1) bytes)

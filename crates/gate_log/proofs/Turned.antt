@@ -1,5 +1,5 @@
 -- One bit that turned in an appended record, or in its gate.
-use Rattle.std.proofs.Common.{◌≡◌, ◌⊎◌, inl, inr, ℕ, zero, suc, ◌+◌, ◌/◌, ◌%◌, ◌<◌, ◌≤◌, ◌^◌, List, [], ◌∷◌, ◌++◌, length, get_or, refl, sym, ◌∙◌, ap, subst, arith, append_assoc, length-append}
+use Rattle.std.proofs.Common.{◌≡◌, ◌⊎◌, inl, inr, ℕ, zero, suc, ◌+◌, ◌<◌, ◌≤◌, ◌^◌, List, [], ◌∷◌, ◌++◌, length, get_or, refl, sym, ◌∙◌, ap, subst, arith, append_assoc, length-append}
 use Rattle.std.specs.Prelude.{bit_xor}
 use Rattle.std.specs.Int.{w32, to_be_bytes}
 use Rattle.std.specs.Int.Bits.{xor_self, xor_zero_r}
@@ -12,11 +12,11 @@ use Rattle.gate_log.specs.declared.form.Form.{Form}
 use Rattle.gate_log.specs.declared.form.Form.TheVariants.{Plain, Checked}
 use Rattle.gate_log.specs.declared.header.TheConstants.{HEADER_SIZE}
 use Rattle.gate_log.specs.Checksum.{crc_32}
-use Rattle.gate_log.specs.Forms.{IsBody, complement, record_of, size_of}
+use Rattle.gate_log.specs.Forms.{IsBody, complement, record_of}
 use Rattle.gate_log.specs.Logs.{Gated, records_of, AreRecords, bodies_of, IsLog}
 use Rattle.gate_log.specs.Written.{appended, AreBodies, IsAppended, Turned}
 use Rattle.gate_log.proofs.Appended.{same_list}
-use Rattle.gate_log.proofs.Sums.{crc_low, one_byte, same_left, xor_cancel}
+use Rattle.gate_log.proofs.Sums.{crc_low, one_byte, xor_cancel}
 use Rattle.gate_log.proofs.OneLog.{length_record, one_split, same_number, same_record, three}
 
 -- ---- a place in two parts of the bytes

@@ -1,5 +1,5 @@
 -- What the bytes of a log stand for: a header, then a record behind each open gate, up to the first closed gate.
-use Rattle.std.specs.Prelude.{◌≡◌, ◌<◌, ◌≤◌, ℕ, List, [], ◌∷◌, ◌++◌, length, map}
+use Rattle.std.specs.Prelude.{◌≡◌, ◌<◌, ℕ, List, [], ◌∷◌, ◌++◌, length, map}
 use Rattle.gate_log.specs.declared.form.Form.{Form}
 use Rattle.gate_log.specs.declared.header.TheConstants.{HEADER_SIZE}
 use Rattle.gate_log.specs.Forms.{IsBody, record_of}

@@ -15,6 +15,7 @@ mod log;
 mod opening;
 mod reader;
 mod record;
+mod table;
 
 pub use checksum::crc_32;
 pub use entry::{Entry, MAX_BODY, OPEN_GATE};

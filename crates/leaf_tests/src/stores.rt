@@ -200,6 +200,51 @@ fn a_turned_bit_shows_where_it_says(rt: HostRuntime) {
     }
 }
 
+// How many bytes are turned, bit by bit, of a log with so many records, each of which has so many bytes with its gate.
+const TURNED: usize = 4096;
+
+const RECORDS: u32 = 14;
+
+const RECORD: usize = 313;
+
+// The bytes of a log whose records have bodies of 300 bytes.
+fn long_log(alloc: Global) -> Bytes {
+    let Ok(mut log) = GateLog::create(MemDisk::new(alloc, numbers(alloc, &[])), HEADER) else {
+        return Bytes::new(alloc);
+    };
+    for _ in 0..RECORDS {
+        add_all(alloc, &mut log, &[&[5; 300]]);
+    }
+    copied(alloc, log.into_disk().bytes())
+}
+
+// How that log is opened if one bit of this byte turned.
+fn opened_turned(alloc: Global, log: &Bytes, at: usize, bit: u32) -> OpenedLog {
+    let mut bytes = copied(alloc, log.as_slice());
+    if at < bytes.len() && bit < 8 {
+        let byte = *bytes.get(at);
+        *bytes.get_mut(at) = byte ^ (1u8 << bit);
+    }
+    opened_bytes(alloc, bytes, &[])
+}
+
+#[test]
+fn each_bit_that_turns_in_a_long_log_shows(rt: HostRuntime) {
+    let alloc = rt.alloc();
+    let log = long_log(alloc);
+    for at in FIRST_GATE..TURNED {
+        let gate = at - (at - FIRST_GATE) % RECORD;
+        let how = if at == gate {
+            OpenedLog::Records(RECORDS)
+        } else {
+            OpenedLog::Refused(gate as u64)
+        };
+        for bit in 0..8u32 {
+            assert!(rt; opened_turned(alloc, &log, at, bit) == how);
+        }
+    }
+}
+
 #[test]
 fn a_record_of_an_earlier_version_is_read(rt: HostRuntime) {
     let alloc = rt.alloc();

@@ -1,6 +1,6 @@
-use Rattle.std.proofs.Common.{rules, ◌≡◌, ◌<◌, ◌+◌, ℕ, List, ◌∷◌, ◌++◌, IsTrue, drop, length, refl, sym, ◌∙◌, ap, subst}
+use Rattle.std.proofs.Common.{◌≡◌, ◌<◌, ◌+◌, ℕ, List, ◌∷◌, ◌++◌, IsTrue, drop, length, refl, sym, ◌∙◌, ap, subst}
 use Rattle.gate_log.specs.Broken.{IsNoRecord}
-use Rattle.gate_log.specs.Forms.{head_size, record_of, size_of}
+use Rattle.gate_log.specs.Forms.{record_of, size_of}
 use Rattle.gate_log.specs.declared.form.Form.{Form}
 use Rattle.gate_log.proofs.Records.{no_block, no_room, record_parts, says_more, taken_same}
 use Rattle.gate_log.proofs.record.read_record.Goals as goal
