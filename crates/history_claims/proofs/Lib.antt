@@ -62,6 +62,12 @@ pub mod AuditSteps
 pub mod AuditLaw
 pub mod HeardSteps
 pub mod HeardLaw
+pub mod FormatJobs
+pub mod FormatSteps
+pub mod FormatFiles
+pub mod FormatHears
+pub mod FormatLaw
+pub mod JobsWait
 pub mod ShortParts
 pub mod ShortSteps
 pub mod ShortLaw
