@@ -230,5 +230,5 @@ module _ (h : List Line) (told : AtEachLine IsLoggedAt h) (b body after : List L
     added = (
       subst (λ (ls : List Line). HasEnded c old x e.outcome (log_in ls)) whole (record { grant = ended.grant; still = over.0 }),
       ap summary_of (sym whole) ∙ over.1 ∙ summary_more b2 its
-      ∙ ap (λ (z : Summary). counts_outcome z e.outcome) (running.1 ∙ summary_more b does),
+          ∙ ap (λ (z : Summary). counts_outcome z e.outcome) (running.1 ∙ summary_more b does),
     )

@@ -26,12 +26,15 @@ called_there l c x = by (at_number l.pending c) refl
     by (Some p) there = (p, there)
 
 -- what is handed to client k is what is handed to client c
+abbrev handed : ℕ → Input → ForClient
+handed k i = record { number = k; input = i }
+
 abbrev Both : (k : ℕ) → Input → (c : ℕ) → CallOp → Type 0
-Both k i c op = Some (record { number = k; input = i }) ≡ Some (record { number = c; input = inputs.Calls op })
+Both k i c op = Some (handed k i) ≡ Some (handed c (inputs.Calls op))
 
 same_input : (k : ℕ) (i : Input) (c : ℕ) (op : CallOp) → Both k i c op → (k ≡ c) × (i ≡ inputs.Calls op)
 same_input k i c op is =
-    let one : record { number = k; input = i } ≡ record { number = c; input = inputs.Calls op } = cc is in
+    let one : handed k i ≡ handed c (inputs.Calls op) = cc is in
     (ap (λ (f : ForClient). f.number) one, ap (λ (f : ForClient). f.input) one)
 
 its_client : (l : Log) (k : ℕ) (x : Call) (c : ℕ) (op : CallOp) → Both k (inputs.Calls (op_of x)) c op
