@@ -82,7 +82,7 @@ pub record IsStill (es : List Logged) (l : Log) : Type 0 where
   pub pending : l.pending ≡ []
   pub entries : l.entries ≡ es
 
-still_none : (es : List Logged) (l : Log) (k : ℕ) → IsStill es l → HasNone l k
+pub still_none : (es : List Logged) (l : Log) (k : ℕ) → IsStill es l → HasNone l k
 still_none es l k s = (
   ap (λ (ps : List (ℕ × Pending)). at_number ps k) s.pending,
   ap (λ (ps : List (ℕ × Pending)). without_number ps k) s.pending ∙ sym s.pending,
