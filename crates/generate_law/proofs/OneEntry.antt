@@ -1,5 +1,5 @@
 -- The log behind the lines of a call's event, where no other call is pending: its entry alone is new.
-use Rattle.std.proofs.Common.{◌≡◌, ◌⊎◌, ◌==◌, ℕ, Bool, true, false, List, [], ◌∷◌, ◌++◌, length, slice_get, slice_set, Option, Some, None, Result, Ok, Err, refl, sym, ap, subst, ◌∙◌, inl, inr, arith}
+use Rattle.std.proofs.Common.{◌≡◌, ◌⊎◌, ◌==◌, ℕ, true, false, List, [], ◌∷◌, ◌++◌, length, slice_get, slice_set, Option, Some, None, Result, Ok, Err, refl, sym, ap, subst, ◌∙◌, inl, inr, arith}
 use Rattle.std.proofs.lemmas.Bool.{true≢false, cases_eq, eq-eqb, le-ltb}
 use Rattle.osd_objects.proofs.Entries.{is_at_equal, is_at_other}
 use Rattle.osd_commands.specs.declared.actions.Action.{Action}
@@ -15,7 +15,6 @@ use Rattle.scenario_text.specs.declared.event.Event.TheVariants as event
 use Rattle.scenario_text.specs.declared.line.Ending.TheVariants as ending
 use Rattle.scenario_text.specs.declared.line.Outcome.{Outcome}
 use Rattle.scenario_text.specs.declared.line.Outcome.TheVariants as outcome
-use Rattle.scenario_text.specs.declared.line.Party.{Party}
 use Rattle.scenario_text.specs.declared.line.Party.TheVariants as party
 use Rattle.scenario_text.specs.declared.line.Refusal.{Refusal}
 use Rattle.scenario_text.specs.declared.line.Refusal.TheVariants as refusal
@@ -23,7 +22,7 @@ use Rattle.scenario_text.specs.declared.line.Line.{Line}
 use Rattle.scenario_text.specs.declared.line.Line.TheVariants as line
 use Rattle.world_history.specs.Moves.{op_of}
 use Rattle.world_history.specs.State.{at_number, and_number, without_number}
-use Rattle.world_history.specs.ReadLog.{Pending, Logged, Log, called_beside, closed, closed_with, closed_at, ended, ended_entry, ends, entry_in, log_after, refused, sends, sends_as, sends_command, sends_in, sends_read, sends_write, starts}
+use Rattle.world_history.specs.ReadLog.{Pending, Logged, Log, called_beside, closed_with, closed_at, ended, ended_entry, ends, entry_in, log_after, refused, sends_as, sends_command, sends_in, sends_read, sends_write, starts}
 use Rattle.cause_law.specs.Lines.{is_event}
 use Rattle.ready_law.specs.Answered.{IsOk, ends_call}
 use Rattle.generate_law.proofs.PlainSums.{first_entry}

@@ -1,9 +1,8 @@
 -- Calls that ended in ok, whose log the judge accepts, come to what they come to on one plain list of bytes.
-use Rattle.std.proofs.Common.{◌≡◌, ◌+◌, ◌-◌, ◌≤◌, ◌<◌, ℕ, min, List, [], ◌∷◌, ◌++◌, length, take, drop, get_or, map, fold, false, Some, None, refl, sym, ap, subst, ◌∙◌, arith, inl, inr}
-use Rattle.std.specs.List.{AllByRecursion, sum_by}
+use Rattle.std.proofs.Common.{◌≡◌, ◌+◌, ◌-◌, ◌<◌, ℕ, min, List, [], ◌∷◌, length, drop, get_or, map, fold, false, None, refl, sym, ap, subst, ◌∙◌, arith}
+use Rattle.std.specs.List.{AllByRecursion}
 use Rattle.std.proofs.lemmas.Grind.{same_number_lists}
 use Rattle.std.proofs.lemmas.List.{get_or-drop, get_or-take, length-drop, length-take}
-use Rattle.client_rules.specs.Calls.{file_of}
 use Rattle.file_log.specs.declared.entry.Entry.{Entry}
 use Rattle.file_log.specs.declared.entry.Entry.TheVariants as entry
 use Rattle.file_log.specs.Judge.{Candidates, Fits, AcceptsFrom, IsRange, IsSettled, after_entry, given}
@@ -55,8 +54,7 @@ range_is : (bytes : List ℕ) (offset count : ℕ) (answer : List ℕ) → IsRan
     → answer ≡ range_of bytes offset count
 range_is bytes offset count answer r =
     same_number_lists answer (range_of bytes offset count) (r.size ∙ sym long) (λ k low.
-    r.same k low
-    ∙ sym (get_or-take count (drop offset bytes) k 0 (below k (subst (λ (n : ℕ). k < n) r.size low)) ∙ get_or-drop offset bytes k 0))
+    r.same k low ∙ sym (inside k (subst (λ (n : ℕ). k < n) r.size low)))
   where
     long : length (range_of bytes offset count) ≡ given offset count (length bytes)
     long =
@@ -66,8 +64,9 @@ range_is bytes offset count answer r =
         cut : (c o n : ℕ) → min c (n - o) ≡ min (o + c) n - o
         cut c o n = omega arith
 
-    below : (k : ℕ) → k < given offset count (length bytes) → k < count
-    below k low = omega (arith, low)
+    inside : (k : ℕ) → k < given offset count (length bytes)
+        → get_or (range_of bytes offset count) k 0 ≡ get_or bytes (offset + k) 0
+    inside k low = get_or-take count (drop offset bytes) k 0 (omega (arith, low)) ∙ get_or-drop offset bytes k 0
 
 -- ---- a call more
 

@@ -1,5 +1,5 @@
 -- Event by event, the log of the scenario's file is that of its calls, and so is the summary.
-use Rattle.std.proofs.Common.{◌≡◌, ◌⊎◌, ◌==◌, ◌+◌, ◌%◌, ◌/◌, ◌^◌, if◌then◌else◌, ℕ, zero, suc, Bool, true, false, List, [], ◌∷◌, ◌++◌, fold, length, map, filter, replicate, refl, sym, ap, subst, ◌∙◌, append_assoc, arith, inl, inr}
+use Rattle.std.proofs.Common.{◌≡◌, ◌⊎◌, ◌==◌, ◌+◌, ◌%◌, if◌then◌else◌, ℕ, zero, suc, Bool, true, false, List, [], ◌∷◌, ◌++◌, fold, length, map, filter, replicate, refl, sym, ap, subst, ◌∙◌, append_assoc, arith, inl, inr}
 use Rattle.std.specs.List.{AllByRecursion}
 use Rattle.std.proofs.lemmas.Bool.{true≢false, cases_Bool, eq-eqb}
 use Rattle.std.proofs.lemmas.List.{append-nil, length-replicate, map-append}
@@ -13,7 +13,6 @@ use Rattle.scenario_text.specs.declared.event.Call.{Call}
 use Rattle.scenario_text.specs.declared.event.Call.TheVariants as call
 use Rattle.scenario_text.specs.declared.event.Event.{Event}
 use Rattle.scenario_text.specs.declared.event.Event.TheVariants as event
-use Rattle.scenario_text.specs.declared.line.Outcome.{Outcome}
 use Rattle.scenario_text.specs.declared.line.Line.{Line}
 use Rattle.scenario_text.specs.declared.line.Line.TheVariants as line
 use Rattle.world_history.specs.declared.summary.Summary.{Summary}
@@ -34,7 +33,7 @@ use Rattle.headline_law.specs.Claim.{HeadlineHolds, IsRight}
 use Rattle.history_claims.specs.Logged.{EndedAreLogged, IsLoggedAt}
 use Rattle.generate_law.specs.Opening.{ScenarioCallsEndInOk}
 use Rattle.generate_law.specs.Plays.{Plays}
-use Rattle.generate_law.specs.Scenario.{call_event, call_of, calls_from, length_of, next_random, offset_of, opening, scenario_of}
+use Rattle.generate_law.specs.Scenario.{call_event, calls_from, length_of, next_random, offset_of, opening, scenario_of}
 use Rattle.generate_law.specs.Sums.{Counted, SummaryIsPlain, after_event, no_count, plain_summary}
 use Rattle.generate_law.proofs.Counting.{scenario_has_counts}
 use Rattle.generate_law.proofs.Events.{events_in, events_are, events_more, none_in}
