@@ -16,3 +16,7 @@ pub mod EachRest
 pub mod EachOk
 pub mod Calmness
 pub mod Messages
+pub mod PlainSums
+pub mod OneEntry
+pub mod Walking
+pub mod Tallying

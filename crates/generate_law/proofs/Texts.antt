@@ -15,6 +15,7 @@ use Rattle.exchange_law.specs.Text.{AreOfText}
 use Rattle.generate_law.specs.Plays.{Plays}
 use Rattle.generate_law.specs.Scenario.{call_event, call_of, calls_from, first_call, length_of, makes_drive, makes_file, next_random, offset_of, opening, scenario_of}
 use Rattle.generate_law.proofs.Events.{events_in, events_are}
+use Rattle.generate_law.proofs.Readiness.{length_low, offset_low}
 
 -- the text of a scenario has the event
 record IsGood (e : Event) : Type 0 where
@@ -45,7 +46,28 @@ client_good c low = record { written = refl; fits = (tt, (low, tt)) }
 file_good : IsGood makes_file
 file_good = record {
   written = refl;
-  fits = (tt, (omega arith, ((omega arith, omega arith), ((omega arith, omega arith), ((omega arith, omega arith), ((omega arith, omega arith), ((omega arith, omega arith), ((omega arith, omega arith), ((omega arith, omega arith), tt)))))))));
+  fits = (
+    tt,
+    (
+      omega arith,
+      (
+        (omega arith, omega arith),
+        (
+          (omega arith, omega arith),
+          (
+            (omega arith, omega arith),
+            (
+              (omega arith, omega arith),
+              (
+                (omega arith, omega arith),
+                ((omega arith, omega arith), ((omega arith, omega arith), tt)),
+              ),
+            ),
+          ),
+        ),
+      ),
+    ),
+  );
 }
 
 first_good : IsGood first_call
@@ -53,12 +75,6 @@ first_good = record {
   written = refl;
   fits = (tt, (omega arith, (tt, (omega arith, ((omega arith, omega arith), (λ i. same_bytes 1 0 i (omega arith), tt))))));
 }
-
-offset_low : (x : ℕ) → offset_of x < 261000
-offset_low x = mod-lt (x / 2 ^ 40) (omega arith)
-
-length_low : (x : ℕ) → length_of x ≤ 1000
-length_low x = omega (arith, mod-lt (x / 2 ^ 20) {m = 1000} (omega arith))
 
 call_fits : (k x : ℕ) → AllFit (call_parts (call_of k x))
 call_fits k x = either (k % 2 == 0)

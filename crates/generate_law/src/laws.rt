@@ -7,9 +7,12 @@ ghost use Rattle.generate_law.specs.Opening.{EachCallRests, OpeningRests, Scenar
 ghost use Rattle.generate_law.specs.Plays.{NoneIsRefused};
 ghost use Rattle.generate_law.specs.Quiet.{ScenarioIsUnguessed, UninjectedIsUnguessed};
 ghost use Rattle.generate_law.specs.Rests.{EachCallIsReady, FirstCallIsReady, FirstRestBegins, RestsGoOn};
+ghost use Rattle.generate_law.specs.Sums.{SummaryIsPlain};
 
 use cause_law::{clients_are_read, down_is_read};
 use component_law::grants_are_in_order;
+use headline_law::headline_holds;
+use history_claims::ended_calls_are_logged;
 use history_law::{drives_are_read, grants_are_safe};
 use lossless_law::lossless_is_calm;
 use ready_law::{events_stand_apart, ready_calls_end_in_ok, scenes_are_read};
@@ -114,4 +117,14 @@ pub fn calls_take_few()
     grants_are_safe();
     grants_are_in_order();
     scenes_are_read();
+}
+
+/// If its history is calm and has few messages, its whole summary is that of the same calls on one plain list of bytes,
+/// and each of its calls ended in ok.
+pub fn summary_is_plain()
+    ensures { SummaryIsPlain }
+{
+    scenario_calls_end_in_ok();
+    ended_calls_are_logged();
+    headline_holds();
 }

@@ -23,6 +23,7 @@ mod RowsStored
 pub mod OwnEntries
 pub mod Numbers
 pub mod PlainLogged
+pub mod Called
 pub mod PlainAnswers
 pub mod PlainWrites
 pub mod PlainSent

@@ -10,6 +10,7 @@ use Rattle.scenario_text.specs.LineSpelling.{lines_text}
 use Rattle.world_history.specs.State.{World, empty_world}
 use Rattle.world_history.specs.declared.summary.Summary.{Summary}
 use Rattle.scenario_text.specs.Spelling.{Fits}
+use Rattle.exchange_law.specs.Text.{AreFew}
 use Rattle.scenario_text.proofs.Histories.{lines_text_more}
 use Rattle.calm_law.specs.Watching.{WatchesAll}
 use Rattle.layout_world.specs.State.{WorldState, Shows}
@@ -20,6 +21,7 @@ use Rattle.osd_replay.specs.Stops.{error_of, status_of}
 use Rattle.osd_replay.specs.Generate.{Made, FillsBehind, StopsBehind, StopsAmong, ComesTo, IsDone, IsWriteFault, Promises, result_text}
 use Rattle.generate_law.specs.Plays.{Plays, NoneIsRefused}
 use Rattle.generate_law.specs.Scenario.{scenario_of}
+use Rattle.generate_law.specs.Sums.{SummaryIsPlain}
 use Rattle.generate_law.proofs.Counting.{scenario_has_counts}
 use Rattle.generate_law.proofs.Refusing.{scenario_is_unguessed}
 use Rattle.osd_replay.specs.Transcript.{Tells}
@@ -98,13 +100,14 @@ made_none d shows watches holds =
 plays_it : {events : List Event} → {w : World} → {h : List Line} → Tells events w h → Plays events w h
 plays_it {events} {w} {h} t = record { stands = t.stands; events_are = t.events_are }
 
-pub comes_to : HistoriesAreSound → (seed calls : ℕ) (events : List Event) (d : Digested) (text : List ℕ) →
+pub comes_to : HistoriesAreSound → SummaryIsPlain → (seed calls : ℕ) (events : List Event) (d : Digested) (text : List ℕ) →
     events ≡ scenario_of seed calls → Made events d
     → ((h : List Line) → Holds d.digest (lines_text h) →
     text ≡ result_text d.world.watch.summary h (Last d.world.watch.moments.calm d.world.watch.guesses.unguessed)) →
     ComesTo seed calls text
-comes_to law seed calls events d text is m told =
+comes_to law plain seed calls events d text is m told =
     let here : Made (scenario_of seed calls) d = subst (λ (es : List Event). Made es d) is m in
+    let few : AreFew here.history = told_few law (scenario_of seed calls) here.world here.history here.tells in
     record {
       outcome = record {
         world = here.world;
@@ -113,11 +116,12 @@ comes_to law seed calls events d text is m told =
         sound = told_sound law (scenario_of seed calls) here.world here.history here.tells;
         written = here.watches.written;
         text = told_text law (scenario_of seed calls) here.world here.history here.tells (scenario_fits seed calls);
-        few = told_few law (scenario_of seed calls) here.world here.history here.tells;
+        few = few;
         last = Last d.world.watch.moments.calm d.world.watch.guesses.unguessed;
         ends = last_said d.world here.history here.watches;
         counted = scenario_has_counts seed calls here.world here.history (plays_it here.tells);
         clean = scenario_is_unguessed seed calls here.world here.history (plays_it here.tells);
+        plain = λ is_calm. plain seed calls here.world here.history (plays_it here.tells) few is_calm;
       };
       text_is =
           told here.history here.holds

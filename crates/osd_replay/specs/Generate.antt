@@ -14,6 +14,7 @@ use Rattle.world_history.specs.declared.summary.Summary.{Summary}
 use Rattle.world_history.specs.State.{World}
 use Rattle.world_history.specs.Refusals.{refusal}
 use Rattle.world_history.specs.Runs.{FillsUp}
+use Rattle.world_history.specs.Calm.{calm}
 use Rattle.world_history.specs.Guesses.{unguessed}
 use Rattle.world_history.specs.Summing.{summary_of}
 use Rattle.world_watch.specs.Capping.{capped_summary}
@@ -27,6 +28,7 @@ use Rattle.osd_replay.specs.Ends.{Ends, PutsError}
 use Rattle.osd_replay.specs.Errors.{error_line, full_name}
 use Rattle.generate_law.specs.Counts.{HasCounts}
 use Rattle.generate_law.specs.Scenario.{scenario_of}
+use Rattle.generate_law.specs.Sums.{IsPlainSum}
 use Rattle.osd_replay.specs.Transcript.{Tells, EndsWith, final_text}
 use Rattle.osd_replay.specs.declared.generate.Digested.{Digested}
 use Rattle.osd_replay.specs.declared.status.Quantity.{Quantity}
@@ -145,6 +147,8 @@ pub record Outcome (seed calls : ℕ) : Type 0 where
   -- it has one call more than are asked for: a write, and then each second one is a write. Nothing in it was guessed
   pub counted : HasCounts calls (summary_of history)
   pub clean : unguessed history ≡ true
+  -- if it is calm, its summary is that of the same calls on one plain list of bytes, and each of them ended in ok
+  pub plain : calm history ≡ true → IsPlainSum seed calls (summary_of history)
 
 -- what is told of it
 abbrev pub outcome_text : (seed calls : ℕ) → Outcome seed calls → List ℕ

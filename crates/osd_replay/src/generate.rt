@@ -11,7 +11,7 @@ use crate::carry_out::{Carried, carry_out_event};
 use crate::generator::scenario;
 use crate::status::{Quantity, Status};
 use crate::stop::{Stop, stopped};
-use generate_law::none_is_refused;
+use generate_law::{none_is_refused, summary_is_plain};
 use history_claims::histories_are_sound;
 use layout_world::{Summary, World};
 use osd_bytes::{Sink, put_all};
@@ -137,6 +137,7 @@ impl Digested {
         ensures err { IfErr result (StopsAmong (scenario_of seed calls)) }
     {
         histories_are_sound();
+        summary_is_plain();
         let events = scenario(alloc, seed, calls)?;
         match self.carry_out_all(alloc, events, placer) {
             Ok(()) => {}
