@@ -1,5 +1,6 @@
-ghost use Rattle.std.specs.Prelude.{◌≡◌};
-ghost use Rattle.gate_log.specs.Forms.{head_size, tail_size};
+ghost use Rattle.std.specs.Prelude.{◌≡◌, ◌≤◌};
+ghost use Rattle.gate_log.specs.Forms.{head_size, size_of, tail_size};
+ghost use Rattle.gate_log.specs.declared.entry.TheConstants.{MAX_BODY};
 
 /// How a record is written behind its gate.
 #[derive(Clone, Copy, Debug, PartialEq, Eq)]
@@ -29,5 +30,13 @@ impl Form {
             Form::Plain => 0,
             Form::Checked => 4,
         }
+    }
+
+    /// How many bytes a record has whose body has this length.
+    pub fn record_size(self, len: usize) -> u64
+        requires { len ≤ MAX_BODY }
+        ensures { result ≡ size_of self len }
+    {
+        (self.head_size() + len + self.tail_size()) as u64
     }
 }

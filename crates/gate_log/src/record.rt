@@ -34,16 +34,6 @@ pub struct Record {
     pub next_gate: u8,
 }
 
-impl Record {
-    /// How many bytes stand between the record's gate and the next one.
-    pub fn size(&self) -> u64
-        requires { length self.now.body ≤ MAX_BODY }
-        ensures { result ≡ size_of self.now.form (length self.now.body) }
-    {
-        (self.form.head_size() + self.body.len() + self.form.tail_size()) as u64
-    }
-}
-
 /// Writes a header and a closed gate on a disk that has no bytes.
 pub fn write_first<D: Disk>(disk: &mut D, header: &[u8; HEADER_SIZE]) -> Result<(), LogErr>
     ensures refused { IfErr result
@@ -182,16 +172,6 @@ struct Head {
     len: usize,
 }
 
-impl Head {
-    // How many bytes the record has.
-    fn size(self) -> u64
-        requires { self.len ≤ MAX_BODY }
-        ensures { result ≡ size_of self.form self.len }
-    {
-        (self.form.head_size() + self.len + self.form.tail_size()) as u64
-    }
-}
-
 // A head of this form, if a body may have this length.
 fn head_with(form: Form, len: u32, at: u64) -> Result<Head, LogErr>
     ensures head { IfOk result (λ head. (head.form ≡ form) × (head.len ≡ len)) }
@@ -322,7 +302,7 @@ pub fn read_record<D: Disk>(
         Ok(head) => head,
         Err(e) => return Err(e),
     };
-    if size - at <= 1 + head.size() {
+    if size - at <= 1 + head.form.record_size(head.len) {
         return Err(LogErr::NotALog { at });
     }
     let block = match read_block(alloc, disk, at, head) {

@@ -1,4 +1,5 @@
 use Rattle.std.proofs.Common.{rules, ℕ, ◌+◌, List, length, refl, sym, ◌∙◌, ap}
+use Rattle.gate_log.specs.Forms.{size_of}
 use Rattle.gate_log.proofs.OneLog.{length_record}
 use Rattle.gate_log.proofs.Reading.{steps_on, refused_there}
 use Rattle.gate_log.proofs.reader.LogReader.next.Goals as goal
@@ -13,7 +14,8 @@ returns-clause-body g c header bodies h =
           self.disk c.read_record.new.disk self.at self.gate h.stands c.in-Ok.ensures.disk
           (record { gate = self.gate; form = kept.form; body = kept.body }) found.0 kept.next_gate _ refl
           (record { open_gate = search rules; is_body = c.in-Ok.ensures.size }) found.1
-          (ap (λ (n : ℕ). self.at + (1 + n)) (c.size.ensures ∙ sym (length_record kept.form kept.body)));
+          (ap (λ (n : ℕ). self.at + (1 + n))
+          (c.record_size.ensures ∙ ap (size_of kept.form) c.len.ensures ∙ sym (length_record kept.form kept.body)));
       sized = h.sized ∙ ap (λ (l : List ℕ). length l) (sym c.in-Ok.ensures.disk.seen_same);
     }
 
