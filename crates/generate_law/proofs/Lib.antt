@@ -16,3 +16,14 @@ pub mod EachRest
 pub mod EachOk
 pub mod Calmness
 pub mod Messages
+pub mod KeptSizes
+pub mod KeptNotes
+pub mod KeptLogs
+pub mod KeptMoves
+pub mod KeptHears
+pub mod KeptStages
+pub mod KeptWorks
+pub mod KeptWalk
+pub mod KeptOpening
+pub mod KeptCalls
+pub mod KeptAll

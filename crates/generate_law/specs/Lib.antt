@@ -7,3 +7,4 @@ pub mod Going
 pub mod Opening
 pub mod Calm
 pub mod Few
+pub mod Kept
