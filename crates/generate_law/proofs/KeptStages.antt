@@ -38,7 +38,7 @@ use Rattle.server_rules.specs.Files.{file_at}
 use Rattle.server_rules.specs.Grants.{against, conflicts, grant_of, without}
 use Rattle.server_rules.specs.Laws.{Apart, In}
 use Rattle.server_rules.specs.Slots.{admit, slot_of}
-use Rattle.std.proofs.Common.{true≢false, ℕ, List, None, Option, Some, [], ap, append_assoc, arith, false, inl, inr, length, nat_lt, not, option_map, refl, subst, suc, sym, true, ◌++◌, ◌+◌, ◌<◌, ◌==◌, ◌∙◌, ◌∷◌, ◌≡◌, ◌≢◌, ◌≤◌}
+use Rattle.std.proofs.Common.{true≢false, ℕ, List, None, Option, Some, [], ap, append_assoc, arith, false, inl, inr, length, nat_lt, not, option_map, refl, subst, sym, ◌++◌, ◌+◌, ◌<◌, ◌==◌, ◌∙◌, ◌∷◌, ◌≡◌, ◌≢◌, ◌≤◌}
 use Rattle.std.proofs.lemmas.Bool.{ne_eqb}
 use Rattle.std.proofs.lemmas.Bool.Decides.{nat_tests}
 use Rattle.std.specs.List.{AllByRecursion}
@@ -288,7 +288,7 @@ module _ (all : ReadyLaws) (s : ReadyCall) (known : IsOfScenario s) (w : World) 
         let y : Yields _ _ g = opposed_yields s g there in
         record {
           little =
-              little_of w m _ gives.posts (omega arith) (
+              little_of w m (gives.answer ∷ request_message gives.request ∷ []) gives.posts (omega arith) (
                 subst IsShort (sym gives.answers.message_is) (omega (arith, recall_answer_size gives.answers.answer)),
                 (
                   let size_is = plain_request gives.request (ReturnsPlain g.number gives.returning.args_are) in
