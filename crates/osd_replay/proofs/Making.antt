@@ -109,7 +109,8 @@ made_none d shows watches holds =
 plays_it : {events : List Event} → {w : World} → {h : List Line} → Tells events w h → Plays events w h
 plays_it {events} {w} {h} t = record { stands = t.stands; events_are = t.events_are }
 
-pub comes_to : HistoriesAreSound → SummaryIsPlain → ScenarioGoesWell → (seed calls : ℕ) → calls ≤ MAX_CALLS → (events : List Event) (d : Digested) (text : List ℕ) →
+pub comes_to : HistoriesAreSound → SummaryIsPlain → ScenarioGoesWell → (seed calls : ℕ) → calls ≤ MAX_CALLS →
+    (events : List Event) (d : Digested) (text : List ℕ) →
     events ≡ scenario_of seed calls → Made events d
     → ((h : List Line) → Holds d.digest (lines_text h) →
     text ≡ result_text d.world.watch.summary h (Last d.world.watch.moments.calm d.world.watch.guesses.unguessed)) →
