@@ -2,7 +2,8 @@
 """Stands for the program `pnfs_osd client` in the tests of tools/pnfs.
 
 It keeps one server's files and numbers in the file that $PNFS_FAKE names, and misbehaves as that says: `script` has,
-for each run but those with a number far away, what is to happen in it. It writes down each run.
+for each run on a file that there is, under a number that isn't far away, what is to happen in it; `late` is whether a
+dead run's request comes first, once, under the number that was told. It writes down each run.
 """
 import json
 import os
@@ -45,6 +46,9 @@ def answer(state, number, sequence, call, given, event):
         result = event if isinstance(event, int) else 0
         return f"order {result}\nnext {sequence}\n", 10 if result else 0
     expected = state["next"].get(str(number), 1)
+    if sequence == expected and state.pop("late", False):
+        expected += 1
+        state["next"][str(number)] = expected
     if sequence != expected:
         if sequence == expected - 1:
             return "error link\n", 8
@@ -84,7 +88,8 @@ def main():
     _, _, given = sys.stdin.buffer.read().partition(b"\0")
     state["runs"].append([number, sequence, call[:40]])
     event = None
-    if sequence < 1_000_000_000 and state["script"]:
+    on_a_file = call.split(" ")[0] not in ("read", "write") or call.split(" ")[1] in state["files"]
+    if sequence < 1_000_000_000 and on_a_file and state["script"]:
         event = state["script"].pop(0)
     if event == "waits":
         save(path, state)

@@ -4,6 +4,7 @@ import fnmatch
 import glob
 import os
 import re
+import subprocess
 import sys
 import unittest
 from typing import Dict, Iterator, List, Set, Tuple
@@ -24,7 +25,19 @@ PLACEHOLDER = re.compile(r"(^|/)[A-Z]+(/|$|\.(edit|txt)$)")
 ITEM = re.compile(r"`(?P<crate>[a-z0-9_]+)::(?P<names>[A-Za-z0-9_:]+)")
 #: A file of a crate and items of it, as in `world_history/specs/Moves.antt` (`Act`).
 ITEMS_OF = re.compile(r"`(?:crates/)?(?P<crate>[a-z0-9_]+)/(?:specs|src)/[A-Za-z0-9_/]+\.(?:rt|antt)` \((?P<names>[^)]*)\)")
+#: A name of code: words that are joined by `_`, or by capitals.
+NAME = re.compile(r"[A-Za-z][A-Za-z0-9]*(_[A-Za-z0-9]+)+|[A-Z]?[a-z0-9]+([A-Z][a-z0-9]*)+")
+#: Names that aren't of this repository: of systemd, of Rust and of `rt`; and those that tell how others are made.
+OF_OTHERS = {"PrivateTmp", "RestartPreventExitStatus", "assert_eq", "RT_JOBS"} | {"cluster_SEED", "storm_SEED", "dD"}
 PATH = re.compile(r"[A-Za-z0-9_.*-]+(/[A-Za-z0-9_.*-]+)*/?")
+#: A page, as code names it.
+PAGE = re.compile(r"\bdocs/[A-Za-z_/0-9-]+\.md\b")
+#: Where code is that names pages.
+CODE_TOPS = {"bench", "cases", "crates", "tools"}
+#: The heading of what was decided on a day.
+DAY = re.compile(r"## \d{1,2} [A-Z][a-z]+ \d{4}")
+#: What a page says that is there for the sake of code that names it by an old path.
+SIGNPOST = "Comments and messages of the code still name it here."
 #: What a path ends with that is one of this repository wherever it begins.
 SOURCES = (".md", ".rt", ".antt", ".py", ".edit", ".rows")
 #: Where a build, or a run, puts what isn't in the repository.
@@ -33,12 +46,18 @@ MADE = {"out", ".git", "__pycache__"}
 
 def pages() -> List[str]:
     """The documents, by their paths from the top."""
-    return PAGES + sorted(os.path.relpath(path, TOP) for path in glob.glob(os.path.join(TOP, "docs", "*.md")))
+    return PAGES + sorted(os.path.relpath(path, TOP) for path in glob.glob(os.path.join(TOP, "docs", "**", "*.md"), recursive=True))
 
 
 def text_of(page: str) -> str:
     """The text of a page."""
     with open(os.path.join(TOP, page), encoding="utf-8") as file:
+        return file.read()
+
+
+def code_of(path: str) -> str:
+    """The text of a file, whatever bytes it has."""
+    with open(os.path.join(TOP, path), encoding="utf-8", errors="replace") as file:
         return file.read()
 
 
@@ -57,6 +76,14 @@ def cited(text: str) -> Iterator[str]:
         codes = CODE.findall(line) + [line] * line.startswith("    ")
         for code in codes:
             yield from code.split()
+
+
+def names_in(text: str) -> Iterator[str]:
+    """The names of code that a page cites in sentences, also as parts of longer ones, as in `Kept.zoned`."""
+    for code in CODE.findall(text):
+        for word in re.findall(r"[A-Za-z0-9_./:*$-]+", code):
+            if "/" not in word and not word.endswith(SOURCES):
+                yield from (part for part in re.split(r"::|\.", word) if NAME.fullmatch(part))
 
 
 def anchor(heading: str) -> str:
@@ -112,6 +139,18 @@ class Documents(unittest.TestCase):
                 with self.subTest(page=page, path=path):
                     self.assertTrue(self.exists(path), "no file or folder has this path")
 
+    def test_each_page_that_code_names_exists(self):
+        named = set()
+        for path in sorted(self.paths):
+            if path.split("/")[0] in CODE_TOPS and "/proofs/" not in path and os.path.isfile(os.path.join(TOP, path)):
+                for page in PAGE.findall(code_of(path)):
+                    named.add(page)
+                    with self.subTest(path=path, page=page):
+                        self.assertIn(page, self.paths)
+        for page in pages():
+            if SIGNPOST in text_of(page):
+                self.assertIn(page, named, "no code names the page here any more: take the signpost away")
+
     def test_each_link_leads_somewhere(self):
         for page, link in self.links():
             with self.subTest(page=page, link=link):
@@ -132,8 +171,11 @@ class Documents(unittest.TestCase):
         for page in pages():
             for place in HEADING_OF.finditer(text_of(page)):
                 with self.subTest(page=page, cited=place[0]):
-                    beside = os.path.join("docs", place["page"])
-                    self.assertIn(place["heading"], titles(text_of(beside if beside in self.paths else place["page"])))
+                    self.assertIn(place["heading"], titles(text_of(self.page_named(place["page"]))))
+
+    def page_named(self, name: str) -> str:
+        """The path of a page that a document cites, by its path from the top or by the end of it."""
+        return next(page for page in pages() if ("/" + page).endswith("/" + name) and SIGNPOST not in text_of(page))
 
     def test_each_item_is_in_its_crate(self):
         for page in pages():
@@ -150,6 +192,19 @@ class Documents(unittest.TestCase):
             if os.path.join("crates", crate) in self.paths:
                 yield from ((crate, name) for name in names if name)
 
+    def test_each_name_is_somewhere(self):
+        known = self.words_of_code()
+        for page in pages():
+            for name in sorted(set(names_in(text_of(page))) - OF_OTHERS):
+                with self.subTest(page=page, name=name):
+                    self.assertTrue(name in known, "no code has this name")
+
+    def words_of_code(self) -> Set[str]:
+        """All words of the sources, the tools and the cases, and of the names of their files."""
+        paths = [path for path in self.paths if path.split("/")[0] in CODE_TOPS and os.path.isfile(os.path.join(TOP, path))]
+        texts = (code_of(path) for path in paths + ["crates.txt", "test"])
+        return set(re.findall(r"\w+", " ".join(paths))).union(*(re.findall(r"\w+", text) for text in texts))
+
     @classmethod
     def words_of(cls, crate: str) -> Set[str]:
         """All words of a crate's code and definitions, and of the names of its files."""
@@ -159,6 +214,31 @@ class Documents(unittest.TestCase):
             sources = [path for path in files if path.endswith((".rt", ".antt")) and "/proofs/" not in path]
             cls.words[crate] = set(re.findall(r"\w+", " ".join(files + [text_of(path) for path in sources])))
         return cls.words[crate]
+
+    def test_the_list_of_crates_is_made(self):
+        made = subprocess.run([sys.executable, os.path.join(TOP, "tools", "crates")], stdout=subprocess.PIPE, check=True).stdout.decode()
+        self.assertIn(made, text_of("docs/laws/PROOFS.md"), "tools/crates --write makes it")
+
+    def test_each_claim_is_told(self):
+        claims = text_of("crates/history_claims/specs/Sound.antt").partition("record IsSound")[2].partition("record HistoriesAreSound")[0]
+        fields = re.findall(r"^  pub (\w+) :", claims, re.MULTILINE)
+        self.assertTrue(fields)
+        for field in fields:
+            with self.subTest(field=field):
+                self.assertRegex(text_of("docs/laws/HEADLINE.md"), rf"`{field}[`.]", "the page lacks the field")
+
+    def test_each_decision_is_listed_and_has_its_day(self):
+        folder = os.path.join("docs", "decisions")
+        listed = dict(re.findall(r"^- \[([^\]]+)\]\(([^)]+)\)", text_of(os.path.join(folder, "README.md")), re.MULTILINE))
+        found = sorted(os.path.basename(page) for page in pages() if os.path.dirname(page) == folder and not page.endswith("README.md"))
+        self.assertEqual(found, sorted(listed.values()))
+        self.assertEqual(len(found), len({name[:3] for name in found}), "two pages have one number")
+        for title, name in listed.items():
+            with self.subTest(page=name):
+                lines = text_of(os.path.join(folder, name)).splitlines()
+                self.assertEqual(lines[0], "# " + title)
+                self.assertTrue(title.startswith(name[:3] + ". "))
+                self.assertRegex(lines[2], DAY)
 
     def test_readme_is_short(self):
         self.assertLessEqual(len(text_of("README.md").split()), MOST_WORDS)

@@ -93,7 +93,7 @@ class Looked(unittest.TestCase):
             "crates/low/specs/Words.antt": "abbrev pub said : ℕ\nsaid = 1\n\nabbrev pub unfolded : ℕ\nunfolded = 1\n",
             "crates/low/src/lib.rt": "ghost use Rattle.low.specs.Words.{said};\n#[tactic(auto, unfolding(crate::specs::Words::unfolded))]\n",
             "crates/low/proofs/RowsOne.antt": "use Rattle.low.proofs.Laws.{alone}\n\nrow : ℕ\nrow = alone 1\n",
-            "docs/PROOFS.md": "As `other` says.\n",
+            "docs/laws/PROOFS.md": "As `other` says.\n",
         })
         self.assertEqual(self.told("unused"), [])
 

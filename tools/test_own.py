@@ -1,5 +1,5 @@
 #!/usr/bin/env python3
-"""Tests of `tools/own`, over journals that are spelled here by docs/STORES.md.
+"""Tests of `tools/own`, over journals that are spelled here by docs/use/STORES.md.
 
     tools/test_own.py
 """

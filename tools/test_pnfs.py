@@ -93,9 +93,15 @@ class Copies(Tool):
 
     def test_the_number_is_asked_for_and_followed(self):
         self.run_tool("put", "f0", data=b"Hello")
-        self.assertEqual(self.sequences(), [4_294_967_280, 17, 19])
+        self.assertEqual(self.sequences(), [4_294_967_280, 17, 18, 20])
         self.assertEqual(self.data(), b"Hello")
-        self.assertEqual(self.now()["runs"][0][2], "read f63 0 1")
+        self.assertEqual([run[2] for run in self.now()["runs"][:2]], ["read f63 0 1"] * 2)
+
+    def test_a_dead_run_s_request_comes_late(self):
+        self.begin(late=True)
+        self.run_tool("put", "f0", data=b"Hello")
+        self.assertEqual(self.sequences(), [4_294_967_280, 17, 4_294_967_280, 18, 19, 21])
+        self.assertEqual(self.data(), b"Hello")
 
     def test_a_file_comes_back(self):
         data = bytes(range(256)) * 2000
@@ -157,7 +163,7 @@ class Again(Tool):
     def test_held(self):
         self.begin(["held c3", "held c3", None], b"abc")
         self.assertEqual(self.run_tool("get", "f0"), b"abc")
-        self.assertEqual(self.sequences(), [4_294_967_280, 17, 20, 23])
+        self.assertEqual(self.sequences(), [4_294_967_280, 17, 18, 21, 24])
         self.assertEqual(self.messages.count("client 3 has a grant on these bytes"), 1)
 
     def test_lost_while_a_drive_is_late(self):
@@ -193,7 +199,7 @@ class Again(Tool):
     def test_a_lost_answer_of_a_write(self):
         self.begin([None, "lost answer"])
         self.run_tool("put", "f0", data=b"abc")
-        self.assertEqual(self.sequences(), [4_294_967_280, 17, 19, 4_294_967_280, 22])
+        self.assertEqual(self.sequences(), [4_294_967_280, 17, 18, 20, 4_294_967_280, 23, 24])
         self.assertEqual(self.data(), b"abc")
 
     def test_no_answer(self):
@@ -220,12 +226,13 @@ class Again(Tool):
 
 
 class Scripted:
-    """A program that says the right number, and then once what it is told to say."""
+    """A program that says the right number, takes the request that does nothing, and then once says what it is told to say."""
 
     client = 0
 
     def __init__(self, said, status):
-        self.rest = [answers.Ran(10, b"o c0 read status 10063 17\nnext 9\n", ""), answers.Ran(status, said.encode("latin-1"), "")]
+        self.rest = [answers.Ran(10, b"o c0 read status 10063 17\nnext 9\n", ""), answers.Ran(10, b"o c0 read nofile\nnext 18\n", ""),
+                     answers.Ran(status, said.encode("latin-1"), "")]
 
     def run(self, sequence, call, data=None):
         return self.rest.pop(0)
@@ -271,6 +278,14 @@ class Wrong(Tool):
             self.assertEqual(end.status, 10, outcome)
             self.assertIn(outcome, end.message)
 
+    def test_a_lost_file_is_told_of(self):
+        for is_lost, said in ((False, "rebuild the file first"), (True, "put a copy there")):
+            program = Scripted("o c0 write degraded 2\nnext 19\n", 10)
+            caller = calls.Caller(program, 63, 0.0, lambda line: None, lambda file: is_lost)
+            with self.assertRaises(End) as caught:
+                caller.carry_out(Call(0, 0, 3, b"abc"))
+            self.assertIn(said, caught.exception.message)
+
     def test_no_program(self):
         self.run_tool("get", "f0", program="/nonexistent/program", status=22)
 
@@ -293,7 +308,7 @@ class Numbers(Tool):
         tool = self.started("get", "f0")
         self.addCleanup(self.let)
         for _ in range(3000):
-            if len(self.now()["runs"]) == 2:
+            if len(self.now()["runs"]) == 3:
                 return tool
             time.sleep(0.02)
         raise AssertionError("the program doesn't begin")

@@ -1,5 +1,5 @@
 #!/usr/bin/env python3
-"""Tests of the judge where drives have zones (docs/SERVER.md, "Zones").
+"""Tests of the judge where drives have zones (docs/rules/SERVER.md, "Zones").
 
     tools/test_zones.py
 

@@ -1,4 +1,4 @@
-"""What the metadata server keeps of a file (docs/SERVER.md, "The state")."""
+"""What the metadata server keeps of a file (docs/rules/SERVER.md, "The state")."""
 from typing import Dict, Iterator, List, NamedTuple, Optional, Tuple
 
 from transcripts.striping import Map

@@ -1,4 +1,4 @@
-"""What a client keeps of a grant and of a call, and what it takes of a layout (docs/CLIENT.md, "The state")."""
+"""What a client keeps of a grant and of a call, and what it takes of a layout (docs/rules/CLIENT.md, "The state")."""
 from typing import Dict, List, NamedTuple, Optional, Set, Tuple
 
 from transcripts import commands, structures

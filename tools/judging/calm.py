@@ -1,4 +1,4 @@
-"""Whether a run is calm: at no moment is a stripe with parity torn and short (docs/WORLD.md, "What is read off the lines")."""
+"""Whether a run is calm: at no moment is a stripe with parity torn and short; docs/rules/WORLD.md, "What is read off the lines"."""
 from typing import Dict, List, Optional, Set, Tuple
 
 from transcripts.commands import WRITE, Command

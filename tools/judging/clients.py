@@ -1,4 +1,4 @@
-"""A client, as docs/CLIENT.md tells it: calls, what it sends, what it takes, and how its calls end."""
+"""A client, as docs/rules/CLIENT.md tells it: calls, what it sends, what it takes, and how its calls end."""
 from typing import Dict, List, NamedTuple, Optional, Set, Tuple
 
 from transcripts import commands, envelopes, structures

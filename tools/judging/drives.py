@@ -1,4 +1,4 @@
-"""An object drive, as docs/DRIVE.md tells it: which verdict each command gets, what it does, and what is answered."""
+"""An object drive, as docs/rules/DRIVE.md tells it: which verdict each command gets, what it does, and what is answered."""
 from typing import Dict, NamedTuple, Optional, Tuple
 
 from transcripts import commands

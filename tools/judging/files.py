@@ -1,4 +1,4 @@
-"""The log of each file, read off the lines, and its judge (docs/WORLD.md, "The log and its judge")."""
+"""The log of each file, read off the lines, and its judge (docs/rules/WORLD.md, "The log and its judge")."""
 from typing import Dict, List, NamedTuple, Optional, Set
 
 from .drives import Bytes

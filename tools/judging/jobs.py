@@ -1,4 +1,4 @@
-"""The jobs of the metadata server: making, fence, repair, rebuild and audit (docs/SERVER.md, "Jobs")."""
+"""The jobs of the metadata server: making, fence, repair, rebuild and audit (docs/rules/SERVER.md, "Jobs")."""
 from typing import Callable, Dict, Iterable, List, NamedTuple, Optional
 
 from transcripts.commands import CREATE, GET_ATTR, READ, SET_TAG, WRITE

@@ -1,4 +1,4 @@
-"""The network: every message that was sent, and its marks (docs/WORLD.md, "The state")."""
+"""The network: every message that was sent, and its marks (docs/rules/WORLD.md, "The state")."""
 from typing import Dict, List, Optional, Tuple
 
 from transcripts.commands import Command, maybe_command

@@ -1,4 +1,4 @@
-"""The metadata server (docs/SERVER.md): requests, replies of drives, orders, files that are made."""
+"""The metadata server (docs/rules/SERVER.md): requests, replies of drives, orders, files that are made."""
 from typing import Dict, List, NamedTuple, Optional, Tuple
 
 from transcripts import commands, structures

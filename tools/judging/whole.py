@@ -1,4 +1,4 @@
-"""What the drives hold: each stripe that isn't disturbed is whole (docs/WORLD.md, "Whole stripes")."""
+"""What the drives hold: each stripe that isn't disturbed is whole (docs/rules/WORLD.md, "Whole stripes")."""
 from typing import Dict, List, Optional, Set
 
 from transcripts.striping import Map, decoded

@@ -1,4 +1,4 @@
-"""The world of a transcript (docs/WORLD.md): its lines are gone through event by event, move by move, and compared with
+"""The world of a transcript (docs/rules/WORLD.md): its lines are gone through event by event, move by move, and compared with
 what each party had to do."""
 from typing import Dict, List, Optional, Tuple
 

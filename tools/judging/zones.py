@@ -1,4 +1,4 @@
-"""Zones of drives, and files that are spread over them (docs/SERVER.md, "Zones")."""
+"""Zones of drives, and files that are spread over them (docs/rules/SERVER.md, "Zones")."""
 from typing import Dict, Iterable, List, NamedTuple, Optional, Sequence
 
 from transcripts.striping import Map

@@ -1,8 +1,10 @@
 """Carries out calls and orders, and tries again where that helps.
 
-Each run of the program is a new client that begins with the number it is given. So the tool asks the server for
-the right number before its first request, and again behind each run that didn't say its `next`. It asks by a
-request with a number far away: the server answers 10063 with the number that it expects, and does nothing.
+Each run of the program is a new client that begins with the number it is given. So the tool finds a fresh number
+before its first request, and again after each run that didn't say its `next`. It asks by a request with a number
+far away: the server answers 10063 with the number that it expects, and does nothing. A request of a run that was
+killed may come later under that number. So the tool spends the number on a request that does nothing: once the
+server has taken that, no earlier run's request has a number that is still to come.
 """
 import time
 from typing import Callable, List, NamedTuple, Optional, Set
@@ -76,7 +78,7 @@ def step_behind(answer: Answer) -> Optional[Step]:
 
 
 HELP_BEHIND = {
-    "lost": "more of a stripe is lost than its parity brings back: restore the file from a copy",
+    "lost": "more of a stripe is lost than its parity brings back: put a copy of the file under another number",
     "degraded": "too many components are missing for a write: rebuild the file first",
     "nofile": "the server has no such file",
     "spent": "the file's tags or the grants' numbers are used up",
@@ -85,6 +87,10 @@ HELP_BEHIND = {
     "checkvalue": "this drive has another key than the server's cluster text says",
     "slotspent": "the numbers of this client are used up: take another with --client",
 }
+
+
+HELP_WHERE_LOST = ("more of it is lost than its parity brings back, so no rebuild helps and it can't be written again: add a file "
+                   "with another number to the cluster text, start the server again, and put a copy there")
 
 
 class Waiting:
@@ -120,37 +126,44 @@ class Waiting:
 
 
 class Caller:
-    """Carries out calls as one client, whose number it knows or asks for."""
+    """Carries out calls as one client, whose number it knows or finds."""
 
-    def __init__(self, program: Program, spare_file: int, patience: float, tell: Callable[[str], None]):
+    def __init__(self, program: Program, spare_file: int, patience: float, tell: Callable[[str], None],
+                 is_lost: Callable[[int], bool] = lambda file: False):
         self.program = program
         self.spare_file = spare_file
         self.patience = patience
         self.tell = tell
+        self.is_lost = is_lost
         self.next: Optional[int] = None
         self.calls = 0
         self.again = 0
         self.timed_out = 0
         self.late: Set[int] = set()
 
-    def ask_number(self) -> Answer:
-        """Asks the server for the number of the next request, once."""
-        ran = self.program.run(FAR_NUMBER, f"read f{self.spare_file} 0 1")
-        answer = read_answer(ran, self.program.client, "read")
-        words = answer.outcome or []
-        if answer.status == 10 and words[:2] == ["status", SEQ_MISORDERED] and len(words) == 3 and words[2].isdecimal():
-            if 0 < int(words[2]) < FAR_NUMBER:
-                self.next = int(words[2])
-                return answer
-        if answer.status in (0, 10):
-            raise End(10, f"the numbers of client {self.program.client} are used up ({answer.words()}): "
-                          "take another with --client")
+    def ask(self, sequence: int) -> Answer:
+        """Asks for a byte of the spare file under this number."""
+        ran = self.program.run(sequence, f"read f{self.spare_file} 0 1")
+        return read_answer(ran, self.program.client, "read")
+
+    def find_number(self) -> Answer:
+        """Finds a number that no earlier run has used, in two requests. The number is known afterwards, or the answer says why not."""
+        answer = self.ask(FAR_NUMBER)
+        expected = expected_number(answer)
+        if expected is None:
+            if answer.status in (0, 10):
+                raise End(10, f"the numbers of client {self.program.client} are used up ({answer.words()}): "
+                              "take another with --client")
+            return answer
+        answer = self.ask(expected)
+        if answer.next and expected_number(answer) is None:
+            self.next = answer.next
         return answer
 
     def once(self, call: Call) -> Answer:
-        """Carries out the call once, under the right number; the answer may be that of asking for it."""
+        """Carries out the call once, under a fresh number; the answer may be that of asking for it."""
         if self.next is None:
-            asked = self.ask_number()
+            asked = self.find_number()
             if self.next is None:
                 return asked
         self.calls += 1
@@ -184,7 +197,8 @@ class Caller:
             tries += 1
             step = step_behind(answer)
             if step is None or not waiting.goes_on(step, tries):
-                raise given_up(call.name(), answer, step, tries)
+                is_lost = answer.outcome is not None and answer.outcome[0] == "degraded" and self.is_lost(call.file)
+                raise given_up(call.name(), answer, step, tries, is_lost)
             self.again += 1
             if not step.knows_number:
                 self.next = None
@@ -210,6 +224,14 @@ class Caller:
                 self.tell(f"{words}: {step.why}; trying again")
 
 
+def expected_number(answer: Answer) -> Optional[int]:
+    """The number that the server expects, where it refused another."""
+    words = answer.outcome or []
+    if answer.status != 10 or words[:2] != ["status", SEQ_MISORDERED] or len(words) != 3 or not words[2].isdecimal():
+        return None
+    return int(words[2]) if 0 < int(words[2]) < FAR_NUMBER else None
+
+
 def fits(answer: Answer, call: Call) -> bool:
     """Whether an answer that is ok is one to this call."""
     if call.data is not None:
@@ -217,8 +239,8 @@ def fits(answer: Answer, call: Call) -> bool:
     return bytes_read(answer, call.length) is not None
 
 
-def given_up(name: str, answer: Answer, step: Optional[Step], tries: int) -> End:
-    """The end of a run whose call wasn't ok, with all that a person may need to know."""
+def given_up(name: str, answer: Answer, step: Optional[Step], tries: int, is_lost: bool = False) -> End:
+    """The end of a run whose call wasn't ok, with all that a person may need to know; `is_lost` if no rebuild helps the file."""
     parts = [f"{name}: {answer.words()}"]
     if answer.status not in (0, 8, 10):
         parts.append(PROGRAM_STATUSES.get(answer.status, f"the program ended with status {answer.status}"))
@@ -228,7 +250,7 @@ def given_up(name: str, answer: Answer, step: Optional[Step], tries: int) -> End
         parts.append(ORDER_ENDS[answer.order])
     else:
         said = (answer.outcome or []) + ([answer.refusal] if answer.refusal else [])
-        parts.extend(HELP_BEHIND[word] for word in said if word in HELP_BEHIND)
+        parts.extend([HELP_WHERE_LOST] if is_lost else [HELP_BEHIND[word] for word in said if word in HELP_BEHIND])
     message = ": ".join(parts)
     if answer.messages:
         lines = answer.messages.split("\n")

@@ -14,7 +14,7 @@ from .ends import DONE, INPUT, NOT_ASKED, NOT_WELL, OUTPUT, SHORT, STOPPED, End
 from .lock import hold, release
 from .metrics import as_metrics
 from .program import Program, program_path
-from .seeing import Onlooker, see_cluster, see_files
+from .seeing import LOST, Onlooker, see_cluster, see_files
 from .showing import as_json, as_list, as_text
 from .waiting import rebuilt, wait_for_end
 from .words import words_of
@@ -170,7 +170,9 @@ def carry_out(words: argparse.Namespace) -> int:
         with held(cluster, words, tell) as lock:
             program = Program(path, cluster.text, words.client, lock)
             copy = copy_in if words.command in ("put", "write") else copy_out
-            return copy(words, cluster.files[words.file], Caller(program, spare_file(cluster), words.patience, tell))
+            onlooker = Onlooker(cluster.server, words.client)
+            caller = Caller(program, spare_file(cluster), words.patience, tell, lambda file: onlooker.see_file(file).state == LOST)
+            return copy(words, cluster.files[words.file], caller)
     caller = Caller(Program(path, cluster.text, words.client), spare_file(cluster), words.patience, tell)
     if words.command == "declare":
         return declare(words, cluster, caller)

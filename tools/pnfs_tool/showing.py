@@ -72,7 +72,7 @@ def as_list(files: List[FileSeen]) -> str:
 
 
 def as_json(seen: ClusterSeen) -> str:
-    """The whole of it for programs; docs/TOOLS.md has the keys."""
+    """The whole of it for programs; docs/use/TOOLS.md has the keys."""
     files = [dict(file._asdict(), missing=file.missing() if file.components is not None else None) for file in seen.files]
     whole = {
         "well": seen.is_well(),

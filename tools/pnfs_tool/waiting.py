@@ -46,7 +46,7 @@ def rebuilt(seen: FileSeen) -> int:
     names = ", ".join(str(number) for number in seen.missing())
     if seen.state == LOST:
         raise End(FILE_LOST, f"f{seen.number} is lost: its components {names} are missing, more than its parity brings back. "
-                             "Its number can't be written again: put its copy under another number, as docs/OPERATIONS.md says")
+                             "Its number can't be written again: put its copy under another number, as docs/use/OPERATIONS.md says")
     if seen.state == MISSING:
         raise End(LACKS_DRIVE, f"f{seen.number} lacks its components {names} still: no drive was free for them. Add a spare drive to "
                                "the cluster text, start a stored server again with it, and rebuild once more")

@@ -54,7 +54,7 @@ Other statuses are the program's own (./pnfs_osd --help).
 
 The program is that of --program or $PNFS_OSD, else crates/pnfs_osd/out/pnfs_osd, which ./pnfs_osd builds.
 Client numbers are held by locks in /tmp/pnfs_osd.locks ($PNFS_LOCKS), for one machine. Give each machine its own.
-docs/OPERATIONS.md goes through a cluster's first hour.
+docs/use/OPERATIONS.md goes through a cluster's first hour.
 """
 
 

@@ -1,4 +1,4 @@
-"""Maps what was seen of a cluster to a scenario: docs/CLUSTER.md has the steps and their events.
+"""Maps what was seen of a cluster to a scenario: docs/laws/CLUSTER.md has the steps and their events.
 
 What was seen leaves two things open. When a process was killed, nobody may know whether it had taken the last record that it was
 given: that is a choice. And clocks: a grant's time is read off the layout; no other time matters, since a run is short beside

@@ -1,4 +1,4 @@
-"""What clients and the metadata server say to each other, both ways (docs/MESSAGES.md)."""
+"""What clients and the metadata server say to each other, both ways (docs/rules/MESSAGES.md)."""
 from typing import List, NamedTuple, Optional, Tuple, Union
 
 from .spelling import Items, Unreadable, big, xdr_opaque

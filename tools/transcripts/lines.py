@@ -1,4 +1,4 @@
-"""The lines of a transcript, as docs/SCENARIO.md tells them."""
+"""The lines of a transcript, as docs/rules/SCENARIO.md tells them."""
 import re
 from typing import Dict, Iterable, Iterator, List, NamedTuple, Tuple, Union
 

@@ -1,4 +1,4 @@
-"""Where the bytes of a file stand on its components, and what parity they have (docs/STRUCTURES.md)."""
+"""Where the bytes of a file stand on its components, and what parity they have (docs/rules/STRUCTURES.md)."""
 from typing import Dict, List, NamedTuple, Optional, Sequence, Tuple
 
 RAID_0, RAID_4, RAID_5, RAID_PQ = 1, 2, 3, 4

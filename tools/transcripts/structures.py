@@ -1,4 +1,4 @@
-"""The structures of RFC 5664 that stand inside the messages of clients and server (docs/STRUCTURES.md)."""
+"""The structures of RFC 5664 that stand inside the messages of clients and server (docs/rules/STRUCTURES.md)."""
 from typing import List, NamedTuple, Optional, Sequence
 
 from .spelling import Items, Unreadable, big, xdr_opaque

@@ -2,9 +2,9 @@
 //!
 //! Of the server as a whole a case is a table of moves, each beside all that the server then notes and sends, in words
 //! (`bench`). Of a client it is a table of lines, each beside the text of all that the client then sends, in order, and how
-//! its call ended (`talk`). What comes is spelled from the fields of RFC 5661, RFC 5664 and `docs/MESSAGES.md`, apart from the
-//! codecs; what goes out is told by what stands at its places (`places`), or by all its bytes. What is expected was worked
-//! out by hand from the tables of `docs/SERVER.md` and `docs/CLIENT.md`.
+//! its call ended (`talk`). What comes is spelled from the fields of RFC 5661, RFC 5664 and `docs/rules/MESSAGES.md`,
+//! apart from the codecs; what goes out is told by what stands at its places (`places`), or by all its bytes. What is
+//! expected was worked out by hand from the tables of `docs/rules/SERVER.md` and `docs/rules/CLIENT.md`.
 #![tactic(auto)]
 
 #[cfg(test)]

@@ -1,5 +1,5 @@
 // The bytes were made apart from the crate, by a script over the field lists of RFC 5661, RFC 5664 and
-// docs/MESSAGES.md.
+// docs/rules/MESSAGES.md.
 use crate::talk::play;
 
 // Cases, each behind what it shows.

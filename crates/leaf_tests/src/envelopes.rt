@@ -5,7 +5,7 @@ use layout_ops::{Envelope, read_envelope, write_envelope};
 use std::alloc::Global;
 
 // One of each kind, each optional field there and each number another. The bytes were made apart from the crate, by a
-// script over the field lists of RFC 5661 and of docs/MESSAGES.md.
+// script over the field lists of RFC 5661 and of docs/rules/MESSAGES.md.
 const MESSAGES: &[&[u8]] = &[
     // LAYOUTCOMMIT, with a last byte, a time before 1970 and a body of five bytes.
     b"\0\0\0\x01\0\0\0\x01\0\0\0\x02\0\0\0\x03\0\0\01\0\0\0\0\0\0\x10\0\0\0\

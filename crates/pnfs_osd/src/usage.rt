@@ -2,7 +2,7 @@
 // they can be read before the program is built: keep the lines between a constant's first line and its quotation mark.
 
 const VERSION: &str = "\
-pnfs_osd 0.1.0
+pnfs_osd 0.2.0
 ";
 
 /// What the program is told to do, and how it ends.
@@ -19,11 +19,11 @@ usage: pnfs_osd replay < SCENARIO
        pnfs_osd help [COMMAND] | --help | --version
        pnfs_osd COMMAND --help
 
-replay        carries out a scenario and writes its transcript (docs/SCENARIO.md)
+replay        carries out a scenario and writes its transcript (docs/rules/SCENARIO.md)
 generate      makes a scenario of K calls from the number N, carries it out and writes what it came to
-show          writes the fields of the structure that each line spells in hexadecimal digits (docs/STRUCTURES.md)
+show          writes the fields of the structure that each line spells in hexadecimal digits (docs/rules/STRUCTURES.md)
 check         says whether the structure that each line spells is well formed
-drive         serves K connections as drive N of a cluster, which it keeps in memory (docs/OPERATIONS.md)
+drive         serves K connections as drive N of a cluster, which it keeps in memory (docs/use/OPERATIONS.md)
 stored-drive  does the same, and keeps the drive in the file NAME
 server        makes the files of a cluster, and serves K connections as its metadata server
 stored-server does the same, and keeps the server in the file NAME
@@ -39,7 +39,7 @@ const REPLAY: &str = "\
 usage: pnfs_osd replay < SCENARIO
 
 Carries out a scenario over drives, a metadata server and clients in one process, and writes its transcript.
-docs/SCENARIO.md has the language of both.
+docs/rules/SCENARIO.md has the language of both.
 ";
 
 const GENERATE: &str = "\
@@ -53,20 +53,20 @@ const SHOW: &str = "\
 usage: pnfs_osd show KIND < LINES
 
 Writes the fields of the structure of RFC 5664 that each line spells in hexadecimal digits, or why it spells none.
-KIND is map, cred, layout, deviceaddr, update, ioerrs or hint (docs/STRUCTURES.md).
+KIND is map, cred, layout, deviceaddr, update, ioerrs or hint (docs/rules/STRUCTURES.md).
 ";
 
 const CHECK: &str = "\
 usage: pnfs_osd check KIND < LINES
 
 Writes ok and the structure of RFC 5664 again that each line spells in hexadecimal digits, or why it spells none.
-KIND is map, cred, layout, deviceaddr, update, ioerrs or hint (docs/STRUCTURES.md).
+KIND is map, cred, layout, deviceaddr, update, ioerrs or hint (docs/rules/STRUCTURES.md).
 ";
 
 const DRIVE: &str = "\
 usage: pnfs_osd drive --number N --connections K < CLUSTER
 
-Serves K connections as drive N (0 to 63) of the cluster that the text describes (docs/OPERATIONS.md). Writes
+Serves K connections as drive N (0 to 63) of the cluster that the text describes (docs/use/OPERATIONS.md). Writes
 'listening' once it listens at its address, and 'served K' at the end. All options are required.
 ";
 
@@ -74,7 +74,7 @@ const STORED_DRIVE: &str = "\
 usage: pnfs_osd stored-drive --number N --connections K --store NAME < CLUSTER
 
 Serves K connections as drive N (0 to 63) of the cluster that the text describes, and keeps the drive in the file NAME: what
-it answered is there when it is started again, whatever stopped it (docs/OPERATIONS.md). A file that isn't there, or is
+it answered is there when it is started again, whatever stopped it (docs/use/OPERATIONS.md). A file that isn't there, or is
 empty, is made. Writes 'listening' once it listens at its address, and 'served K' at the end. All options are required.
 ";
 
@@ -82,7 +82,7 @@ const SERVER: &str = "\
 usage: pnfs_osd server --connections K < CLUSTER
 
 Makes the files of the cluster that the text describes on its drives, which have to listen already, and serves K
-connections as its metadata server (docs/OPERATIONS.md). Writes 'listening' once the files are made and it listens at
+connections as its metadata server (docs/use/OPERATIONS.md). Writes 'listening' once the files are made and it listens at
 its address, and 'served K' at the end. All options are required.
 ";
 
@@ -90,7 +90,7 @@ const STORED_SERVER: &str = "\
 usage: pnfs_osd stored-server --connections K --store NAME < CLUSTER
 
 Serves K connections as the metadata server of the cluster that the text describes, and keeps the server in the file NAME: what
-it answered is there when it is started again, whatever stopped it (docs/OPERATIONS.md). A file that isn't there, or is
+it answered is there when it is started again, whatever stopped it (docs/use/OPERATIONS.md). A file that isn't there, or is
 empty, is made. Drives and files of the cluster that the server lacks are added and made, on drives that have to listen already.
 Writes 'listening' once that is done and it listens at its address, and 'served K' at the end. All options are required.
 ";
@@ -99,7 +99,7 @@ const CLIENT: &str = "\
 usage: pnfs_osd client --number N --sequence Q --call TEXT < CLUSTER
 
 Carries out one call as client N (0 to 15) of the cluster that the text describes, or hands its server one order
-(docs/OPERATIONS.md). Q, from 1, is the number of its first request: 1 the first time, then what the line 'next Q' of
+(docs/use/OPERATIONS.md). Q, from 1, is the number of its first request: 1 the first time, then what the line 'next Q' of
 the run before says. All options are required.
 
 TEXT      write F OFFSET HEX, write F OFFSET -, read F OFFSET LENGTH, recall F, revoke F, rebuild F, audit F or

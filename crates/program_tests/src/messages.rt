@@ -1,5 +1,5 @@
 // Messages of a drive and of the metadata server, each as a record of a connection, or several. They were made from the tables of
-// `docs/MESSAGES.md` and `docs/DRIVE.md` by a script, and are no output of the program.
+// `docs/rules/MESSAGES.md` and `docs/rules/DRIVE.md` by a script, and are no output of the program.
 
 /// The frame of a drive's reply to a message that is no command: verdict 16, and zeros.
 #[rattlefmt::skip]

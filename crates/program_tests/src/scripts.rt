@@ -1,6 +1,6 @@
 // Messages of a client, of its server and of a drive, each as the one record of a connection. They were made from the
-// tables of `docs/MESSAGES.md` and `docs/DRIVE.md` by a script, and are no output of the program. The key of the drive is
-// 0b twenty times, and the grants expire at 100.
+// tables of `docs/rules/MESSAGES.md` and `docs/rules/DRIVE.md` by a script, and are no output of the program. The key of
+// the drive is 0b twenty times, and the grants expire at 100.
 
 /// Client 0 asks with its first request for file 0, to write 2 bytes at 0.
 #[rattlefmt::skip]
