@@ -77,7 +77,7 @@ impl Table {
         Some(token)
     }
 
-    /// The listener has a turn behind the others.
+    /// The listener has a turn after the others.
     pub(crate) fn queue_listener(&mut self) {
         if !self.has_listener_queued {
             self.has_listener_queued = self.queue.push_back(LISTENER).is_ok();
@@ -96,7 +96,7 @@ impl Table {
         }
     }
 
-    /// A connection has a turn behind the others. Without memory for that its peer seems silent.
+    /// A connection has a turn after the others. Without memory for that its peer seems silent.
     fn queue(&mut self, port: u64) {
         let Some(slot) = self.slots.get_mut(&port) else {
             return;

@@ -1,4 +1,4 @@
-ghost use Rattle.std.specs.Prelude.{◌≡◌, ◌≤◌, None, Some};
+ghost use Rattle.std.specs.Prelude.{◌≡◌, ◌≤◌, ℕ, List};
 ghost use Rattle.osd_bytes.specs.Causes.{Rose};
 
 use crate::limits::PortLimits;
@@ -26,7 +26,7 @@ const MOST_GIVEN_UP: u32 = 16;
 ///
 /// They have their turns one after the other: a connection brings one piece, then each other that has something. A full one
 /// isn't read until there is room on it again. A peer that is silent too long, or takes too long over a record or a reply, is
-/// hung up on; the time of a record begins with the connection, or with its first byte behind the reply before it. If the
+/// hung up on; the time of a record begins with the connection, or with its first byte after a reply. If the
 /// table is full and one more comes, the connection that was silent longest goes.
 ///
 /// The bytes are the system's: no contract says that they are those of the socket, or that something comes at all.
@@ -204,10 +204,9 @@ impl<R: Net + Clock + Drop> TcpPorts<R> {
     }
 
     // What comes of the listener's turn: a new connection, or the end of one that makes room for it.
-    fn admit(&mut self, buf: &[u8]) -> Option<Arrival>
-        ensures { Arrived self.old self.new result buf.now }
+    fn admit(&mut self) -> Option<Arrival>
+        ensures { (buf : List ℕ) → Arrived self.old self.new result buf }
     {
-        let _ = buf;
         let stream = self.arriving()?;
         if self.table.is_full() {
             let port = self.table.longest_silent()?;
@@ -230,7 +229,7 @@ impl<R: Net + Clock + Drop> TcpPorts<R> {
     {
         let token = self.table.next_turn()?;
         if token == LISTENER {
-            return self.admit(buf);
+            return self.admit();
         }
         let port = token.0 as u64;
         if port >= self.opened {
