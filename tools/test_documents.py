@@ -40,6 +40,8 @@ DAY = re.compile(r"## \d{1,2} [A-Z][a-z]+ \d{4}")
 SIGNPOST = "Comments and messages of the code still name it here."
 #: What a path ends with that is one of this repository wherever it begins.
 SOURCES = (".md", ".rt", ".antt", ".py", ".edit", ".rows")
+#: Code that a page has out of a file, below the file's path; lines with two dots alone part it.
+EXAMPLE = re.compile(r"^    // (?P<path>crates/[a-z_]+/src/[a-z_/]+\.rt)\n(?P<code>(?:    .*\n|\n(?=    ))+)", re.MULTILINE)
 #: Where a build, or a run, puts what isn't in the repository.
 MADE = {"out", ".git", "__pycache__"}
 
@@ -100,6 +102,13 @@ def titles(text: str) -> List[str]:
     """What a page can be asked for by name: its headings, and the bold beginnings of its paragraphs."""
     bold = re.findall(r"^\*\*([^*]+)\*\*", text, re.MULTILINE)
     return headings(text) + [title.rstrip(".") for title in bold]
+
+
+def examples_in(text: str) -> Iterator[Tuple[str, str]]:
+    """The parts of each block of code that begins with the path of a file in a comment, each with the path."""
+    for block in EXAMPLE.finditer(text):
+        code = re.sub(r"^    ", "", block["code"], flags=re.MULTILINE)
+        yield from ((block["path"], part.strip("\n") + "\n") for part in code.split("\n..\n"))
 
 
 class Documents(unittest.TestCase):
@@ -243,6 +252,13 @@ class Documents(unittest.TestCase):
                 self.assertEqual(lines[0], "# " + title)
                 self.assertTrue(title.startswith(name[:3] + ". "))
                 self.assertRegex(lines[2], DAY)
+
+    def test_each_example_is_in_its_file(self):
+        examples = [(page, path, part) for page in pages() for path, part in examples_in(text_of(page))]
+        self.assertGreater(len(examples), 8)
+        for page, path, part in examples:
+            with self.subTest(page=page, path=path, part=part.splitlines()[0]):
+                self.assertTrue("\n" + part in text_of(path), "the file has no such lines")
 
     def test_readme_is_short(self):
         self.assertLessEqual(len(text_of("README.md").split()), MOST_WORDS)

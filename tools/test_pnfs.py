@@ -397,7 +397,8 @@ class Words(Tool):
 
     def test_words(self):
         for words in (["get"], ["get", "f64"], ["get", "g0"], ["read", "f0", "01", "2"], ["write", "f0", "-1"],
-                      ["--client", "16", "get", "f0"], ["jump", "f0"], ["declare", "f0"], []):
+                      ["--client", "16", "get", "f0"], ["jump", "f0"], ["declare", "f0"], ["wait", "s"],
+                      ["wait", "d64"], []):
             with self.assertRaises(SystemExit) as caught, contextlib.redirect_stderr(io.StringIO()):
                 words_of(["-c", self.text] + words)
             self.assertEqual(caught.exception.code, 2)

@@ -2,6 +2,7 @@
 """Tests of what `tools/pnfs` shows of a cluster, with a server and drives that stand for the real ones: python3 tools/test_seeing.py"""
 import json
 import os
+import socket
 import socketserver
 import subprocess
 import sys
@@ -251,6 +252,57 @@ class Status(Seeing):
         self.assertFalse([line for line in lines if line.startswith(('pnfs_answer_seconds{party="d1"', 'pnfs_file_size_bytes{file="f7"'))])
         told = [line.split()[2] for line in lines if line.startswith("# TYPE")]
         self.assertEqual(len(told), len(set(told)))
+
+    def test_wait(self):
+        self.cluster({0: (5000, [0, 1, 2])})
+        self.assertEqual(self.tool("wait"), "")
+        self.assertEqual(self.tool("wait", "d2", "server"), "")
+        self.assertEqual(self.tool("wait", "drives"), "")
+        self.assertEqual([request.sequence for request in self.server.requests], [4_294_967_280] * 2)
+        self.assertEqual(self.server.granted, 0)
+
+    def test_wait_for_what_is_down(self):
+        closed = Peer(lambda record: b"")
+        closed.close()
+        self.cluster({0: (1, [0, 1, 2])}, [self.peer(lambda record: b"format"), closed.port])
+        self.tool("wait", "d0", "server")
+        self.tool("--patience", "0", "wait", "d1", status=24)
+        self.assertEqual(self.messages, "pnfs: d1 doesn't answer; given up after 0 seconds\n")
+        self.tool("--patience", "0", "wait", status=24)
+        self.tool("--patience", "0", "wait", "drives", status=24)
+        self.tool("wait", "d3", status=20)
+
+    def test_wait_for_what_begins_late(self):
+        with socket.socket() as place:
+            place.bind(("127.0.0.1", 0))
+            self.cluster({0: (1, [0, 1, 2])}, [place.getsockname()[1]])
+            begins = threading.Timer(0.5, place.listen)
+            begins.start()
+            taker = threading.Thread(target=self.answer_one, args=(begins, place))
+            taker.start()
+            self.tool("wait", "d0")
+            taker.join()
+
+    @staticmethod
+    def answer_one(begins, place):
+        """Answers one record, as soon as the listener has begun."""
+        begins.join()
+        connection = place.accept()[0]
+        with connection:
+            wire.record_of(connection, wire.time.monotonic() + 10)
+            connection.sendall(b"\x80\x00\x00\x06format")
+
+    def test_wait_ends_with_the_process(self):
+        closed = Peer(lambda record: b"")
+        closed.close()
+        self.cluster({0: (1, [0, 1, 2])}, [closed.port])
+        ended = subprocess.Popen(["true"])
+        ended.wait()
+        self.tool("--patience", "60", "wait", "d0", "--process", str(ended.pid), status=24)
+        self.assertEqual(self.messages, f"pnfs: process {ended.pid} has ended, and d0 doesn't answer\n")
+        self.tool("wait", "server", "--process", str(os.getpid()))
+        self.tool("wait", "server", "--process", str(ended.pid), status=24)
+        self.assertEqual(self.messages, f"pnfs: process {ended.pid} has ended, and another one answers in its place\n")
 
     def test_the_client_number_is_held(self):
         self.cluster({0: (1, [0, 1, 2])})

@@ -1,4 +1,4 @@
-"""Stores and journals as earlier versions wrote them (docs/STORES.md)."""
+"""Stores and journals as earlier versions wrote them (docs/use/STORES.md)."""
 
 _HEADER = 24
 

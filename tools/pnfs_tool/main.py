@@ -16,8 +16,8 @@ from .metrics import as_metrics
 from .program import Program, program_path
 from .seeing import LOST, Onlooker, see_cluster, see_files
 from .showing import as_json, as_list, as_text
-from .waiting import rebuilt, wait_for_end
-from .words import words_of
+from .waiting import is_up, rebuilt, wait_for_end, wait_for_parties
+from .words import DRIVES, SERVER, words_of
 
 MAX_TEXT = 67_108_864   # of a cluster text, as the program takes it
 ALL_FILES = range(64)
@@ -125,6 +125,19 @@ def show_cluster(words: argparse.Namespace, cluster: Cluster) -> int:
         time.sleep(words.seconds)
 
 
+def wait(words: argparse.Namespace, cluster: Cluster) -> int:
+    """Carries out wait."""
+    drives = [f"d{number}" for number in sorted(cluster.drives)]
+    parties = sum((drives if word == DRIVES else [word] for word in words.parties or [DRIVES, SERVER]), [])
+    for party in parties:
+        if party not in drives + [SERVER]:
+            raise End(NOT_ASKED, f"the cluster text has no drive {party}")
+    onlooker = Onlooker(cluster.server, words.client)
+    wait_for_parties(parties, lambda party: is_up(cluster, party, onlooker, spare_file(cluster)),
+                     words.process, words.patience)
+    return DONE
+
+
 def put_text(text: str) -> None:
     """Hands text on at once, so that a sink that fails shows."""
     put_out(sys.stdout.buffer, text.encode())
@@ -164,6 +177,8 @@ def carry_out(words: argparse.Namespace) -> int:
     if words.command in ("status", "metrics", "ls", "watch"):
         with held(cluster, words, tell):
             return show_cluster(words, cluster)
+    if words.command == "wait":
+        return wait(words, cluster)
     path = program_path(words.program)
     if words.command in ("put", "get", "write", "read"):
         refuse_file(cluster, words.file)

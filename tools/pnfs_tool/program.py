@@ -1,5 +1,6 @@
 """Finds the program and runs it as a client."""
 import os
+import shutil
 import subprocess
 from typing import Optional
 
@@ -12,7 +13,8 @@ BUILT = os.path.join(TOP, "crates", "pnfs_osd", "out", "pnfs_osd")
 
 
 def program_path(given: Optional[str]) -> str:
-    """The program: the one that was named, that of $PNFS_OSD, or the one that was built in this checkout.
+    """The program: the one that was named, that of $PNFS_OSD, or the one that was built in this checkout; and where this is no
+    checkout, the one on the PATH.
 
     The script `pnfs_osd` at the top isn't run: where a source is newer, that one builds first, which may take an hour.
     """
@@ -21,6 +23,11 @@ def program_path(given: Optional[str]) -> str:
         return os.path.abspath(path) if os.sep in path else path
     if os.access(BUILT, os.X_OK):
         return BUILT
+    if not os.path.exists(os.path.join(TOP, "crates")):
+        installed = shutil.which("pnfs_osd")
+        if installed is not None:
+            return installed
+        raise End(NO_PROGRAM, f"there is no pnfs_osd on the PATH: name one with --program or ${VARIABLE}")
     raise End(NO_PROGRAM, f"the program isn't built yet: run {os.path.join(TOP, 'pnfs_osd')} once, which builds it, "
                           f"or name one with --program or ${VARIABLE}")
 

@@ -1,13 +1,17 @@
-"""Waits until the job of an order has ended, as far as that shows from outside.
+"""Waits until parties answer, and until the job of an order has ended, as far as that shows from outside.
 
-A file that a job works on refuses requests for layouts. So the job has ended when a layout is granted again, and the layout tells
-which components are missing then.
+A party that was started takes connections before it is ready, and answers the first after it has said `listening`. A file that a
+job works on refuses requests for layouts. So the job has ended when a layout is granted again, and the layout tells which
+components are missing then.
 """
+import os
 import time
-from typing import Callable, Set
+from typing import Callable, List, Optional, Set
 
-from .ends import DONE, FILE_LOST, LACKS_DRIVE, NOT_ENDED, End
-from .seeing import BUSY, HELD, LOST, MISSING, UNKNOWN, WHOLE, FileSeen, Onlooker
+from .cluster import Cluster
+from .ends import DONE, FILE_LOST, LACKS_DRIVE, NOT_ENDED, NOT_WELL, End
+from .seeing import BUSY, HELD, LOST, MISSING, UNKNOWN, UP, WHOLE, FileSeen, Onlooker, see_drive, see_server
+from .words import SERVER
 
 FIRST_PAUSE, LONGEST_PAUSE = 0.05, 2.0
 
@@ -51,3 +55,41 @@ def rebuilt(seen: FileSeen) -> int:
         raise End(LACKS_DRIVE, f"f{seen.number} lacks its components {names} still: no drive was free for them. Add a spare drive to "
                                "the cluster text, start a stored server again with it, and rebuild once more")
     raise End(NOT_ENDED, f"f{seen.number} is {seen.state}: nothing was rebuilt")
+
+
+def has_ended(process: Optional[int]) -> bool:
+    """Whether there is such a process no more."""
+    if process is None:
+        return False
+    try:
+        os.kill(process, 0)
+    except ProcessLookupError:
+        return True
+    except PermissionError:
+        pass
+    return False
+
+
+def is_up(cluster: Cluster, party: str, onlooker: Onlooker, file: int) -> bool:
+    """Whether a party answers now."""
+    if party == SERVER:
+        return see_server(cluster.server, onlooker, file).state == UP
+    drive = int(party[1:])
+    return see_drive(drive, cluster.drives[drive]).state == UP
+
+
+def wait_for_parties(parties: List[str], asks: Callable[[str], bool], process: Optional[int], patience: float) -> None:
+    """Asks these parties, one after the other, until each has answered. Ends the run where that takes longer than the patience, or
+    the process has ended before."""
+    until = time.monotonic() + patience
+    for party in parties:
+        pause = FIRST_PAUSE
+        while not asks(party):
+            if has_ended(process):
+                raise End(NOT_WELL, f"process {process} has ended, and {party} doesn't answer")
+            if time.monotonic() >= until:
+                raise End(NOT_WELL, f"{party} doesn't answer; given up after {patience} seconds")
+            time.sleep(pause)
+            pause = min(pause * 2, LONGEST_PAUSE)
+    if has_ended(process):
+        raise End(NOT_WELL, f"process {process} has ended, and another one answers in its place")

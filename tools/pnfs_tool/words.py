@@ -3,6 +3,9 @@ import argparse
 import re
 from typing import List
 
+#: The server among parties, and all drives.
+SERVER, DRIVES = "server", "drives"
+
 EPILOG = """\
 calls (they use a number of the client, which the tool asks the server for):
   put F < DATA              writes DATA, at most 16777216 bytes, as the whole of file F (f0 to f63).
@@ -12,12 +15,19 @@ calls (they use a number of the client, which the tool asks the server for):
   write F OFFSET < DATA     writes DATA from byte OFFSET on
   read F OFFSET LENGTH      reads these bytes; status 23 where F ends before
 
+A long copy is many calls, each whole in itself: other clients may read and write between them, and a copy that
+stops has written, or put out, a part from the front. A call of whose run nothing is known is tried again,
+so it may be carried out twice.
+
 to see how the cluster is (each asks for a layout of a file's first byte, like a reader, and gives it back):
   status [--json]           drives, server and files: who answers, what is missing, what waits for what. Status 24 if
                             something doesn't answer or lacks something
   metrics [--store NAME]..  the same for Prometheus, in its text format, with the size of each store or journal NAME that can be seen here
   ls                        the files: number, size and state
   watch [SECONDS]           'status' again and again, every 5 seconds or as many as are given
+  wait [PARTY]..            ends as soon as these parties answer: drives as d0 or all of them as 'drives', and the server as
+                            'server'; without a PARTY all of the cluster text. Status 24 if they don't within --patience seconds.
+                            It asks for no layout and uses no number. --process PID gives up at once when this process has ended
 
 orders (the server only begins with them: how they end is told on its standard error, and as far as it shows by --wait):
   revoke F     ends every grant of F, and repairs what unfinished writes left
@@ -28,31 +38,29 @@ orders (the server only begins with them: how they end is told on its standard e
   declare D    takes drive D (d0 to d63) for lost, for good. Refused where something takes connections at its
                address, unless --even-if-alive follows
 
-A long copy is many calls, each whole in itself: other clients may read and write between them, and a copy that
-stops has written, or put out, a part from the front. A call behind whose run nothing is known is tried again,
-so it may be carried out twice.
-
 exit status:
-  0   done: each call was acknowledged, each byte that was asked for was read
-  2   the words are none of these
-  4   the cluster text or standard input couldn't be read
-  5   standard output failed
-  8   the server didn't answer, as often as it was asked
-  9   the cluster text is refused
-  10  the call or the order was refused, or what is in its way didn't go away: standard error says what
-  20  refused by this tool, which sent nothing of it: the drive is alive, F is longer than DATA or DATA too long,
-      there is no such file or drive in the cluster text, or the client number is in use
-  21  the program's answer is none to what was asked
-  22  the program couldn't be run
-  23  F ends before the bytes that 'read' asked for; those before its end were put out
-  24  'status': something of the cluster doesn't answer, or lacks something
-  25  '--wait': the job didn't end in time, or nothing is known of it
-  26  '--wait' with 'rebuild': a component is missing still, since no drive was free for it
-  27  '--wait' with 'rebuild': more of F is missing than its parity brings back
-  130 Ctrl-C
+  0    done: each call was acknowledged, each byte that was asked for was read
+  2    the words are none of these
+  4    the cluster text or standard input couldn't be read
+  5    standard output failed
+  8    the server didn't answer, as often as it was asked
+  9    the cluster text is refused
+  10   the call or the order was refused, or what is in its way didn't go away: standard error says what
+  20   refused by this tool, which sent nothing of it: the drive is alive, F is longer than DATA or DATA too long,
+       there is no such file or drive in the cluster text, or the client number is in use
+  21   the program's answer is none to what was asked
+  22   the program couldn't be run
+  23   F ends before the bytes that 'read' asked for; those before its end were put out
+  24   'status': something of the cluster doesn't answer, or lacks something; 'wait': a party doesn't answer
+  25   '--wait': the job didn't end in time, or nothing is known of it
+  26   '--wait' with 'rebuild': a component is missing still, since no drive was free for it
+  27   '--wait' with 'rebuild': more of F is missing than its parity brings back
+  130  Ctrl-C
 Other statuses are the program's own (./pnfs_osd --help).
 
-The program is that of --program or $PNFS_OSD, else crates/pnfs_osd/out/pnfs_osd, which ./pnfs_osd builds.
+The program is that of --program or $PNFS_OSD, else crates/pnfs_osd/out/pnfs_osd, which ./pnfs_osd builds; an installed
+tool takes the pnfs_osd of the PATH.
+
 Client numbers are held by locks in /tmp/pnfs_osd.locks ($PNFS_LOCKS), for one machine. Give each machine its own.
 docs/use/OPERATIONS.md goes through a cluster's first hour.
 """
@@ -70,6 +78,13 @@ def drive_name(word: str) -> int:
     if not re.fullmatch(r"d(0|[1-9][0-9]?)", word) or int(word[1:]) > 63:
         raise argparse.ArgumentTypeError(f"'{word}' is no drive: d0 to d63")
     return int(word[1:])
+
+
+def party_name(word: str) -> str:
+    """A drive, all drives, or the server."""
+    if word not in (SERVER, DRIVES):
+        drive_name(word)
+    return word
 
 
 def number(word: str) -> int:
@@ -117,6 +132,9 @@ def parser() -> argparse.ArgumentParser:
     commands.add_parser("ls", allow_abbrev=False)
     watch = commands.add_parser("watch", allow_abbrev=False)
     watch.add_argument("seconds", type=number, nargs="?", default=5, metavar="SECONDS")
+    wait = commands.add_parser("wait", allow_abbrev=False)
+    wait.add_argument("parties", type=party_name, nargs="*", metavar="PARTY")
+    wait.add_argument("--process", type=number, metavar="PID", help="give up when this process has ended")
     write = commands.add_parser("write", allow_abbrev=False)
     write.add_argument("file", type=file_name, metavar="F")
     write.add_argument("offset", type=number, metavar="OFFSET")

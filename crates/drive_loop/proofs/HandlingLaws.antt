@@ -7,14 +7,15 @@ use Rattle.osd_drive.specs.State.{DriveState}
 use Rattle.drive_command.specs.Connections.{Handled, after_all, last_after, last_of, lines_of, notes_of, reply_bytes}
 use Rattle.drive_command.specs.GoesOn.{WentOn}
 use Rattle.drive_command.specs.declared.device_server.DeviceServer.{Ghosts as DriveGhosts}
+use Rattle.port_loop.proofs.FrontLaws.{fronts}
 use Rattle.drive_command.proofs.KeptLaws.{joined, went-none, went-then}
 use Rattle.drive_loop.specs.declared.drive_handler.DriveHandler.{DriveHandler}
 use Rattle.drive_loop.specs.Handling.{AnswersOne, BreaksOne}
 use Rattle.drive_loop.specs.declared.serving.TheConstants.{MOST_TURNS}
 use Rattle.drive_loop.specs.Serving.{CutsMany, EndsMany, GoesBy, Seen, ServesMany, Tells, record_of, records_in, seen_at, serve_err_of}
 use Rattle.port_loop.specs.Ports.{after_notes}
-use Rattle.port_loop.specs.Serving.{BreaksOff, Desk, HandlesAll, Serves}
-use Rattle.port_loop.specs.Steps.{Follows, Handled as Taking, Lawful, Settled, Step, handled_in}
+use Rattle.port_loop.specs.Serving.{AddsAll, BreaksOff, Desk, HandlesAll, Serves}
+use Rattle.port_loop.specs.Steps.{Follows, Handled as Taking, Lawful, Settled, Step, handled_in, happened}
 use Rattle.port_loop.specs.Steps.Step.{Handles}
 use Rattle.port_loop.specs.declared.handler.Handler.{Ghosts}
 use Rattle.port_loop.specs.declared.notes.Notes.{Ghosts as NotesGhosts}
@@ -46,6 +47,11 @@ tells-one d before mid now h hs time noted last t =
           ∙ notes-then (lines_of d before.last h) (notes_of e (last_of d before.last h) hs) before.noted;
       last = t.last ∙ ap (λ (l : Option ℕ). last_after e l hs) last;
     }
+
+goes-by : (d : DriveState) (before now : Seen) (steps : List Step) → AddsAll (happened steps) before.told now.told
+    → Lawful reply_bytes drive_after d steps → GoesBy d before now steps
+goes-by d before now steps told lawful =
+    record { told = told; lawful = lawful; fronts = fronts reply_bytes drive_after d steps lawful }
 
 module _ {H N : Type 0} (s : DriveGhosts H) (n : NotesGhosts N) (v : Ghosts (DriveHandler H N))
     (answers : (time : ℕ) (message : List ℕ) (old new : DriveHandler H N) → v.handles time message old new →
@@ -91,7 +97,8 @@ module _ {H N : Type 0} (s : DriveGhosts H) (n : NotesGhosts N) (v : Ghosts (Dri
       → EndsMany s connections a.handler.server b.handler.server (of_desk n a x) (of_desk n b z) (Ok tt)
   ends-well a b x z connections on lawful settled r = (
     r.0,
-    serves-many a b x z r.0 on (record { told = r.1; lawful = lawful r.0 r.2.lawful }) (settled r.0 r.3.0.settled) r.3.0.desk,
+    serves-many a b x z r.0 on (goes-by (s.drive a.handler.server) (of_desk n a x) (of_desk n b z) r.0 r.1
+        (lawful r.0 r.2.lawful)) (settled r.0 r.3.0.settled) r.3.0.desk,
     r.3.1,
   )
 
@@ -171,9 +178,16 @@ module _ {H N : Type 0} (s : DriveGhosts H) (n : NotesGhosts N) (v : Ghosts (Dri
         → EndsMany s connections a.handler.server b.handler.server (of_desk n a x) (of_desk n b z) (Err (serve_err_of e))
     ends-early a b x z connections PortFault on lawful settled follows r = (
       r.0,
-      serves-many a b x z r.0 on (record { told = r.1; lawful = lawful r.0 r.2.lawful }) (settled r.0 r.3.settled) r.3.desk,
+      serves-many a b x z r.0 on (goes-by (s.drive a.handler.server) (of_desk n a x) (of_desk n b z) r.0 r.1
+          (lawful r.0 r.2.lawful)) (settled r.0 r.3.settled) r.3.desk,
     )
-    ends-early a b x z connections HandlerFault on lawful settled follows r =
-        (r.0, cuts-many (v.state a.handler) a b x z r.0 on (record { told = r.1; lawful = lawful r.0 r.2.lawful }) follows r.2.desk)
-    ends-early a b x z connections Memory on lawful settled follows r =
-        (r.0, cuts-many (v.state a.handler) a b x z r.0 on (record { told = r.1; lawful = lawful r.0 r.2.lawful }) follows r.2.desk)
+    ends-early a b x z connections HandlerFault on lawful settled follows r = (
+      r.0,
+      cuts-many (v.state a.handler) a b x z r.0 on
+          (goes-by (s.drive a.handler.server) (of_desk n a x) (of_desk n b z) r.0 r.1 (lawful r.0 r.2.lawful)) follows r.2.desk,
+    )
+    ends-early a b x z connections Memory on lawful settled follows r = (
+      r.0,
+      cuts-many (v.state a.handler) a b x z r.0 on
+          (goes-by (s.drive a.handler.server) (of_desk n a x) (of_desk n b z) r.0 r.1 (lawful r.0 r.2.lawful)) follows r.2.desk,
+    )

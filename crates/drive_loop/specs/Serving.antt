@@ -13,7 +13,7 @@ use Rattle.drive_loop.specs.declared.drive_handler.DriveHandler.{DriveHandler}
 use Rattle.drive_loop.specs.declared.serving.TheConstants.{MOST_TURNS}
 use Rattle.port_loop.specs.Ports.{after_notes, over_in}
 use Rattle.port_loop.specs.Serving.{AddsAll}
-use Rattle.port_loop.specs.Steps.{Follows, Handled as Taking, Lawful, Settled, Step, handled_in, happened, waits_in}
+use Rattle.port_loop.specs.Steps.{Follows, Handled as Taking, IsFrontOnEach, Lawful, Settled, Step, handled_in, happened, waits_in}
 use Rattle.port_loop.specs.Steps.Step.{Handles}
 use Rattle.port_loop.specs.declared.notes.Notes.{Ghosts as NotesGhosts}
 use Rattle.port_loop.specs.declared.ports.Happening.{Happening}
@@ -45,10 +45,12 @@ record_of h = handled_at h.time h.message
 abbrev pub records_in : List Step → List Handled
 records_in steps = map record_of (handled_in steps)
 
--- these steps of the loop are lawful, from a drive on, and what the ports tell are those
+-- These steps of the loop are lawful, from a drive on, and what the ports tell are those. What was put on each connection are
+-- the replies to its records, in order, as far as that went.
 pub record GoesBy (drive : DriveState) (before now : Seen) (steps : List Step) : Type 0 where
   pub told : AddsAll (happened steps) before.told now.told
   pub lawful : Lawful reply_bytes drive_after drive steps
+  pub fronts : IsFrontOnEach reply_bytes drive_after drive steps
 
 -- each record was handled at the next time of the clock, and the refusals among them were told, one a second at most
 pub record Tells (drive : DriveState) (before now : Seen) (handled : List Handled) : Type 0 where
@@ -56,8 +58,8 @@ pub record Tells (drive : DriveState) (before now : Seen) (handled : List Handle
   pub noted : now.noted ≡ after_notes (notes_of drive before.last handled) before.noted
   pub last : now.last ≡ last_after drive before.last handled
 
--- After some steps the next record of all that were taken was being handled, at the next time of the clock, and that broke off. It
--- was handled, as the last step, or not; and told or not.
+-- After some steps the next record of all that were taken was being handled, at the next time of the clock, and that broke off.
+-- It was handled, as the last step, or not; and told or not.
 pub record BreaksAt (drive : DriveState) (before now : Seen) (steps : List Step) : Type 0 where
   pub older : List Step
   pub mid : Seen

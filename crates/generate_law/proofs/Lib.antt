@@ -20,3 +20,14 @@ pub mod PlainSums
 pub mod OneEntry
 pub mod Walking
 pub mod Tallying
+pub mod KeptSizes
+pub mod KeptNotes
+pub mod KeptLogs
+pub mod KeptMoves
+pub mod KeptHears
+pub mod KeptStages
+pub mod KeptWorks
+pub mod KeptWalk
+pub mod KeptOpening
+pub mod KeptCalls
+pub mod KeptAll

@@ -8,3 +8,4 @@ pub mod Opening
 pub mod Calm
 pub mod Few
 pub mod Sums
+pub mod Kept

@@ -84,7 +84,8 @@ pub goes-came : {H : Type 0} {v : Ghosts H} {first : v.State} {since : Desk H} {
     → Goes v first since a calm at steps
     → Goes v first since b (on p records) bt (Happens (Came p bytes) ∷ steps)
 goes-came {H} {v} {first} {since} {a} {b} {at} {bt} {steps} p bytes records s t is reads opened desk over sets g =
-    let h : IsHeld v.reply_to v.state_after first steps p (Some s) = opens v.reply_to v.state_after first steps p s (at p) is (g.each p) in
+    let h : IsHeld v.reply_to v.state_after first steps p (Some s) = opens v.reply_to v.state_after first steps p s (at p) is
+    (g.each p) in
     let whole : whole_in (came_on p (happened steps)) bytes ≡ records =
     ap (λ (x : Option Begun). (read_on x bytes).records) h.1 ∙ ap (λ (x : Split). x.records) reads.0 in
     goes-happens (Came p bytes) (goes-settled g)
@@ -141,7 +142,8 @@ pub goes-ended : {H : Type 0} {v : Ghosts H} {first : v.State} {since : Desk H} 
     → Goes v first since a calm at steps → Goes v first since b calm bt (Happens (Ended p) ∷ steps)
 goes-ended {H} {v} {first} {since} {a} {b} {at} {bt} {steps} p opened desk over sets g =
     goes-happens (Ended p) (goes-settled g) g.records desk (ended (at p) (g.each p) over)
-    (subst (λ (o : Option Sess). IsHeld v.reply_to v.state_after first (Happens (Ended p) ∷ steps) p o) (sym sets.here) (rw (same p) refl))
+    (subst (λ (o : Option Sess). IsHeld v.reply_to v.state_after first (Happens (Ended p) ∷ steps) p o) (sym sets.here) (rw
+    (same p) refl))
     (λ idle. subst (λ (o : Option Sess). Rests (Happens (Ended p) ∷ steps) p o) (sym sets.here) tt)
     sets.there (λ q ne. refl)
     (λ q above. let u = g.unused q (omega (arith, opened, above)) in record {
@@ -167,7 +169,8 @@ pub goes-went : {H : Type 0} {v : Ghosts H} {first : v.State} {since : Desk H} {
     → Goes v first since a (on p []) at steps
     → Goes v first since b (on p []) bt (Happens (Went p (take n s.unsent) full) ∷ steps)
 goes-went {H} {v} {first} {since} {a} {b} {at} {bt} {steps} p n full s t is is_t opened desk over sets g =
-    let h : IsHeld v.reply_to v.state_after first steps p (Some s) = opens v.reply_to v.state_after first steps p s (at p) is (g.each p) in
+    let h : IsHeld v.reply_to v.state_after first steps p (Some s) = opens v.reply_to v.state_after first steps p s (at p) is
+    (g.each p) in
     goes-happens (Went p (take n s.unsent) full)
     (h.0, drop n s.unsent, h.2 ∙ ap (λ (l : List ℕ). went_on p (happened steps) ++ l) (sym (take-append-drop n s.unsent)))
     g.records desk (over ∙ g.over)
@@ -190,7 +193,8 @@ pub goes-failed : {H : Type 0} {v : Ghosts H} {first : v.State} {since : Desk H}
     → Goes v first since a (on p []) at steps
     → Goes v first since b (on p []) at (Happens (Failed p) ∷ steps)
 goes-failed {H} {v} {first} {since} {a} {b} {at} {steps} p s is opened desk over g =
-    let h : IsHeld v.reply_to v.state_after first steps p (Some s) = opens v.reply_to v.state_after first steps p s (at p) is (g.each p) in
+    let h : IsHeld v.reply_to v.state_after first steps p (Some s) = opens v.reply_to v.state_after first steps p s (at p) is
+    (g.each p) in
     let alike : Alike v.reply_to v.state_after first p (Happens (Failed p) ∷ steps) steps =
     record { stays = refl; came = refl; went = refl; frames = refl } in
     goes-happens (Failed p) h.0 g.records desk (over ∙ g.over) (stands-alike (at p) alike (g.each p))
@@ -201,14 +205,16 @@ goes-failed {H} {v} {first} {since} {a} {b} {at} {steps} p s is opened desk over
 
 pub goes-closed : {H : Type 0} {v : Ghosts H} {first : v.State} {since : Desk H} {a b : Around H}
     {at bt : ℕ → Option Sess} {steps : List Step} (p : ℕ) (s : Sess)
-    → at p ≡ Some s → HasEnd v.reply_to v.state_after first p steps → b.opened ≡ a.opened → b.desk ≡ a.desk → b.over ≡ a.over + 1 → Sets p None at bt
+    → at p ≡ Some s → HasEnd v.reply_to v.state_after first p steps → b.opened ≡ a.opened → b.desk ≡ a.desk →
+    b.over ≡ a.over + 1 → Sets p None at bt
     → Goes v first since a (on p []) at steps
     → Goes v first since b calm bt (Happens (Closed p) ∷ steps)
 goes-closed {H} {v} {first} {since} {a} {b} {at} {bt} {steps} p s is ends opened desk over sets g =
     let h : IsHeld v.reply_to v.state_after first steps p (Some s) =
     opens v.reply_to v.state_after first steps p s (at p) is (g.each p) in
     goes-happens (Closed p) ends g.records desk (rw h.0 (over ∙ ap (λ (n : ℕ). n + 1) g.over))
-    (subst (λ (o : Option Sess). IsHeld v.reply_to v.state_after first (Happens (Closed p) ∷ steps) p o) (sym sets.here) (rw (same p) refl))
+    (subst (λ (o : Option Sess). IsHeld v.reply_to v.state_after first (Happens (Closed p) ∷ steps) p o) (sym sets.here) (rw
+    (same p) refl))
     (λ idle. subst (λ (o : Option Sess). Rests (Happens (Closed p) ∷ steps) p o) (sym sets.here) tt)
     sets.there (λ q ne. ne)
     (λ q above. let u = g.unused q (omega (arith, opened, above)) in record {
@@ -323,7 +329,8 @@ pub goes-handles : {H : Type 0} {v : Ghosts H} {first : v.State} {since : Desk H
 goes-handles {H} {v} {first} {since} {a} {b} {at} {bt} {steps} p time message rest s t is is_t opened state tells done
     over sets g =
     let h : Handled = record { port = p; time = time; message = message } in
-    let open_p : IsHeld v.reply_to v.state_after first steps p (Some s) = opens v.reply_to v.state_after first steps p s (at p) is (g.each p) in record {
+    let open_p : IsHeld v.reply_to v.state_after first steps p (Some s) = opens v.reply_to v.state_after first steps p s
+    (at p) is (g.each p) in record {
       lawful = ((map (taken_on p) rest, g.records), g.lawful);
       records = g.records
           ∙ sym (append_assoc (map record_of (handled_in steps)) (taken_on p message ∷ []) (map (taken_on p) rest))
@@ -338,14 +345,16 @@ goes-handles {H} {v} {first} {since} {a} {b} {at} {bt} {steps} p time message re
             open_p.0,
             open_p.1,
             frames-append v.reply_to v.state_after p first (handled_in steps) (h ∷ [])
-                ∙ ap (λ (l : List ℕ). l ++ frames_on v.reply_to v.state_after p (after_all v.state_after first (handled_in steps)) (h ∷ [])) open_p.2
+                ∙ ap (λ (l : List ℕ). l ++ frames_on v.reply_to v.state_after p (after_all v.state_after first
+                (handled_in steps)) (h ∷ [])) open_p.2
                 ∙ append_assoc (went_on p (happened steps)) s.unsent
                 (frames_on v.reply_to v.state_after p (after_all v.state_after first (handled_in steps)) (h ∷ []))
                 ∙ ap (λ (l : List ℕ). went_on p (happened steps) ++ (s.unsent ++ l))
                 (frame-one v.reply_to v.state_after p (after_all v.state_after first (handled_in steps)) time message
                 ∙ ap (λ (d : v.State). framed (v.reply_to d time message)) (sym g.state)),
           ))
-          (λ ne. subst (λ (o : Option Sess). IsHeld v.reply_to v.state_after first (Handles h ∷ steps) q o) (sym (sets.there q ne))
+          (λ ne. subst (λ (o : Option Sess). IsHeld v.reply_to v.state_after first (Handles h ∷ steps) q o) (sym
+          (sets.there q ne))
           (stands-alike (at q) (handles-other v.reply_to v.state_after first q h steps ne) (g.each q)));
       rests = λ q ne. subst (λ (o : Option Sess). Rests (Handles h ∷ steps) q o) (sym (sets.there q ne))
           (rests-alike q (Handles h ∷ steps) steps (at q) refl (g.rests q ne));

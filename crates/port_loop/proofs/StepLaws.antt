@@ -10,6 +10,7 @@ use Rattle.port_loop.specs.Serving.{Desk, Ran}
 use Rattle.port_loop.specs.Sessions.{Sess}
 use Rattle.port_loop.specs.Steps.{Answer, Change, IsServed, Settled, Step, frames_on, handled_in, happened, record_of}
 use Rattle.port_loop.specs.Steps.Step.{Happens}
+use Rattle.port_loop.proofs.FrontLaws.{fronts}
 use Rattle.port_loop.proofs.ListLaws.{other}
 
 pub record Alike {S : Type 0} (reply : Answer S) (step : Change S) (first : S) (q : ℕ) (new old : List Step) : Type 0 where
@@ -121,6 +122,7 @@ pub goes-ran : {H : Type 0} {v : Ghosts H} {first : v.State} {since : Desk H} {a
     → Goes v first since a w at steps → Ran v first since a.desk steps
 goes-ran {H} {v} {first} {since} {a} {w} {at} {steps} g = record {
   lawful = g.lawful;
+  fronts = fronts v.reply_to v.state_after first steps g.lawful;
   state = g.state;
   desk = inl g.desk;
 }

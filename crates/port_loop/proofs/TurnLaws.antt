@@ -14,8 +14,9 @@ use Rattle.port_loop.specs.declared.ports.Happening.TheVariants.{Began, Came, We
 use Rattle.port_loop.specs.declared.handler.Handler.{Ghosts}
 use Rattle.port_loop.specs.Serving.{AddsAll, Desk, HandlesAll, Ran, Serves}
 use Rattle.port_loop.specs.Sessions.{Reads, Sess, new_session, read_on}
-use Rattle.port_loop.specs.Steps.{Handled, Settled, Step, handled_in, happened, taken_on, waits_in}
+use Rattle.port_loop.specs.Steps.{Handled, Lawful, Settled, Step, handled_in, happened, taken_on, waits_in}
 use Rattle.port_loop.specs.Steps.Step.{Happens, Handles}
+use Rattle.port_loop.proofs.FrontLaws.{fronts}
 use Rattle.port_loop.proofs.GoingLaws.{goes-at, goes-began, goes-came, goes-closed, goes-drained, goes-ended, goes-failed, goes-handles, goes-ignored, goes-on, goes-passed, goes-rests, goes-went}
 use Rattle.port_loop.proofs.LeavingLaws.{absent-same, dropped-sets, holding-here, holding-sets, laid-same, lifted-same, lifted-sets, moves-handles, moves-one, moves-stop, moves-then, moves-zero, stops-here}
 use Rattle.port_loop.proofs.ListLaws.{adds-none, adds-one, adds-then, after-append, same}
@@ -61,7 +62,8 @@ put-closed {H} {v} a m b tb p n s t opened told desk over is_t why opened' told'
     moves-two (put_on p n s.unsent) (Closed p) m.told told told' (λ first since steps g.
     let went : Goes v first since m (on p []) (holding p t tb) (Happens (put_on p n s.unsent) ∷ steps) =
     goes-went p n (nat_lt n (length s.unsent)) s t (holding-here p s tb) is_t opened desk over (holding-sets p s t tb) g in
-    let h = opens v.reply_to v.state_after first (Happens (put_on p n s.unsent) ∷ steps) p t (holding p t tb p) (holding-here p t tb)
+    let h = opens v.reply_to v.state_after first (Happens (put_on p n s.unsent) ∷ steps) p t (holding p t tb p)
+    (holding-here p t tb)
     (went.each p) in
     goes-closed p t (holding-here p t tb)
     (elim why [ inl broken ↦ inl (h.1 ∙ broken) | inr many ↦ inr (inr (t.unsent, h.2, many)) ])
@@ -181,6 +183,7 @@ breaks-before {H} {v} a b at p time message rest told state tells fails = λ fir
   adds-none a.told b.told told,
   record {
     lawful = g.lawful;
+    fronts = fronts v.reply_to v.state_after first steps g.lawful;
     state = state ∙ g.state;
     desk = inr (record {
       older = steps;
@@ -203,11 +206,14 @@ pub breaks-after : {H : Type 0} {v : Ghosts H} (a b : Around H) (at : ℕ → Op
     → TellsTime a.desk.times b.desk.times time → v.fails time message true a.desk.handler b.desk.handler
     → Stops v a (on p (message ∷ rest)) at b
 breaks-after {H} {v} a b at p time message rest told state tells fails = λ first since steps g.
-    let h : Handled = record { port = p; time = time; message = message } in (
+    let h : Handled = record { port = p; time = time; message = message } in
+    let lawful : Lawful v.reply_to v.state_after first (Handles h ∷ steps) =
+    ((map (taken_on p) rest, g.records), g.lawful) in (
       Handles h ∷ [],
       adds-none a.told b.told told,
       record {
-        lawful = ((map (taken_on p) rest, g.records), g.lawful);
+        lawful = lawful;
+        fronts = fronts v.reply_to v.state_after first (Handles h ∷ steps) lawful;
         state = state ∙ ap (λ (d : v.State). v.state_after d time message) g.state
             ∙ sym (after-append v.state_after first (handled_in steps) (h ∷ []));
         desk = inr (record {

@@ -8,7 +8,7 @@ use Rattle.port_loop.specs.declared.serving.LoopErr.{LoopErr}
 use Rattle.port_loop.specs.declared.serving.LoopErr.TheVariants.{PortFault, HandlerFault, Memory}
 use Rattle.port_loop.specs.declared.ports.Happening.{Happening}
 use Rattle.port_loop.specs.Ports.{over_in}
-use Rattle.port_loop.specs.Steps.{Follows, Handled, Lawful, Settled, Step, after_all, handled_in, happened, waits_in}
+use Rattle.port_loop.specs.Steps.{Follows, Handled, IsFrontOnEach, Lawful, Settled, Step, after_all, handled_in, happened, waits_in}
 use Rattle.port_loop.specs.Steps.Step.{Handles}
 
 -- how the loop ends if the handler does
@@ -56,9 +56,11 @@ pub record BreaksOff {H : Type 0} (v : Ghosts H) (first : v.State) (before now :
 
 -- ---- the loop
 
--- these lawful steps were made since a first state, and each record was handled to its end, but perhaps one that broke off
+-- These lawful steps were made since a first state: what was put on each connection are replies to its records, in order. Each
+-- record was handled to its end, but perhaps one that broke off.
 pub record Ran {H : Type 0} (v : Ghosts H) (first : v.State) (before now : Desk H) (steps : List Step) : Type 0 where
   pub lawful : Lawful v.reply_to v.state_after first steps
+  pub fronts : IsFrontOnEach v.reply_to v.state_after first steps
   pub state : v.state now.handler ≡ after_all v.state_after first (handled_in steps)
   pub desk : HandlesAll v before (handled_in steps) now ⊎ BreaksOff v first before now steps
 

@@ -1,7 +1,8 @@
 //! Many connections at once, and the loop that serves them without threads.
 //!
-//! It has the trait [`Ports`] of connections that stand side by side, the trait [`Handler`] of what answers records, the
-//! trait [`Notes`] of what is told beside them, and [`serve_many`]. No peer holds another up: what there is no room for waits in the session of its connection.
+//! It has the trait [`Ports`] of connections that stand side by side, the trait [`Handler`] of what answers records, the trait
+//! [`Notes`] of what is told beside them, and [`serve_many`]. No peer holds another up: what there is no room for waits in the
+//! session of its connection.
 #![tactic(auto)]
 
 mod answering;

@@ -10,8 +10,10 @@ use Rattle.port_loop.proofs.serving.bring.Goals as goal
 
 pub returns-in-None-clause-leaves : goal.returns-in-None-clause-leaves
 returns-in-None-clause-leaves g c = λ before tells less.
-    came-none (around (g.P.Ports.opened c.args.ports.now) before (desk_at c.args.server.now (g.C.Clock.times c.args.clock.now)) c.args.over.now)
-    (around (g.P.Ports.opened c.args.ports.now) (g.P.Ports.told c.args.ports.now) (desk_at c.args.server.now (g.C.Clock.times c.args.clock.now)) c.args.over.now)
+    came-none (around (g.P.Ports.opened c.args.ports.now) before (desk_at c.args.server.now
+    (g.C.Clock.times c.args.clock.now)) c.args.over.now)
+    (around (g.P.Ports.opened c.args.ports.now) (g.P.Ports.told c.args.ports.now) (desk_at c.args.server.now
+    (g.C.Clock.times c.args.clock.now)) c.args.over.now)
     (get nat_cmp c.args.table.now)
     (get nat_cmp c.lift.new.table) c.args.port c.args.piece.now refl tells refl refl less
     (sym c.in-None.ensures.was) c.in-None.ensures.sets
@@ -20,8 +22,10 @@ pub returns-in_err-records-clause-leaves : goal.returns-in_err-records-clause-le
 returns-in_err-records-clause-leaves g c = λ before tells less.
     let p = err_from_is_err_and c.from_residual.result c.from_residual.ensures.1 in
     rw p.1
-    (came-stops (around (g.P.Ports.opened c.args.ports.now) before (desk_at c.args.server.now (g.C.Clock.times c.args.clock.now)) c.args.over.now)
-    (around (g.P.Ports.opened c.args.ports.now) (g.P.Ports.told c.args.ports.now) (desk_at c.args.server.now (g.C.Clock.times c.args.clock.now)) c.args.over.now)
+    (came-stops (around (g.P.Ports.opened c.args.ports.now) before (desk_at c.args.server.now
+    (g.C.Clock.times c.args.clock.now)) c.args.over.now)
+    (around (g.P.Ports.opened c.args.ports.now) (g.P.Ports.told c.args.ports.now) (desk_at c.args.server.now
+    (g.C.Clock.times c.args.clock.now)) c.args.over.now)
     (get nat_cmp c.args.table.now)
     (get nat_cmp c.lift.new.table) c.args.port c.args.piece.now c.in-Some.session refl tells refl refl
     (sym c.in-Some.ensures.was) c.in-Some.ensures.sets)
@@ -30,9 +34,12 @@ pub returns-in_err-answer_all-clause-leaves : goal.returns-in_err-answer_all-cla
 returns-in_err-answer_all-clause-leaves g c = λ before tells less.
     let p = err_from_is_err_and c.from_residual-in_err-answer_all.result c.from_residual-in_err-answer_all.ensures.1 in
     rw p.1
-    (moves-stop (around (g.P.Ports.opened c.args.ports.now) (g.P.Ports.told c.args.ports.now) (desk_at c.answer_all.new.server (g.C.Clock.times c.answer_all.new.clock)) c.args.over.now)
-    (came-some (around (g.P.Ports.opened c.args.ports.now) before (desk_at c.args.server.now (g.C.Clock.times c.args.clock.now)) c.args.over.now)
-    (around (g.P.Ports.opened c.args.ports.now) (g.P.Ports.told c.args.ports.now) (desk_at c.args.server.now (g.C.Clock.times c.args.clock.now)) c.args.over.now)
+    (moves-stop (around (g.P.Ports.opened c.args.ports.now) (g.P.Ports.told c.args.ports.now)
+    (desk_at c.answer_all.new.server (g.C.Clock.times c.answer_all.new.clock)) c.args.over.now)
+    (came-some (around (g.P.Ports.opened c.args.ports.now) before (desk_at c.args.server.now
+    (g.C.Clock.times c.args.clock.now)) c.args.over.now)
+    (around (g.P.Ports.opened c.args.ports.now) (g.P.Ports.told c.args.ports.now) (desk_at c.args.server.now
+    (g.C.Clock.times c.args.clock.now)) c.args.over.now)
     (get nat_cmp c.args.table.now)
     (get nat_cmp c.lift.new.table) c.args.port c.args.piece.now _ c.in-Some.session c.read.new.self refl tells refl refl
     (sym c.in-Some.ensures.was) c.in-Some.ensures.sets c.in_ok-records.ensures)
@@ -45,8 +52,10 @@ returns-in_err-put_out-clause-leaves g c = λ before tells less.
     rw p.1
     (moves-stop (around (g.P.Ports.opened c.put_out.new.ports) (g.P.Ports.told c.put_out.new.ports)
     (desk_at c.answer_all.new.server (g.C.Clock.times c.answer_all.new.clock)) c.put_out.new.over)
-    (moves-then (came-some (around (g.P.Ports.opened c.args.ports.now) before (desk_at c.args.server.now (g.C.Clock.times c.args.clock.now)) c.args.over.now)
-    (around (g.P.Ports.opened c.args.ports.now) (g.P.Ports.told c.args.ports.now) (desk_at c.args.server.now (g.C.Clock.times c.args.clock.now)) c.args.over.now)
+    (moves-then (came-some (around (g.P.Ports.opened c.args.ports.now) before (desk_at c.args.server.now
+    (g.C.Clock.times c.args.clock.now)) c.args.over.now)
+    (around (g.P.Ports.opened c.args.ports.now) (g.P.Ports.told c.args.ports.now) (desk_at c.args.server.now
+    (g.C.Clock.times c.args.clock.now)) c.args.over.now)
     (get nat_cmp c.args.table.now)
     (get nat_cmp c.lift.new.table) c.args.port c.args.piece.now _ c.in-Some.session c.read.new.self refl tells refl refl
     (sym c.in-Some.ensures.was) c.in-Some.ensures.sets c.in_ok-records.ensures)
@@ -56,8 +65,10 @@ returns-in_err-put_out-clause-leaves g c = λ before tells less.
 
 pub returns-clause-leaves : goal.returns-clause-leaves
 returns-clause-leaves g c = λ before tells less.
-    moves-then (moves-then (came-some (around (g.P.Ports.opened c.args.ports.now) before (desk_at c.args.server.now (g.C.Clock.times c.args.clock.now)) c.args.over.now)
-    (around (g.P.Ports.opened c.args.ports.now) (g.P.Ports.told c.args.ports.now) (desk_at c.args.server.now (g.C.Clock.times c.args.clock.now)) c.args.over.now)
+    moves-then (moves-then (came-some (around (g.P.Ports.opened c.args.ports.now) before (desk_at c.args.server.now
+    (g.C.Clock.times c.args.clock.now)) c.args.over.now)
+    (around (g.P.Ports.opened c.args.ports.now) (g.P.Ports.told c.args.ports.now) (desk_at c.args.server.now
+    (g.C.Clock.times c.args.clock.now)) c.args.over.now)
     (get nat_cmp c.args.table.now)
     (get nat_cmp c.lift.new.table) c.args.port c.args.piece.now _ c.in-Some.session c.read.new.self refl tells refl refl
     (sym c.in-Some.ensures.was) c.in-Some.ensures.sets c.in_ok-records.ensures)

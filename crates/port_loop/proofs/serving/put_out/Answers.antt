@@ -19,7 +19,8 @@ pub returns-in-Err-clause-leaves : goal.returns-in-Err-clause-leaves
 returns-in-Err-clause-leaves g c = λ desk.
     put-failed (around (g.P.Ports.opened c.args.ports.now) (g.P.Ports.told c.args.ports.now) desk c.args.over.now)
     (around (g.P.Ports.opened c.put.new.self) (g.P.Ports.told c.put.new.self) desk c.args.over.now)
-    (around (g.P.Ports.opened c.close.new.self) (g.P.Ports.told c.close.new.self) desk (c.args.over.now + 1)) (get nat_cmp c.args.table.now)
+    (around (g.P.Ports.opened c.close.new.self) (g.P.Ports.told c.close.new.self) desk (c.args.over.now + 1))
+    (get nat_cmp c.args.table.now)
     c.args.port c.args.session c.in-Err.ensures.opened c.in-Err.ensures.puts refl refl c.close.ensures.opened
     c.close.ensures.told refl refl c.requires.lifted
 
@@ -27,7 +28,8 @@ pub returns-then-is_broken-clause-leaves : goal.returns-then-is_broken-clause-le
 returns-then-is_broken-clause-leaves g c = λ desk.
     put-closed (around (g.P.Ports.opened c.args.ports.now) (g.P.Ports.told c.args.ports.now) desk c.args.over.now)
     (around (g.P.Ports.opened c.put.new.self) (g.P.Ports.told c.put.new.self) desk c.args.over.now)
-    (around (g.P.Ports.opened c.close-then-is_broken.new.self) (g.P.Ports.told c.close-then-is_broken.new.self) desk (c.args.over.now + 1))
+    (around (g.P.Ports.opened c.close-then-is_broken.new.self) (g.P.Ports.told c.close-then-is_broken.new.self) desk
+    (c.args.over.now + 1))
     (get nat_cmp c.args.table.now) c.args.port c.in-Ok.count c.args.session c.went.new.self c.in-Ok.ensures.opened
     (rw c.unsent.ensures at c.in-Ok.ensures.puts.1) refl refl (search rules) (search rules) c.close-then-is_broken.ensures.opened
     c.close-then-is_broken.ensures.told refl refl c.requires.lifted
