@@ -228,13 +228,17 @@ class Documents(unittest.TestCase):
         made = subprocess.run([sys.executable, os.path.join(TOP, "tools", "crates")], stdout=subprocess.PIPE, check=True).stdout.decode()
         self.assertIn(made, text_of("docs/laws/PROOFS.md"), "tools/crates --write makes it")
 
+    def test_the_list_of_claims_is_made(self):
+        made = subprocess.run([sys.executable, os.path.join(TOP, "tools", "claims")], stdout=subprocess.PIPE, check=True).stdout.decode()
+        self.assertIn(made, text_of("docs/laws/HEADLINE.md"), "tools/claims --write makes it")
+
     def test_each_claim_is_told(self):
         claims = text_of("crates/history_claims/specs/Sound.antt").partition("record IsSound")[2].partition("record HistoriesAreSound")[0]
         fields = re.findall(r"^  pub (\w+) :", claims, re.MULTILINE)
         self.assertTrue(fields)
         for field in fields:
             with self.subTest(field=field):
-                self.assertRegex(text_of("docs/laws/HEADLINE.md"), rf"`{field}[`.]", "the page lacks the field")
+                self.assertRegex(text_of("docs/laws/HEADLINE.md"), rf"(?m)^- .*`{field}[`.].*: ", "the page lacks the field")
 
     def test_each_decision_is_listed_and_has_its_day(self):
         folder = os.path.join("docs", "decisions")

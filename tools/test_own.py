@@ -9,11 +9,21 @@ import subprocess
 import sys
 import tempfile
 import unittest
+import zlib
 
 OWN = os.path.join(os.path.dirname(os.path.abspath(__file__)), 'own')
 HEADER = b'OSDJ\0\0\0\1' + bytes(16)
-ENTRY = b'\1\0\0\0\4\0\0\0\0'
-TOLD = b'\1\0\0\0\x10\xff\xff\xff\xff\0\0\0\7\0\0\0\0\0\1\0\2'
+EARLIER = b'\1\0\0\0\4\0\0\0\0'
+
+
+def record(body: bytes) -> bytes:
+    """An open gate and a record with its checksum."""
+    size = len(body)
+    return b'\xff' + (2 ** 32 - 1 - size).to_bytes(4, 'big') + size.to_bytes(4, 'big') + body + zlib.crc32(body).to_bytes(4, 'big')
+
+
+ENTRY = EARLIER + record(bytes(4))
+TOLD = record(b'\xff\xff\xff\xff\0\0\0\7\0\0\0\0\0\1\0\2')
 
 
 class Own(unittest.TestCase):
@@ -49,8 +59,17 @@ class Own(unittest.TestCase):
 
     def test_what_is_no_journal_is_left(self):
         for bad in (b'', b'OSDS' + HEADER[4:] + b'\0', HEADER, HEADER + ENTRY, HEADER + b'\1\0\0\0\0\0',
-                    HEADER + ENTRY[:-1] + b'\0', HEADER + b'\1\0\4\x93\xe1' + bytes(300_002)):
+                    HEADER + ENTRY[:-1] + b'\0', HEADER + EARLIER[:-1] + b'\0', HEADER + b'\1\0\4\x93\xe1' + bytes(300_002)):
             self.refused(bad, 'no journal', 'd7', '65538')
+
+    def test_a_bit_that_turned_is_seen(self):
+        for at in range(24, 24 + len(TOLD)):
+            turned = bytearray(HEADER + TOLD + b'\0')
+            turned[at] ^= 16
+            if at == 24:
+                self.refused(bytes(turned), 'already', 'd7', '65538')
+            else:
+                self.refused(bytes(turned), 'no journal from byte 24', 'd7', '65538')
 
     def test_a_running_server_keeps_its_journal(self):
         self.refused(HEADER + b'\0', 'the server has it open', 'd7', '65538', locked=True)

@@ -5,12 +5,13 @@ import os
 import random
 import shutil
 import signal
+import stat
 import sys
 import tempfile
 import time
 from typing import Callable, Dict, List, Union
 
-from . import clusters, cutting, drives, network, strangers, streams
+from . import clusters, cutting, drives, network, stores, strangers, streams
 from .case import Case, Fault, compare, lines_of, shown
 from .marks import Marks, Row, Unlike, Values, command, read, take_lines
 from .parties import Party
@@ -95,6 +96,20 @@ class Run:
         at, put = int(place), bytes.fromhex(digits)
         content = self._read(name)
         self._write(name, content[:at] + put + content[at + len(put):])
+
+    def _mode(self, words: List[str], _: Row) -> None:
+        name, digits = words
+        os.chmod(self._path(name), int(digits, 8))
+
+    def _has_mode(self, words: List[str], _: Row) -> None:
+        name, digits = words
+        had = stat.S_IMODE(os.stat(self._path(name)).st_mode)
+        if had != int(digits, 8):
+            raise Fault("the file's mode has to be %s and is %o" % (digits, had))
+
+    def _earlier(self, words: List[str], _: Row) -> None:
+        (name,) = words
+        self._write(name, stores.earlier(self._read(name)))
 
     def _same(self, words: List[str], _: Row) -> None:
         first, second = (self._read(name) for name in words)
@@ -328,7 +343,8 @@ class Run:
     def _plain(self, word: str) -> Callable[[List[str], Row], None]:
         rows: Dict[str, Callable[[List[str], Row], None]] = {
             "cluster": self._cluster, "text": self._text, "bytes": self._bytes, "filled": self._filled,
-            "repeated": self._repeated, "cut": self._cut, "change": self._change,
+            "repeated": self._repeated, "cut": self._cut, "change": self._change, "earlier": self._earlier,
+            "mode": self._mode, "has-mode": self._has_mode,
             "prefixes": self._prefixes, "fills": self._fills, "last": self._last,
             "same": self._same, "has": self._has, "digest": self._digest,
             "says": self._says, "end": self._end, "sleep": self._sleep, "limit": self._set_limit, "let": self._let,

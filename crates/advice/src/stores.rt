@@ -6,12 +6,20 @@ use std::alloc::{AllocError, Global};
 // The place of a drive's number in its store.
 const NUMBER_PLACE: u64 = 8;
 
+// The place of the first gate, behind the header.
+const FIRST_GATE: u64 = 24;
+
+// What may be done about a file that others can read.
+const FOR_THE_OWNER: &str =
+    "Start it as the user who owns the file, or have that user give it mode 0600.\n";
+
 // What may be done about the file of a drive.
 fn rest_for_drive(cause: &FileCause) -> &'static str {
     match cause {
         FileCause::NoFolder => "The file is made where there is none, but its folder isn't.\n",
         FileCause::InUse =>
             "One drive at a time can serve from a store: end the other one first.\n",
+        FileCause::NotPrivate => FOR_THE_OWNER,
         FileCause::Full => {
             "All that was answered is in the store. Make room, and start the drive again: it goes on from there.\n"
         }
@@ -28,6 +36,7 @@ fn rest_for_server(cause: &FileCause) -> &'static str {
         FileCause::NoFolder => "The file is made where there is none, but its folder isn't.\n",
         FileCause::InUse =>
             "One server at a time can serve from a journal: end the other one first.\n",
+        FileCause::NotPrivate => FOR_THE_OWNER,
         FileCause::Full => {
             "All that was answered is in the journal. Make room, and start the server again: it goes on from there.\n"
         }
@@ -63,17 +72,17 @@ pub fn failed_disk(
     }
 }
 
-// What is wrong with a file that is no store of the party from this place on.
+// What is wrong with the header of a file that is no store of the party: its name and version, or the drive's number.
 fn fault_at(asker: Asker, at: u64) -> &'static str {
     match at {
-        0 if asker == Asker::Server => "isn't the journal of a server",
-        0 => "isn't the store of a drive",
         NUMBER_PLACE => "is the store of a drive with another number",
-        _ => "was cut short or changed (docs/STORES.md)",
+        _ if asker == Asker::Server => "isn't the journal of a server",
+        _ => "isn't the store of a drive",
     }
 }
 
-/// What a person is told if a file is no store of the drive, or no journal of a server, from this place on.
+/// What a person is told if a file is no store of the drive, or no journal of a server, from this place on: what its header
+/// says, or which record isn't as it was written.
 pub fn refused_store(
     alloc: Global,
     asker: Asker,
@@ -81,6 +90,11 @@ pub fn refused_store(
     at: u64,
 ) -> Result<String, AllocError> {
     let file = Printable::new(store.as_bytes());
-    let fault = fault_at(asker, at);
-    format!(in alloc; "pnfs_osd: the file {file} {fault}. It is left as it is\n")
+    if at < FIRST_GATE {
+        let fault = fault_at(asker, at);
+        return format!(in alloc; "pnfs_osd: the file {file} {fault}. It is left as it is\n");
+    }
+    format!(in alloc;
+        "pnfs_osd: the file {file}: the record at byte {at} was cut short or changed (docs/STORES.md). It is left as it is\n"
+    )
 }

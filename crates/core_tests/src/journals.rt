@@ -381,9 +381,9 @@ fn opened_once<D: Disk>(alloc: Global, disk: D) -> D {
     }
 }
 
-// How many calls an opening of that journal takes: a sync, the size, the header, the first gate, two for each of its four
+// How many calls an opening of that journal takes: a sync, the size, the header, the first gate, three for each of its four
 // records, and four for its own.
-const OPENING: u32 = 16;
+const OPENING: u32 = 20;
 
 // Whether an opening of which this call fails, and a crash then cuts off, is done again.
 fn opens_again(alloc: Global, call: u32) -> bool {
@@ -405,7 +405,7 @@ fn an_opening_that_is_cut_off_is_done_again(rt: HostRuntime) {
 }
 
 // A place of that journal, the byte that stands there now, and how it is opened: the header, the first gate, and the number
-// and the kind of the first entries.
+// and the kind of the first entries, whose checksum then isn't theirs.
 const CHANGED: &[(usize, u8, Opened)] = &[
     (3, b'J', Opened::Says(FENCED)),
     (0, 0, Opened::Refused(0)),
@@ -414,11 +414,11 @@ const CHANGED: &[(usize, u8, Opened)] = &[
     (8, 1, Opened::Refused(0)),
     (23, 1, Opened::Refused(0)),
     (24, 0, Opened::Says("")),
-    (24, 255, Opened::Says(FENCED)),
+    (24, 1, Opened::Says(FENCED)),
     (25, 1, Opened::Refused(24)),
-    (29, 1, Opened::Refused(24)),
-    (36, 4, Opened::Refused(24)),
-    (36, 99, Opened::Refused(24)),
+    (33, 1, Opened::Refused(24)),
+    (40, 4, Opened::Refused(24)),
+    (40, 99, Opened::Refused(24)),
 ];
 
 #[test]

@@ -62,7 +62,7 @@ module _ {H : Type 0} (s : Ghosts H) where
     since_then mid new (drive_after d h.time h.message) hs gs cut_off first.1 first.4 first.3 later before behind,
   )
 
-  joined : (hs gs cut_off : List Handled) (old mid new : H) → HasHandled s hs [] old mid → (s.keeps old → s.keeps mid)
+  pub joined : (hs gs cut_off : List Handled) (old mid new : H) → HasHandled s hs [] old mid → (s.keeps old → s.keeps mid)
       → HasHandled s gs cut_off mid new → HasHandled s (hs ++ gs) cut_off old new
   joined hs gs cut_off old mid new x kept y =
       let between : s.drive mid ≡ after_all (s.drive old) hs =

@@ -19,6 +19,7 @@ pub use command::drive_command;
 pub use connections::serve;
 pub use device_server::{DeviceServer, HandleErr};
 pub use own::KEY_VERSION;
+pub use refusals::{is_told, refusal_line};
 pub use serve_err::DriveServeErr;
 pub use stored_command::{put_stored_stop, stored_drive_command};
 pub use stored_stop::StoredStop;

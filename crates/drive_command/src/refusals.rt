@@ -35,8 +35,8 @@ fn verdict_word(number: u16) -> &'static str
     }
 }
 
-// The line of a refusal.
-fn refusal_line(alloc: Global, drive: u32, reply: &Reply) -> Result<String, Memory>
+/// The line that tells of a refusal, without its end.
+pub fn refusal_line(alloc: Global, drive: u32, reply: &Reply) -> Result<String, Memory>
     ensures { IfOk result (λ line. string_bytes line ≡ refusal_line drive reply.now) }
 {
     let word = verdict_word(reply.verdict);
@@ -58,8 +58,9 @@ fn is_later(last: Option<u64>, time: u64) -> bool
     }
 }
 
-// Whether a reply at this time is told of: it refuses its command, and no line was told in this second.
-fn is_told(last: Option<u64>, time: u64, reply: &Reply) -> bool
+/// Whether a reply at this time is told of: it refuses its command, and no line was told in this second or a later one.
+/// `last` is the second of the newest line.
+pub fn is_told(last: Option<u64>, time: u64, reply: &Reply) -> bool
     ensures { result ≡ is_told last time reply.now }
 {
     reply.verdict != 0 && is_later(last, time)

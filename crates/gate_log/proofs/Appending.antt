@@ -1,13 +1,17 @@
 -- The four calls of an `append`, one after another.
 use Rattle.std.proofs.Common.{◌≡◌, ◌⊎◌, inl, ℕ, ◌+◌, ◌≤◌, List, [], ◌∷◌, ◌++◌, length, drop, Bool, IsTrue, sym, ◌∙◌, ap, subst, arith, length-append}
-use Rattle.std.specs.Int.{w32, to_be_bytes}
 use Rattle.osd_disk.specs.Crashes.{Holds, Torn, Follows, Narrows, Only, Elapses, LeavesOnly}
 use Rattle.osd_disk.proofs.Moments.{started, goes_on}
+use Rattle.gate_log.specs.declared.entry.TheConstants.{OPEN_GATE}
+use Rattle.gate_log.specs.declared.form.Form.TheVariants.{Checked}
 use Rattle.gate_log.specs.Entries.{piece_of}
+use Rattle.gate_log.specs.Forms.{IsBody, record_of}
 use Rattle.gate_log.specs.Logs.{IsLog}
 use Rattle.gate_log.specs.Standing.{StandsAt}
+use Rattle.gate_log.specs.Written.{IsAppended}
 use Rattle.gate_log.proofs.Fronts.{closed, front_grows, piece_behind}
-use Rattle.gate_log.proofs.Crash.{IsBody, stage_crash, gate_crash, written_behind, written_gate, next_place}
+use Rattle.gate_log.proofs.Crash.{stage_crash, gate_crash, written_behind, written_gate, next_place}
+use Rattle.gate_log.proofs.Appended.{appended_grows}
 
 module _ {D : Type 0} (tells : D → Bool) (seen : D → List ℕ) (may_leave : D → List ℕ → Type 0) (moment : D → ℕ)
     (left_since : D → ℕ → List ℕ → Type 0)
@@ -76,25 +80,34 @@ module _ {D : Type 0} (tells : D → Bool) (seen : D → List ℕ) (may_leave : 
             pub done : Left four
             done = goes_on moment left_since old three four P (may_leave four) gated time4 (λ c now. second c (keeps4 c now))
 
-            pub at_rest : (next : ℕ) → next ≡ end + length piece → tells two ≡ tells one → tells three ≡ tells two →
-                tells four ≡ tells three
-                → (IsTrue (tells two) → end ≤ length (seen two) → Holds (seen two) end (1 ∷ []) (seen three))
-                → seen four ≡ seen three → (IsTrue (tells three) → Only (seen three) (may_leave four))
-                → StandsAt tells seen may_leave header (bodies ++ body ∷ []) four next 0
-            at_rest next ends told2 told3 told4 holds same4 durable4 =
-                let two_tells : IsTrue (tells two) = subst IsTrue (sym (told2 ∙ told1)) s.told in
-                let three_tells : IsTrue (tells three) = subst IsTrue (sym told3) two_tells in
-                let opened : seen three ≡ s.front ++ 1 ∷ (piece_of body ++ tail) =
-                written_gate header bodies s.front s.is_front end s.place body tail (seen three)
-                (subst (λ f. Holds f end (1 ∷ []) (seen three)) (same ∙ stage_is) (holds two_tells gate_fits)) in
-                record {
-                  told = subst IsTrue (sym told4) three_tells;
-                  front = s.front ++ 1 ∷ (to_be_bytes w32 (length body) ++ body);
-                  is_front = front_grows header bodies s.front s.is_front 1 body
-                      (record { open_gate = omega arith; some = is_body.some; fits = is_body.fits });
-                  rest = tail;
-                  contents = same4 ∙ opened ∙ piece_behind header bodies s.front s.is_front 1 body tail;
-                  place = ends ∙ ap (λ (l : List ℕ). end + length l) is
-                      ∙ next_place header bodies s.front s.is_front end s.place body;
-                  durable = subst (λ f. Only f (may_leave four)) (sym same4) (durable4 three_tells);
-                }
+            module _ (told2 : tells two ≡ tells one) (told3 : tells three ≡ tells two) (told4 : tells four ≡ tells three)
+                (holds : IsTrue (tells two) → end ≤ length (seen two) → Holds (seen two) end (OPEN_GATE ∷ []) (seen three))
+                (same4 : seen four ≡ seen three) where
+              two_tells : IsTrue (tells two)
+              two_tells = subst IsTrue (sym (told2 ∙ told1)) s.told
+
+              three_tells : IsTrue (tells three)
+              three_tells = subst IsTrue (sym told3) two_tells
+
+              record_is : seen four ≡ s.front ++ OPEN_GATE ∷ (piece_of body ++ tail)
+              record_is = same4 ∙ written_gate header bodies s.front s.is_front end s.place body tail (seen three)
+                  (subst (λ f. Holds f end (OPEN_GATE ∷ []) (seen three)) (same ∙ stage_is) (holds two_tells gate_fits))
+
+              pub at_rest : (next : ℕ) → next ≡ end + length piece → (IsTrue (tells three) → Only (seen three) (may_leave four))
+                  → StandsAt tells seen may_leave header (bodies ++ body ∷ []) four next 0
+              at_rest next ends durable4 = record {
+                told = subst IsTrue (sym told4) three_tells;
+                front = s.front ++ OPEN_GATE ∷ record_of Checked body;
+                is_front = front_grows header bodies s.front s.is_front (record { gate = OPEN_GATE; form = Checked; body = body })
+                    (record { open_gate = omega arith; is_body = is_body });
+                rest = tail;
+                contents = record_is ∙ piece_behind header bodies s.front s.is_front OPEN_GATE body tail;
+                place = ends ∙ ap (λ (l : List ℕ). end + length l) is
+                    ∙ next_place header bodies s.front s.is_front end s.place body;
+                durable = subst (λ f. Only f (may_leave four)) (sym same4) (durable4 three_tells);
+              }
+
+              -- each record was appended, and so was this one
+              pub written_on : IsAppended header bodies (seen old) → IsAppended header (bodies ++ body ∷ []) (seen four)
+              written_on was = appended_grows header bodies body (seen old) (seen four) s.front s.rest tail s.is_front s.contents
+                  is_body record_is was

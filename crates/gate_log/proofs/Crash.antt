@@ -1,17 +1,13 @@
 -- What a crash leaves in each of the two steps of an `append`.
-use Rattle.std.proofs.Common.{◌≡◌, ◌⊎◌, inl, inr, ℕ, zero, suc, ◌+◌, ◌<◌, ◌≤◌, min, List, [], ◌∷◌, ◌++◌, length, get_or, take, drop, sym, ◌∙◌, ap, subst, arith, append_assoc, length-append, take-append-drop}
+use Rattle.std.proofs.Common.{◌≡◌, ◌⊎◌, inl, inr, ℕ, zero, suc, ◌+◌, ◌<◌, min, List, [], ◌∷◌, ◌++◌, length, get_or, take, drop, sym, ◌∙◌, ap, subst, arith, append_assoc, length-append, take-append-drop}
 use Rattle.std.proofs.lemmas.List.{take_at, drop_at, drop_more, drop-drop}
-use Rattle.std.specs.Int.{w32, to_be_bytes}
 use Rattle.osd_disk.specs.Crashes.{Holds, Torn, Follows, Only}
-use Rattle.gate_log.specs.declared.entry.TheConstants.{MAX_BODY}
+use Rattle.gate_log.specs.declared.entry.TheConstants.{OPEN_GATE}
+use Rattle.gate_log.specs.declared.form.Form.TheVariants.{Checked}
 use Rattle.gate_log.specs.Entries.{piece_of}
+use Rattle.gate_log.specs.Forms.{IsBody, record_of}
 use Rattle.gate_log.specs.Logs.{IsFront, IsLog}
 use Rattle.gate_log.proofs.Fronts.{closed, opened}
-
--- a body that a record may have
-pub record IsBody (body : List ℕ) : Type 0 where
-  pub some : 0 < length body
-  pub fits : length body ≤ MAX_BODY
 
 module _ (header : List ℕ) (bodies : List (List ℕ)) (front : List ℕ) (f : IsFront header bodies front) (end : ℕ)
     (place : end ≡ length front) where
@@ -75,7 +71,7 @@ module _ (header : List ℕ) (bodies : List (List ℕ)) (front : List ℕ) (f : 
       by_gate zero is = inl (closed header bodies front f c (piece_of body ++ rest) is)
       by_gate (suc g) is =
           inr (opened header bodies front f (suc g) body c rest
-          (record { open_gate = omega arith; some = is_body.some; fits = is_body.fits }) is)
+          (record { open_gate = omega arith; is_body = is_body }) is)
 
   pub stage_crash : (n : ℕ) (rest : List ℕ) (old new : List ℕ → Type 0) → Only (front ++ 0 ∷ rest) old →
       Follows (Torn (end + 1) n) old new → (c : List ℕ) → new c → IsLog header bodies c
@@ -90,25 +86,22 @@ module _ (header : List ℕ) (bodies : List (List ℕ)) (front : List ℕ) (f : 
       let from = follows c left in
       torn_gate body rest c is_body (subst (λ f. Torn end 1 f c) (only from.0 from.1) from.2)
 
-  pub written_gate : (body rest c : List ℕ) → Holds (front ++ 0 ∷ (piece_of body ++ rest)) end (1 ∷ []) c →
-      c ≡ front ++ 1 ∷ (piece_of body ++ rest)
+  pub written_gate : (body rest c : List ℕ) → Holds (front ++ 0 ∷ (piece_of body ++ rest)) end (OPEN_GATE ∷ []) c →
+      c ≡ front ++ OPEN_GATE ∷ (piece_of body ++ rest)
   written_gate body rest c holds =
       let tail = piece_of body ++ rest in
       holds
-      ∙ ap (λ (l : List ℕ). l ++ (1 ∷ []) ++ drop (end + 1) (front ++ 0 ∷ tail)) (take_at front (0 ∷ tail) end (sym place))
-      ∙ append_assoc front (1 ∷ []) (drop (end + 1) (front ++ 0 ∷ tail))
-      ∙ ap (λ (l : List ℕ). front ++ 1 ∷ l)
+      ∙ ap (λ (l : List ℕ). l ++ (OPEN_GATE ∷ []) ++ drop (end + 1) (front ++ 0 ∷ tail)) (take_at front (0 ∷ tail) end (sym place))
+      ∙ append_assoc front (OPEN_GATE ∷ []) (drop (end + 1) (front ++ 0 ∷ tail))
+      ∙ ap (λ (l : List ℕ). front ++ OPEN_GATE ∷ l)
       (ap (λ (l : List ℕ). drop (end + 1) l) (split tail) ∙ drop_at (front ++ 0 ∷ []) tail (end + 1) long)
 
   -- where the next closed gate stands
-  pub next_place : (body : List ℕ) → end + length (piece_of body) ≡ length (front ++ 1 ∷ (to_be_bytes w32 (length body) ++ body))
+  pub next_place : (body : List ℕ) → end + length (piece_of body) ≡ length (front ++ OPEN_GATE ∷ record_of Checked body)
   next_place body =
-      let number = to_be_bytes w32 (length body) in
       omega (
         arith,
         place,
-        length-append front (1 ∷ (number ++ body)),
-        length-append number body,
-        length-append number (body ++ 0 ∷ []),
-        length-append body (0 ∷ []),
+        length-append front (OPEN_GATE ∷ record_of Checked body),
+        length-append (record_of Checked body) (0 ∷ []),
       )

@@ -1,6 +1,10 @@
+pub mod Appended
 pub mod Appending
+pub mod ByTable
 pub mod Crash
 pub mod Fronts
 pub mod OneLog
 pub mod Reading
 pub mod Records
+pub mod Sums
+pub mod Turned

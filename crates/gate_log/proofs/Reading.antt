@@ -1,7 +1,6 @@
 -- A reader of a log, from gate to gate.
 use Rattle.std.proofs.Common.{◌≡◌, inl, inr, ℕ, ◌+◌, ◌<◌, ◌≤◌, Bool, List, [], ◌∷◌, ◌++◌, length, drop, IsTrue, refl, sym, ◌∙◌, ap, subst, arith, length-append}
 use Rattle.std.proofs.lemmas.List.{append-nil}
-use Rattle.std.specs.Int.{w32, to_be_bytes}
 use Rattle.osd_disk.specs.Crashes.{Only, OnlyRead}
 use Rattle.gate_log.specs.declared.header.TheConstants.{HEADER_SIZE}
 use Rattle.gate_log.specs.declared.errors.LogErr.{LogErr}
@@ -9,7 +8,8 @@ use Rattle.gate_log.specs.declared.errors.LogErr.TheVariants.{NotEmpty, NotALog,
 use Rattle.gate_log.specs.declared.reader.LogReader.{LogReader}
 use Rattle.gate_log.specs.Broken.{IsNoRecord, HasNoRecord, IsBrokenAt}
 use Rattle.gate_log.specs.Errors.{NotALogSays}
-use Rattle.gate_log.specs.Logs.{IsFront, IsRecord}
+use Rattle.gate_log.specs.Forms.{record_of}
+use Rattle.gate_log.specs.Logs.{Gated, IsFront, IsRecord}
 use Rattle.gate_log.specs.Standing.{StandsAt, HasRead}
 use Rattle.gate_log.proofs.Fronts.{front_grows, regroup}
 use Rattle.gate_log.proofs.Records.{behind_gate}
@@ -44,23 +44,21 @@ module _ {D : Type 0} (tells : D → Bool) (seen : D → List ℕ) (may_leave : 
     still c left = s.durable c (read.narrows c left) ∙ sym read.seen_same
 
     -- a record was read, and the gate behind it
-    pub steps_on : (body rest : List ℕ) (next place : ℕ) → IsRecord (gate, body)
-        → drop (at + 1) (seen old) ≡ to_be_bytes w32 (length body) ++ (body ++ next ∷ rest) → place ≡ at + (5 + length body)
-        → Stands header (bodies ++ body ∷ []) new place next
-    steps_on body rest next place is behind further =
-        let number = to_be_bytes w32 (length body) in
-        let rest_is : s.rest ≡ number ++ (body ++ next ∷ rest) =
+    pub steps_on : (r : Gated) (rest : List ℕ) (next place : ℕ) → r.gate ≡ gate → IsRecord r
+        → drop (at + 1) (seen old) ≡ record_of r.form r.body ++ next ∷ rest → place ≡ at + (1 + length (record_of r.form r.body))
+        → Stands header (bodies ++ r.body ∷ []) new place next
+    steps_on r rest next place same is behind further =
+        let rest_is : s.rest ≡ record_of r.form r.body ++ next ∷ rest =
         sym (behind_gate s.front s.rest (seen old) gate at s.contents s.place) ∙ behind in
-        let four : length number ≡ 4 = refl in
         record {
           told = subst IsTrue (sym read.tells_same) s.told;
-          front = s.front ++ gate ∷ (number ++ body);
-          is_front = front_grows header bodies s.front s.is_front gate body is;
+          front = s.front ++ r.gate ∷ record_of r.form r.body;
+          is_front = front_grows header bodies s.front s.is_front r is;
           rest = rest;
           contents = read.seen_same ∙ s.contents ∙ ap (λ (l : List ℕ). s.front ++ gate ∷ l) rest_is
-              ∙ regroup header bodies s.front s.is_front gate next body rest;
-          place = omega
-              (arith, further, s.place, four, length-append s.front (gate ∷ (number ++ body)), length-append number body);
+              ∙ ap (λ (g : ℕ). s.front ++ g ∷ (record_of r.form r.body ++ next ∷ rest)) (sym same)
+              ∙ regroup header bodies s.front s.is_front r.gate next (record_of r.form r.body) rest;
+          place = omega (arith, further, s.place, length-append s.front (r.gate ∷ record_of r.form r.body));
           durable = still;
         }
 

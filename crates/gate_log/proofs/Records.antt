@@ -1,33 +1,25 @@
 -- What is read behind a gate.
-use Rattle.std.proofs.Common.{◌≡◌, ◌⊎◌, inl, inr, ℕ, ◌+◌, ◌-◌, ◌<◌, ◌≤◌, ◌^◌, Bool, List, [], ◌∷◌, ◌++◌, length, take, drop, replicate, get_or, slice_get, Some, IsTrue, refl, sym, ◌∙◌, ap, subst, arith, append_assoc, length-append, take-append-drop}
-use Rattle.std.proofs.lemmas.List.{take_at, drop_at, drop_more, drop_all, drop-drop, length-drop, length-take-le, length-replicate, take_all}
+use Rattle.std.proofs.Common.{◌≡◌, ◌⊎◌, inl, inr, ℕ, ◌+◌, ◌-◌, ◌<◌, ◌≤◌, ◌^◌, List, [], ◌∷◌, ◌++◌, length, take, drop, replicate, get_or, refl, sym, ◌∙◌, ap, subst, arith, append_assoc, length-append, take-append-drop}
+use Rattle.std.proofs.lemmas.List.{take_at, drop_at, drop_more, drop_all, length-replicate, take_all}
 use Rattle.std.proofs.lemmas.Nat.{from_be_bytes-to_be_bytes_4}
-use Rattle.std.proofs.lemmas.Option.{slice_get-get_or}
+use Rattle.std.proofs.Math.Seq.{take-add}
 use Rattle.std.specs.Int.{w32, to_be_bytes, from_be_bytes}
 use Rattle.std.specs.List.{refill}
 use Rattle.gate_log.specs.declared.entry.TheConstants.{MAX_BODY}
 use Rattle.gate_log.specs.declared.errors.LogErr.{LogErr}
 use Rattle.gate_log.specs.declared.errors.LogErr.TheVariants.{NotEmpty, NotALog, DiskFault, Memory}
-use Rattle.gate_log.specs.Broken.{IsNoRecord, length_behind}
+use Rattle.gate_log.specs.declared.form.Form.{Form}
+use Rattle.gate_log.specs.declared.form.Form.TheVariants.{Plain, Checked}
+use Rattle.gate_log.specs.Broken.{IsNoRecord}
 use Rattle.gate_log.specs.Errors.{NotALogSays}
+use Rattle.gate_log.specs.Forms.{IsBody, block_size, complement, head_of, head_size, record_of, size_of, tail_of}
+use Rattle.gate_log.proofs.OneLog.{length_record, length_tail, same_head, three}
 
 -- behind the gate at a place stand the bytes that follow it
 pub behind_gate : (front rest c : List ℕ) (gate at : ℕ) → c ≡ front ++ gate ∷ rest → at ≡ length front → drop (at + 1) c ≡ rest
 behind_gate front rest c gate at is place =
     ap (λ (l : List ℕ). drop (at + 1) l) (is ∙ sym (append_assoc front (gate ∷ []) rest))
     ∙ drop_at (front ++ gate ∷ []) rest (at + 1) (omega (arith, place, length-append front (gate ∷ [])))
-
--- a number, then a body with the byte behind it: they stand one behind another
-pub three_parts : (bytes number block body : List ℕ) (next n : ℕ) → number ≡ take 4 bytes → block ≡ take (n + 1) (drop 4 bytes) →
-    block ≡ body ++ next ∷ []
-    → bytes ≡ number ++ (body ++ next ∷ drop (n + 1) (drop 4 bytes))
-three_parts bytes number block body next n first second split =
-    sym (take-append-drop 4 bytes)
-    ∙ ap (λ (l : List ℕ). l ++ drop 4 bytes) (sym first)
-    ∙ ap (λ (l : List ℕ). number ++ l)
-    (sym (take-append-drop (n + 1) (drop 4 bytes))
-    ∙ ap (λ (l : List ℕ). l ++ drop (n + 1) (drop 4 bytes)) (sym second ∙ split)
-    ∙ append_assoc body (next ∷ []) (drop (n + 1) (drop 4 bytes)))
 
 -- a block's last byte
 pub last_apart : (block : List ℕ) (n next : ℕ) → length block ≡ n + 1 → next ≡ get_or block n 0 →
@@ -61,7 +53,7 @@ pub one_byte : (buf bytes : List ℕ) (n byte : ℕ) → length buf ≡ 1 → 1 
 one_byte buf bytes n byte long all within front is =
     sym (last_apart buf 0 byte (omega (arith, long)) is) ∙ whole_read buf bytes n 1 long all within front
 
--- ---- a record
+-- ---- parts of a record
 
 -- a list that was made as long as this
 pub room_long : (empty room : List ℕ) (len : ℕ) → empty ≡ [] → room ≡ empty ++ replicate (len - length empty) 0 →
@@ -79,84 +71,167 @@ room_long empty room len none is =
 pub refilled : (old new : List ℕ) → length new ≡ length old → refill (length old) old new ≡ new
 refilled old new same = take_at new (drop (length new) old) (length old) same
 
--- a body that was read, with the gate behind it, where `whole` is what was read
-pub body_parts : (whole buf bytes body : List ℕ) (n len next : ℕ) → whole ≡ buf → length buf ≡ len + 1 → len < n →
-    n ≤ length buf → take n buf ≡ take n bytes
-    → body ≡ take len whole → slice_get whole len ≡ Some next → take (len + 1) bytes ≡ body ++ next ∷ []
-body_parts whole buf bytes body n len next same long all within front is gate =
-    let found : slice_get buf len ≡ Some next = subst (λ (l : List ℕ). slice_get l len ≡ Some next) same gate in
-    let there : Some next ≡ Some (get_or buf len 0) = sym found ∙ slice_get-get_or buf len 0 (omega (arith, long)) in
-    sym (whole_read buf bytes n (len + 1) long (omega (arith, all)) within front)
-    ∙ last_apart buf len next long (cc there)
-    ∙ ap (λ (l : List ℕ). take len l ++ next ∷ []) (sym same)
-    ∙ ap (λ (l : List ℕ). l ++ next ∷ []) (sym is)
+-- a block that a read filled
+pub block_read : (whole buf bytes : List ℕ) (n k : ℕ) → whole ≡ buf → length buf ≡ k → k ≤ n → n ≤ length buf
+    → take n buf ≡ take n bytes → whole ≡ take k bytes
+block_read whole buf bytes n k same long all within front = same ∙ whole_read buf bytes n k long all within front
 
-pub body_long : (whole buf body : List ℕ) (len : ℕ) → whole ≡ buf → length buf ≡ len + 1 → body ≡ take len whole →
-    length body ≡ len
-body_long whole buf body len same long is =
-    ap (λ (l : List ℕ). length l) (is ∙ ap (λ (l : List ℕ). take len l) same) ∙ length-take-le len buf (omega (arith, long))
+-- two numbers, one behind the other
+pub two_numbers : (a b rest : List ℕ) → a ≡ take 4 rest → b ≡ take 4 (drop 4 rest) → a ++ b ≡ take 8 rest
+two_numbers a b rest first second =
+    ap (λ (l : List ℕ). l ++ b) first ∙ ap (λ (l : List ℕ). take 4 rest ++ l) second ∙ sym (take-add 4 4 rest)
 
--- the number, the body and the gate behind it, where they were read one after another
-pub record_parts : (c body : List ℕ) (next at len : ℕ) → to_be_bytes w32 len ≡ take 4 (drop (at + 1) c) →
-    take (len + 1) (drop (at + 5) c) ≡ body ++ next ∷ [] → length body ≡ len
-    → (rest : List ℕ) × (drop (at + 1) c ≡ to_be_bytes w32 (length body) ++ (body ++ next ∷ rest))
-record_parts c body next at len number block size =
-    let bytes = drop (at + 1) c in
-    let five : at + 1 + 4 ≡ at + 5 = omega arith in
-    let there : drop 4 (drop (at + 1) c) ≡ drop (at + 5) c = drop-drop 4 (at + 1) c ∙ ap (λ (k : ℕ). drop k c) five in (
-      drop (len + 1) (drop 4 bytes),
-      three_parts bytes (to_be_bytes w32 len) (take (len + 1) (drop (at + 5) c)) body next len number
-          (ap (λ (l : List ℕ). take (len + 1) l) (sym there)) block
-          ∙ ap (λ (k : ℕ). to_be_bytes w32 k ++ (body ++ next ∷ drop (len + 1) (drop 4 bytes))) (sym size),
+-- what was read of a record, one part behind the other
+pub record_parts : (form : Form) (body rest block : List ℕ) (next len : ℕ) → length body ≡ len
+    → head_of form len ≡ take (head_size form) rest
+    → block ≡ take (block_size form len) (drop (head_size form) rest) → block ≡ body ++ (tail_of form body ++ next ∷ [])
+    → (behind : List ℕ) × (rest ≡ record_of form body ++ next ∷ behind)
+record_parts form body rest block next len long head is split =
+    let behind = drop (block_size form len) (drop (head_size form) rest) in (
+      behind,
+      sym (take-append-drop (head_size form) rest)
+          ∙ ap (λ (l : List ℕ). l ++ drop (head_size form) rest) (sym head ∙ ap (head_of form) (sym long))
+          ∙ ap (λ (l : List ℕ). head_of form (length body) ++ l)
+          (sym (take-append-drop (block_size form len) (drop (head_size form) rest))
+          ∙ ap (λ (l : List ℕ). l ++ behind) (sym is ∙ split)
+          ∙ append_assoc body (tail_of form body ++ next ∷ []) behind
+          ∙ ap (λ (l : List ℕ). body ++ l) (append_assoc (tail_of form body) (next ∷ []) behind))
+          ∙ sym (three form body (next ∷ behind)),
     )
 
 -- ---- no record
 
-number_is : (bytes : List ℕ) (len : ℕ) → len < 2 ^ 32 → to_be_bytes w32 len ≡ take 4 bytes → length_behind bytes ≡ len
-number_is bytes len low number = ap (λ (l : List ℕ). from_be_bytes w32 l) (sym number) ∙ from_be_bytes-to_be_bytes_4 len low
+-- what a head tells of the record that begins there
+pub head_tells : (form other : Form) (body rest behind : List ℕ) (next len : ℕ) → IsBody body → len ≤ MAX_BODY
+    → head_of form len ≡ take (head_size form) rest → rest ≡ record_of other body ++ next ∷ behind
+    → (form ≡ other) × (len ≡ length body) × (drop (head_size form) rest ≡ body ++ (tail_of other body ++ next ∷ behind))
+head_tells form other body rest behind next len is fits head e =
+    same_head form other len (length body) (drop (head_size form) rest) (body ++ (tail_of other body ++ next ∷ behind)) fits is.fits
+    (ap (λ (l : List ℕ). l ++ drop (head_size form) rest) head ∙ take-append-drop (head_size form) rest ∙ e
+    ∙ three other body (next ∷ behind))
 
-module _ (told : Bool) (c : List ℕ) (at size : ℕ) where
-  abbrev pub NoRecordThere : ℕ → Type 0
-  NoRecordThere place = (place ≡ at) × (IsTrue told → size ≡ length c → IsNoRecord (drop (at + 1) c))
+-- the first number of a record
+abbrev pub first_of : Form → ℕ → ℕ
+first_of Plain len = len
+first_of Checked len = complement len
 
-  -- the bytes end before the length does
-  pub no_number : (e : LogErr) → NotALogSays (λ place. (place ≡ at) × (IsTrue told → length c < at + 5)) e →
-      NotALogSays NoRecordThere e
-  no_number (NotEmpty n) says = says
-  no_number (NotALog place) says = (says.0, λ t sized. let short = says.1 t in inl (omega (arith, short, length-drop (at + 1) c)))
-  no_number DiskFault says = says
-  no_number Memory says = says
+first_low : (form : Form) (len : ℕ) → len ≤ MAX_BODY → first_of form len < 2 ^ 32
+first_low Plain len fits = omega (arith, fits)
+first_low Checked len fits = omega arith
 
-  module _ (len : ℕ) (low : len < 2 ^ 32) (number : IsTrue told → to_be_bytes w32 len ≡ take 4 (drop (at + 1) c)) where
-    -- no record has this length
-    pub no_length : (e : LogErr) → (e ≡ NotALog at) × ((len ≡ 0) ⊎ (MAX_BODY < len) ⊎ (size < at + 5 + (len + 1))) →
-        NotALogSays NoRecordThere e
-    no_length e refused =
-        subst (λ (x : LogErr). NotALogSays NoRecordThere x) (sym refused.0)
-        (refl, λ t sized. by_cause sized (number_is (drop (at + 1) c) len low (number t)) refused.1)
-      where
-        by_cause : size ≡ length c → length_behind (drop (at + 1) c) ≡ len →
-            (len ≡ 0) ⊎ (MAX_BODY < len) ⊎ (size < at + 5 + (len + 1)) → IsNoRecord (drop (at + 1) c)
-        by_cause sized is (inl none) = inr (inl (is ∙ none))
-        by_cause sized is (inr (inl great)) = inr (inr (inl (omega (arith, great, is))))
-        by_cause sized is (inr (inr cut)) = inr (inr (inr (omega (arith, cut, is, sized, length-drop (at + 1) c))))
+first_there : (form : Form) (body x : List ℕ) → take 4 (record_of form body ++ x) ≡ to_be_bytes w32 (first_of form (length body))
+first_there Plain body x = refl
+first_there Checked body x = refl
 
+second_there : (body x : List ℕ) → take 4 (drop 4 (record_of Checked body ++ x)) ≡ to_be_bytes w32 (length body)
+second_there body x = refl
+
+number_of : (m n : ℕ) → m < 2 ^ 32 → n < 2 ^ 32 → to_be_bytes w32 m ≡ to_be_bytes w32 n → m ≡ n
+number_of m n low below e =
+    sym (from_be_bytes-to_be_bytes_4 m low) ∙ ap (λ (l : List ℕ). from_be_bytes w32 l) e ∙ from_be_bytes-to_be_bytes_4 n below
+
+-- the first number of what is a record there
+first_is : (form : Form) (body rest behind : List ℕ) (next first : ℕ) → IsBody body → first < 2 ^ 32
+    → to_be_bytes w32 first ≡ take 4 rest → rest ≡ record_of form body ++ next ∷ behind → first ≡ first_of form (length body)
+first_is form body rest behind next first is low there e =
+    number_of first (first_of form (length body)) low (first_low form (length body) is.fits)
+    (there ∙ ap (λ (l : List ℕ). take 4 l) e ∙ first_there form body (next ∷ behind))
+
+longer : (form : Form) (body rest behind : List ℕ) (next : ℕ) → rest ≡ record_of form body ++ next ∷ behind
+    → size_of form (length body) + 1 ≤ length rest
+longer form body rest behind next e =
+    omega (arith, ap length e, length-append (record_of form body) (next ∷ behind), length_record form body)
+
+-- what is said of a refusal's place, by what was said of it before
+pub says_more : (P Q : ℕ → Type 0) → ((n : ℕ) → P n → Q n) → (e : LogErr) → NotALogSays P e → NotALogSays Q e
+says_more P Q more (NotEmpty n) says = says
+says_more P Q more (NotALog place) says = more place says
+says_more P Q more DiskFault says = says
+says_more P Q more Memory says = says
+
+-- the bytes end before the first number does
+pub no_first : (rest : List ℕ) → length rest < 4 → IsNoRecord rest
+no_first rest short Plain body next behind is e = omega (arith, short, longer Plain body rest behind next e)
+no_first rest short Checked body next behind is e = omega (arith, short, longer Checked body rest behind next e)
+
+module _ (rest : List ℕ) (first : ℕ) (low : first < 2 ^ 32) (there : to_be_bytes w32 first ≡ take 4 rest) where
+  -- no body is empty
+  pub none_empty : first ≡ 0 → IsNoRecord rest
+  none_empty none Plain body next behind is e =
+      omega (arith, none, is.some, first_is Plain body rest behind next first is low there e)
+  none_empty none Checked body next behind is e =
+      omega (arith, none, is.fits, first_is Checked body rest behind next first is low there e)
+
+  module _ (great : MAX_BODY < first) where
+    -- the bytes end before the second number does
+    pub no_second : length rest < 8 → IsNoRecord rest
+    no_second short Plain body next behind is e =
+        omega (arith, great, is.fits, first_is Plain body rest behind next first is low there e)
+    no_second short Checked body next behind is e = omega (arith, short, longer Checked body rest behind next e)
+
+    module _ (len : ℕ) (below : len < 2 ^ 32) (second : to_be_bytes w32 len ≡ take 4 (drop 4 rest)) where
+      length_is : (body behind : List ℕ) (next : ℕ) → IsBody body → rest ≡ record_of Checked body ++ next ∷ behind
+          → len ≡ length body
+      length_is body behind next is e =
+          number_of len (length body) below (omega (arith, is.fits))
+          (second ∙ ap (λ (l : List ℕ). take 4 (drop 4 l)) e ∙ second_there body (next ∷ behind))
+
+      -- the numbers aren't complements
+      pub no_complement : (first ≡ complement len → ⊥) → IsNoRecord rest
+      no_complement other Plain body next behind is e =
+          omega (arith, great, is.fits, first_is Plain body rest behind next first is low there e)
+      no_complement other Checked body next behind is e =
+          other (first_is Checked body rest behind next first is low there e
+          ∙ ap complement (sym (length_is body behind next is e)))
+
+      -- no body has this length
+      pub no_length : (len ≡ 0) ⊎ (MAX_BODY < len) → IsNoRecord rest
+      no_length none Plain body next behind is e =
+          omega (arith, great, is.fits, first_is Plain body rest behind next first is low there e)
+      no_length (inl none) Checked body next behind is e =
+          omega (arith, none, is.some, length_is body behind next is e)
+      no_length (inr more) Checked body next behind is e =
+          omega (arith, more, is.fits, length_is body behind next is e)
+
+module _ (rest : List ℕ) (form : Form) (len : ℕ) (fits : len ≤ MAX_BODY) (head : head_of form len ≡ take (head_size form) rest)
+  where
     -- the bytes end before the next gate
-    pub no_body : (e : LogErr) → NotALogSays (λ place. (place ≡ at) × (IsTrue told → length c < at + 5 + (len + 1))) e →
-        NotALogSays NoRecordThere e
-    no_body (NotEmpty n) says = says
-    no_body (NotALog place) says = (
-      says.0,
-      λ t sized. let short = says.1 t in let is = number_is (drop (at + 1) c) len low (number t) in
-          inr (inr (inr (omega (arith, short, is, length-drop (at + 1) c)))),
-    )
-    no_body DiskFault says = says
-    no_body Memory says = says
+    pub no_room : length rest < size_of form len + 1 → IsNoRecord rest
+    no_room short other body next behind is e =
+        let tells = head_tells form other body rest behind next len is fits head e in
+        omega (
+          arith,
+          short,
+          longer other body rest behind next e,
+          ap (λ (f : Form). size_of f len) tells.0,
+          ap (λ (n : ℕ). size_of other n) tells.1,
+        )
+
+    -- what stands behind the head is no body with what belongs to it
+    pub no_block : (block : List ℕ) → block ≡ take (block_size form len) (drop (head_size form) rest)
+        → ((body : List ℕ) (next : ℕ) → length body ≡ len → block ≡ body ++ (tail_of form body ++ next ∷ []) → ⊥) → IsNoRecord rest
+    no_block block there none other body next behind is e =
+        let tells = head_tells form other body rest behind next len is fits head e in
+        let tail : drop (head_size form) rest ≡ body ++ (tail_of form body ++ next ∷ behind) =
+        tells.2 ∙ ap (λ (f : Form). body ++ (tail_of f body ++ next ∷ behind)) (sym tells.0) in
+        let block_is = body ++ (tail_of form body ++ next ∷ []) in
+        let joined : body ++ (tail_of form body ++ next ∷ behind) ≡ block_is ++ behind =
+        sym (append_assoc body (tail_of form body ++ next ∷ []) behind
+        ∙ ap (λ (l : List ℕ). body ++ l) (append_assoc (tail_of form body) (next ∷ []) behind)) in
+        let long : length block_is ≡ block_size form len =
+        omega (
+          arith,
+          tells.1,
+          length_tail form body,
+          length-append body (tail_of form body ++ next ∷ []),
+          length-append (tail_of form body) (next ∷ []),
+        ) in
+        none body next (sym tells.1)
+        (there ∙ ap (λ (l : List ℕ). take (block_size form len) l) (tail ∙ joined) ∙ take_at block_is behind (block_size form len) long)
 
 -- the same of a disk that was only read meanwhile
-pub cut_same : (told now : Bool) (bytes seen : List ℕ) (at len : ℕ) (e : LogErr) → now ≡ told → seen ≡ bytes
-    → NotALogSays (λ place. (place ≡ at) × (IsTrue now → length seen < at + 5 + (len + 1))) e →
-    NotALogSays (λ place. (place ≡ at) × (IsTrue told → length bytes < at + 5 + (len + 1))) e
-cut_same told now bytes seen at len e same is says =
-    subst (λ (b : Bool). NotALogSays (λ place. (place ≡ at) × (IsTrue b → length bytes < at + 5 + (len + 1))) e) same
-    (subst (λ (l : List ℕ). NotALogSays (λ place. (place ≡ at) × (IsTrue now → length l < at + 5 + (len + 1))) e) is says)
+pub taken_same : (form : Form) (len at : ℕ) (bytes seen block : List ℕ) → seen ≡ bytes
+    → block ≡ take (block_size form len) (drop (head_size form) (drop (at + 1) seen))
+    → block ≡ take (block_size form len) (drop (head_size form) (drop (at + 1) bytes))
+taken_same form len at bytes seen block same is =
+    is ∙ ap (λ (l : List ℕ). take (block_size form len) (drop (head_size form) (drop (at + 1) l))) same

@@ -1,18 +1,14 @@
 -- Where contents aren't a log.
-use Rattle.std.specs.Prelude.{◌≡◌, ◌<◌, ◌≤◌, ◌⊎◌, ◌+◌, ℕ, List, ◌∷◌, ◌++◌, length, take}
-use Rattle.std.specs.Int.{w32, from_be_bytes}
-use Rattle.gate_log.specs.declared.entry.TheConstants.{MAX_BODY}
+use Rattle.std.specs.Prelude.{◌≡◌, ◌<◌, ◌≤◌, ◌⊎◌, ℕ, List, ◌∷◌, ◌++◌, length}
+use Rattle.gate_log.specs.declared.form.Form.{Form}
 use Rattle.gate_log.specs.declared.header.TheConstants.{HEADER_SIZE}
+use Rattle.gate_log.specs.Forms.{IsBody, record_of}
 use Rattle.gate_log.specs.Logs.{IsFront}
 
--- the length that stands behind a gate
-abbrev pub length_behind : List ℕ → ℕ
-length_behind rest = from_be_bytes w32 (take 4 rest)
-
--- what stands behind an open gate is no length, a length that no record has, or less than the body and its next gate
+-- what stands behind an open gate isn't a record, in whichever form, with a gate behind it
 abbrev pub IsNoRecord : List ℕ → Type 0
 IsNoRecord rest =
-    (length rest < 4) ⊎ (length_behind rest ≡ 0) ⊎ (MAX_BODY < length_behind rest) ⊎ (length rest < 4 + (length_behind rest + 1))
+    (form : Form) (body : List ℕ) (next : ℕ) (behind : List ℕ) → IsBody body → rest ≡ record_of form body ++ next ∷ behind → ⊥
 
 -- the open gate at this place has no record
 pub record HasNoRecord (c : List ℕ) (at : ℕ) : Type 0 where

@@ -1,7 +1,10 @@
 pub mod Broken
 pub mod Causes
+pub mod Checksum
 pub mod Entries
 pub mod Errors
+pub mod Forms
 pub mod Laws
 pub mod Logs
 pub mod Standing
+pub mod Written

@@ -1,30 +1,31 @@
 -- What the bytes of a log stand for: a header, then a record behind each open gate, up to the first closed gate.
-use Rattle.std.specs.Prelude.{◌≡◌, ◌<◌, ◌≤◌, ℕ, List, [], ◌∷◌, ◌++◌, length, map}
-use Rattle.std.specs.Int.{w32, to_be_bytes}
-use Rattle.gate_log.specs.declared.entry.TheConstants.{MAX_BODY}
+use Rattle.std.specs.Prelude.{◌≡◌, ◌<◌, ℕ, List, [], ◌∷◌, ◌++◌, length, map}
+use Rattle.gate_log.specs.declared.form.Form.{Form}
 use Rattle.gate_log.specs.declared.header.TheConstants.{HEADER_SIZE}
+use Rattle.gate_log.specs.Forms.{IsBody, record_of}
 
--- a gate, and the body behind it
-abbrev pub Gated : Type 0
-Gated = ℕ × List ℕ
+-- a gate, and the body behind it in its form
+pub record Gated : Type 0 where
+  pub gate : ℕ
+  pub form : Form
+  pub body : List ℕ
 
--- the bytes of records: gates, lengths and bodies, one after another
+-- gates with the records behind them, one after another
 abbrev pub records_of : List Gated → List ℕ
 records_of [] = []
-records_of (r ∷ rs) = r.0 ∷ (to_be_bytes w32 (length r.1) ++ (r.1 ++ records_of rs))
+records_of (r ∷ rs) = r.gate ∷ (record_of r.form r.body ++ records_of rs)
 
--- the gate is open, and the body has a length that a record may have
+-- the gate is open, and the body is one that a record may have
 pub record IsRecord (r : Gated) : Type 0 where
-  pub open_gate : 0 < r.0
-  pub some : 0 < length r.1
-  pub fits : length r.1 ≤ MAX_BODY
+  pub open_gate : 0 < r.gate
+  pub is_body : IsBody r.body
 
 abbrev pub AreRecords : List Gated → Type 0
 AreRecords [] = Unit {0}
 AreRecords (r ∷ rs) = IsRecord r × AreRecords rs
 
 abbrev pub bodies_of : List Gated → List (List ℕ)
-bodies_of rs = map (λ (r : Gated). r.1) rs
+bodies_of rs = map (λ (r : Gated). r.body) rs
 
 -- the bytes before a closed gate: this header, and these bodies behind open gates
 pub record IsFront (header : List ℕ) (bodies : List (List ℕ)) (front : List ℕ) : Type 0 where

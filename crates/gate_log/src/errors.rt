@@ -11,8 +11,9 @@ pub enum LogErr {
     #[error("the disk has {size} bytes already")]
     NotEmpty { size: u64 },
     /// The bytes aren't a log: they end before the first gate, where `at` is 24, or the open gate at
-    /// this place has no whole record with a gate behind it.
-    #[error("no record at byte {at}")]
+    /// this place has no whole record with a gate behind it. The record was cut off, or it was changed
+    /// since it was written: no crash leaves it so.
+    #[error("no whole record at byte {at}: it was cut off or changed")]
     NotALog { at: u64 },
     /// The disk failed. This comes only where its count of faults rose in the call.
     #[error("the disk failed")]

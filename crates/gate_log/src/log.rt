@@ -2,8 +2,9 @@ ghost use Rattle.std.specs.Prelude.{◌≡◌, ◌<◌, ◌^◌, ◌⊎◌, ◌�
 ghost use Rattle.osd_disk.specs.Crashes.{LeavesOnly};
 ghost use Rattle.gate_log.specs.Errors.{HasErrCause, HasLogCause, IsOfDisk, NotEmptySays};
 ghost use Rattle.gate_log.specs.Logs.{IsLog};
+ghost use Rattle.gate_log.specs.Written.{IsAppended};
 
-use crate::entry::Entry;
+use crate::entry::{Entry, OPEN_GATE};
 use crate::errors::LogErr;
 use crate::header::HEADER_SIZE;
 use crate::record::write_first;
@@ -66,6 +67,7 @@ impl<D: Disk> GateLog<D> {
     pub fn create(disk: D, header: &[u8; HEADER_SIZE]) -> Result<Self, (LogErr, D)>
         ensures made { IfOk result (λ log. IsTrue (D.tells disk) → IsAtRest D.tells D.seen D.may_leave header.now [] log) }
         ensures empty { IfOk result (λ log. IsTrue (D.tells disk) → D.seen disk ≡ []) }
+        ensures written { IfOk result (λ log. IsTrue (D.tells disk) → IsAppended header.now [] (D.seen (disk_of log))) }
         ensures over { IfOk result (λ log. over_of log ≡ false) }
         ensures refused { IfErr result
             (λ e. NotEmptySays (λ size. IsTrue (D.tells disk) → (size ≡ length (D.seen disk)) × (0 < size)) e.0) }
@@ -85,7 +87,7 @@ impl<D: Disk> GateLog<D> {
 
     /// Adds a record. At `Ok` each crash from then on leaves it, and a crash at any moment of the call
     /// leaves the log without the record or with it. Four calls of the disk: the record is written
-    /// with a closed gate behind it and synced, then its gate is opened and synced.
+    /// with its checksum and a closed gate behind it and synced, then its gate is opened and synced.
     ///
     /// # Errors
     ///
@@ -99,6 +101,10 @@ impl<D: Disk> GateLog<D> {
         ensures added { OnOk result
             ((header : List ℕ) (bodies : List (List ℕ)) → IsAtRest D.tells D.seen D.may_leave header bodies self.old
             → IsAtRest D.tells D.seen D.may_leave header (bodies ++ entry.now ∷ []) self.new) }
+        ensures written { OnOk result
+            ((header : List ℕ) (bodies : List (List ℕ)) → IsAtRest D.tells D.seen D.may_leave header bodies self.old
+            → IsAppended header bodies (D.seen (disk_of self.old))
+            → IsAppended header (bodies ++ entry.now ∷ []) (D.seen (disk_of self.new))) }
         ensures error { IfErr result (λ e. IsOfDisk e) }
         ensures over { over_of self.new ≡ is_err result }
         ensures cause { HasLogCause (D.faults (disk_of self.old)) (D.faults (disk_of self.new)) result }
@@ -107,7 +113,7 @@ impl<D: Disk> GateLog<D> {
         let piece = entry.piece();
         self.disk.write_at(self.end + 1, piece)?;
         self.disk.sync()?;
-        self.disk.write_at(self.end, &[1])?;
+        self.disk.write_at(self.end, &[OPEN_GATE])?;
         self.disk.sync()?;
         self.end += piece.len() as u64;
         self.is_over = false;

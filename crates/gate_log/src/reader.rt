@@ -112,7 +112,7 @@ impl<D: Disk> LogReader<D> {
             Ok(record) => record,
             Err(e) => return Err(e),
         };
-        self.at += 5 + record.body.len() as u64;
+        self.at += 1 + record.form.record_size(record.body.len());
         self.gate = record.next_gate;
         Ok(Some(record.body))
     }

@@ -1,15 +1,18 @@
 // Reads and writes of a log's parts on its disk.
-ghost use Rattle.std.specs.Prelude.{◌≡◌, ◌<◌, ◌≤◌, ◌+◌, ◌^◌, ◌⊎◌, ◌∷◌, [], ◌++◌, List, ℕ, IsTrue, take, drop, length, OnOk, IfOk, IfErr};
+ghost use Rattle.std.specs.Prelude.{◌≡◌, ◌<◌, ◌≤◌, ◌+◌, ◌^◌, ◌⊎◌, ◌∷◌, [], ◌++◌, List, ℕ, IsTrue, take, drop, length, OnOk, IfOk, IfErr, IfSome, IfNone, ◌↔◌};
 ghost use Rattle.std.specs.Int.{w32, to_be_bytes};
 ghost use Rattle.osd_disk.specs.Crashes.{Only, OnlyRead};
 ghost use Rattle.gate_log.specs.Broken.{IsNoRecord};
 ghost use Rattle.gate_log.specs.Errors.{HasLogCause, NotALogSays, NotEmptySays};
+ghost use Rattle.gate_log.specs.Forms.{IsBody, block_size, head_of, head_size, record_of, size_of, tail_of};
 ghost use Rattle.gate_log.specs.declared.errors.LogErr.TheVariants.{NotALog};
 ghost use Rattle.gate_log.specs.declared.entry.TheConstants.{MAX_BODY};
 ghost use Rattle.gate_log.specs.declared.header.TheConstants.{HEADER_SIZE};
 
+use crate::checksum::{ALL_ONES, crc_32};
 use crate::entry::MAX_BODY;
 use crate::errors::LogErr;
+use crate::form::Form;
 use crate::header::{HEADER_SIZE, Header};
 use osd_disk::{Disk, read_whole};
 use osd_lists::{Bytes, Memory};
@@ -23,9 +26,10 @@ pub struct First {
     pub size: u64,
 }
 
-/// A record's body, and the gate behind it.
+/// A record's body, how it is written, and the gate behind it.
 #[derive(Drop)]
 pub struct Record {
+    pub form: Form,
     pub body: Bytes,
     pub next_gate: u8,
 }
@@ -142,42 +146,74 @@ fn number_in(bytes: &[u8; 4]) -> u32
     u32::from_be_bytes(*bytes)
 }
 
-// Reads the number that stands behind the gate at a place.
-fn read_number<D: Disk>(disk: &mut D, at: u64) -> Result<usize, LogErr>
-    requires { at < 2 ^ 63 }
-    ensures number { IfOk result (λ n. IsTrue (D.tells disk.old) → to_be_bytes w32 n ≡ take 4 (drop (at + 1) (D.seen disk.old))) }
-    ensures range { IfOk result (λ n. n < 2 ^ 32) }
+// Reads the number that stands so many bytes behind the gate at a place.
+fn read_number<D: Disk>(disk: &mut D, at: u64, behind: u64) -> Result<u32, LogErr>
+    requires { (at < 2 ^ 63) × (behind ≤ 4) }
+    ensures number { IfOk result
+        (λ n. IsTrue (D.tells disk.old) → to_be_bytes w32 n ≡ take 4 (drop behind (drop (at + 1) (D.seen disk.old)))) }
     ensures refused { IfErr result
-        (λ e. NotALogSays (λ place. (place ≡ at) × (IsTrue (D.tells disk.old) → length (D.seen disk.old) < at + 5)) e) }
+        (λ e. NotALogSays
+        (λ place. (place ≡ at) × (IsTrue (D.tells disk.old) → length (drop (at + 1) (D.seen disk.old)) < behind + 4)) e) }
     ensures disk { OnlyRead D.tells D.seen D.may_leave D.moment D.left_since disk.old disk.new }
     ensures cause { HasLogCause (D.faults disk.old) (D.faults disk.new) result }
 {
     let mut number = [0; 4];
-    let count = read_whole(disk, at + 1, &mut number)?;
+    let count = read_whole(disk, at + 1 + behind, &mut number)?;
     if count < number.len() {
         return Err(LogErr::NotALog { at });
     }
-    Ok(number_in(&number) as usize)
+    Ok(number_in(&number))
 }
 
-// The number behind the gate at a place, where it is the length of a body that ends before the last of so many bytes.
-fn checked_length(len: usize, at: u64, size: u64) -> Result<usize, LogErr>
-    requires { (at < size) × (size < 2 ^ 63) × (len < 2 ^ 32) }
-    ensures same { IfOk result (λ n. n ≡ len) }
-    ensures range { IfOk result (λ n. (0 < n) × (n ≤ MAX_BODY)) }
-    ensures inside { IfOk result (λ n. at + 5 + n < size) }
-    ensures refused { IfErr result (λ e. (e ≡ NotALog at) × ((len ≡ 0) ⊎ (MAX_BODY < len) ⊎ (size < at + 5 + (len + 1)))) }
+// What stands before a record's body. Its length is one that a body may have.
+#[derive(Clone, Copy)]
+struct Head {
+    form: Form,
+    len: usize,
+}
+
+// A head of this form, if a body may have this length.
+fn head_with(form: Form, len: u32, at: u64) -> Result<Head, LogErr>
+    ensures head { IfOk result (λ head. (head.form ≡ form) × (head.len ≡ len)) }
+    ensures range { IfOk result (λ head. (0 < head.len) × (head.len ≤ MAX_BODY)) }
+    ensures refused { IfErr result (λ e. (e ≡ NotALog at) × ((len ≡ 0) ⊎ (MAX_BODY < len))) }
 {
-    if len == 0 {
+    if len == 0 || len as usize > MAX_BODY {
         return Err(LogErr::NotALog { at });
     }
-    if len > MAX_BODY {
+    Ok(Head {
+        form,
+        len: len as usize,
+    })
+}
+
+// Reads what stands before the body behind the gate at a place: a length, or a greater number whose complement is the length
+// that follows.
+fn read_head<D: Disk>(disk: &mut D, at: u64) -> Result<Head, LogErr>
+    requires { at < 2 ^ 63 }
+    ensures bytes { IfOk result (λ head. IsTrue (D.tells disk.old)
+        → head_of head.form head.len ≡ take (head_size head.form) (drop (at + 1) (D.seen disk.old))) }
+    ensures range { IfOk result (λ head. (0 < head.len) × (head.len ≤ MAX_BODY)) }
+    ensures refused { IfErr result (λ e. NotALogSays
+        (λ place. (place ≡ at) × (IsTrue (D.tells disk.old) → IsNoRecord (drop (at + 1) (D.seen disk.old)))) e) }
+    ensures disk { OnlyRead D.tells D.seen D.may_leave D.moment D.left_since disk.old disk.new }
+    ensures cause { HasLogCause (D.faults disk.old) (D.faults disk.new) result }
+{
+    let first = match read_number(disk, at, 0) {
+        Ok(first) => first,
+        Err(e) => return Err(e),
+    };
+    if first as usize <= MAX_BODY {
+        return head_with(Form::Plain, first, at);
+    }
+    let len = match read_number(disk, at, 4) {
+        Ok(len) => len,
+        Err(e) => return Err(e),
+    };
+    if first != ALL_ONES - len {
         return Err(LogErr::NotALog { at });
     }
-    if size - at <= 5 + len as u64 {
-        return Err(LogErr::NotALog { at });
-    }
-    Ok(len)
+    head_with(Form::Checked, len, at)
 }
 
 // A list of so many bytes, to be read into.
@@ -190,26 +226,59 @@ fn room_for(alloc: Global, len: usize) -> Result<Bytes, Memory>
     Ok(room)
 }
 
-// Reads the body of this length behind the gate at a place, and the gate behind it.
-fn read_body<D: Disk>(alloc: Global, disk: &mut D, at: u64, len: usize) -> Result<Record, LogErr>
-    requires { (at < 2 ^ 63) × (len ≤ MAX_BODY) }
-    ensures bytes { IfOk result (λ kept. IsTrue (D.tells disk.old)
-        → take (len + 1) (drop (at + 5) (D.seen disk.old)) ≡ kept.body ++ kept.next_gate ∷ []) }
-    ensures size { IfOk result (λ kept. length kept.body ≡ len) }
-    ensures refused { IfErr result
-        (λ e. NotALogSays
-        (λ place. (place ≡ at) × (IsTrue (D.tells disk.old) → length (D.seen disk.old) < at + 5 + (len + 1))) e) }
+// Reads what stands behind the head of a record: its body, what follows that, and the next gate.
+fn read_block<D: Disk>(alloc: Global, disk: &mut D, at: u64, head: Head) -> Result<Bytes, LogErr>
+    requires { (at < 2 ^ 63) × (head.len ≤ MAX_BODY) }
+    ensures bytes { IfOk result (λ block. IsTrue (D.tells disk.old)
+        → block ≡ take (block_size head.form head.len) (drop (head_size head.form) (drop (at + 1) (D.seen disk.old)))) }
+    ensures size { IfOk result (λ block. length block ≡ block_size head.form head.len) }
+    ensures refused { IfErr result (λ e. NotALogSays
+        (λ place. (place ≡ at) × (IsTrue (D.tells disk.old)
+        → length (drop (at + 1) (D.seen disk.old)) < size_of head.form head.len + 1)) e) }
     ensures disk { OnlyRead D.tells D.seen D.may_leave D.moment D.left_since disk.old disk.new }
     ensures cause { HasLogCause (D.faults disk.old) (D.faults disk.new) result }
 {
-    let mut body = room_for(alloc, len + 1)?;
-    let count = read_whole(disk, at + 5, body.as_mut_slice())?;
-    if count <= len {
+    let mut block = room_for(alloc, head.len + head.form.tail_size() + 1)?;
+    let place = at + 1 + head.form.head_size() as u64;
+    let count = read_whole(disk, place, block.as_mut_slice())?;
+    if count < block.len() {
         return Err(LogErr::NotALog { at });
     }
-    let next_gate = *body.get(len);
-    body.truncate(len);
-    Ok(Record { body, next_gate })
+    Ok(block)
+}
+
+// Whether these bytes are what follows the body.
+fn is_tail(form: Form, body: &[u8], tail: &[u8]) -> bool
+    ensures { IsTrue result ↔ (tail.now ≡ tail_of form body.now) }
+{
+    match form {
+        Form::Plain => tail.is_empty(),
+        Form::Checked => tail == crc_32(body).to_be_bytes().as_slice(),
+    }
+}
+
+// The body at the start of such a block, and the gate at its end, if what stands between them is right.
+fn record_in(block: Bytes, head: Head) -> Option<Record>
+    requires { length block ≡ block_size head.form head.len }
+    ensures bytes { IfSome result
+        (λ kept. block ≡ kept.body ++ (tail_of head.form kept.body ++ kept.next_gate ∷ [])) }
+    ensures size { IfSome result (λ kept. (length kept.body ≡ head.len) × (kept.form ≡ head.form)) }
+    ensures none { IfNone result ((body : List ℕ) (next : ℕ) → length body ≡ head.len
+        → block ≡ body ++ (tail_of head.form body ++ next ∷ []) → ⊥) }
+{
+    let mut block = block;
+    let (body, behind) = block.as_slice().split_at(head.len);
+    let (tail, gate) = behind.split_at(head.form.tail_size());
+    if !is_tail(head.form, body, tail) {
+        return None;
+    }
+    let next_gate = gate[0];
+    block.truncate(head.len);
+    Some(Record {
+        form: head.form,
+        body: block,
+        next_gate,
+    })
 }
 
 /// Reads the record behind an open gate at a place.
@@ -220,26 +289,28 @@ pub fn read_record<D: Disk>(
     size: u64,
 ) -> Result<Record, LogErr>
     requires { (at < size) × (size < 2 ^ 63) }
-    ensures bytes { IfOk result (λ kept. IsTrue (D.tells disk.old)
-        → (rest : List ℕ) ×
-        (drop (at + 1) (D.seen disk.old) ≡ to_be_bytes w32 (length kept.body) ++ (kept.body ++ kept.next_gate ∷ rest))) }
-    ensures size { IfOk result (λ kept. (0 < length kept.body) × (length kept.body ≤ MAX_BODY)) }
-    ensures inside { IfOk result (λ kept. at + 5 + length kept.body < size) }
+    ensures bytes { IfOk result (λ kept. IsTrue (D.tells disk.old) → (rest : List ℕ) ×
+        (drop (at + 1) (D.seen disk.old) ≡ record_of kept.form kept.body ++ kept.next_gate ∷ rest)) }
+    ensures size { IfOk result (λ kept. IsBody kept.body) }
+    ensures inside { IfOk result (λ kept. at + 1 + size_of kept.form (length kept.body) < size) }
     ensures refused { IfErr result (λ e. NotALogSays (λ place. (place ≡ at)
         × (IsTrue (D.tells disk.old) → size ≡ length (D.seen disk.old) → IsNoRecord (drop (at + 1) (D.seen disk.old)))) e) }
     ensures disk { OnlyRead D.tells D.seen D.may_leave D.moment D.left_since disk.old disk.new }
     ensures cause { HasLogCause (D.faults disk.old) (D.faults disk.new) result }
 {
-    let number = match read_number(disk, at) {
-        Ok(number) => number,
+    let head = match read_head(disk, at) {
+        Ok(head) => head,
         Err(e) => return Err(e),
     };
-    let len = match checked_length(number, at, size) {
-        Ok(len) => len,
+    if size - at <= 1 + head.form.record_size(head.len) {
+        return Err(LogErr::NotALog { at });
+    }
+    let block = match read_block(alloc, disk, at, head) {
+        Ok(block) => block,
         Err(e) => return Err(e),
     };
-    match read_body(alloc, disk, at, len) {
-        Ok(record) => Ok(record),
-        Err(e) => Err(e),
+    match record_in(block, head) {
+        Some(record) => Ok(record),
+        None => Err(LogErr::NotALog { at }),
     }
 }

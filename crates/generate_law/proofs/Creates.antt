@@ -146,8 +146,28 @@ module _ (k d : ℕ) (low : d < 6) where
   performs : first_fault (drive_new d).state 0 (create_of k d) ≡ Perform
   unfolding first_fault
   performs =
-      none_first (all_rows (drive_new d).state 0 (create_of k d))
-      (refl, (refl, (opened, (refl, (refl, (its_own, (refl, (refl, (refl, (refl, (within, (refl, (refl, (refl, (refl, (refl, tt))))))))))))))))
+      none_first (all_rows (drive_new d).state 0 (create_of k d)) (
+        refl,
+        (
+          refl,
+          (
+            opened,
+            (
+              refl,
+              (
+                refl,
+                (
+                  its_own,
+                  (
+                    refl,
+                    (refl, (refl, (refl, (within, (refl, (refl, (refl, (refl, (refl, tt))))))))),
+                  ),
+                ),
+              ),
+            ),
+          ),
+        ),
+      )
 
   -- the drive with the object
   abbrev pub drive_with : DriveAt

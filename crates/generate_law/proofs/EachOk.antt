@@ -37,7 +37,7 @@ IsNoCall e = Unit {0}
 
 module _ (c : ℕ) (x : Call) (rest : List Event) where
   -- a call comes after the events that are none
-  after_others : (es fs : List Event) → AllByRecursion IsNoCall es → (front : List Event)
+  pub after_others : (es fs : List Event) → AllByRecursion IsNoCall es → (front : List Event)
       → front ++ event.Do c x ∷ rest ≡ es ++ fs → (back : List Event) × (front ≡ es ++ back) × (back ++ event.Do c x ∷ rest ≡ fs)
   after_others [] fs none front e = (front, refl, e)
   after_others (y ∷ es) fs none [] e =
@@ -50,7 +50,7 @@ module _ (c : ℕ) (x : Call) (rest : List Event) where
       (r.0, ap (λ (z : Event). z ∷ front) same ∙ ap (λ (zs : List Event). y ∷ zs) r.1, r.2)
 
   -- one among the calls comes after some of them
-  among_calls : (n k y : ℕ) (front : List Event) → front ++ event.Do c x ∷ rest ≡ calls_from n k y
+  pub among_calls : (n k y : ℕ) (front : List Event) → front ++ event.Do c x ∷ rest ≡ calls_from n k y
       → (j m z : ℕ) × (front ≡ calls_from j k y) × (event.Do c x ≡ call_event m z)
   among_calls zero k y [] e = absurd (cc e)
   among_calls zero k y (f ∷ front) e = absurd (cc e)

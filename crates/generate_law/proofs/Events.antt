@@ -29,7 +29,7 @@ none_at : (l : Line) → is_event l ≡ false → event_at l ≡ []
 none_at (line.Event e) n = absurd (cc n)
 none_at l n = refl
 
-none_in : (ls : List Line) → NoEvent ls → events_in ls ≡ []
+pub none_in : (ls : List Line) → NoEvent ls → events_in ls ≡ []
 none_in [] n = refl
 none_in (l ∷ ls) n =
     let p = first_plain l ls n in

@@ -27,22 +27,22 @@ told_of k = record { component = k; payload = [] }
 
 module _ (ns : List ℕ) (k d : ℕ) (rest : List Awaited) (hs : List Heard)
     (left : others (asked k d ∷ rest) (1 + k) ≡ rest) (chosen : List ℕ) where
-  abbrev job_now : Job
+  abbrev pub job_now : Job
   job_now = job_with (asked k d ∷ rest) hs
 
-  abbrev server_now : Server
+  abbrev pub server_now : Server
   server_now = server_with ns (Some job_now) false
 
-  abbrev going : Going
+  abbrev pub going : Going
   going = at_file server_now chosen (file_with ns (Some job_now) false)
 
   its_own : answers d (reply_of k) (asked k d) ≡ true
   its_own = rw (eq-eqb (1 + k) (1 + k) refl, eq-eqb d d refl) refl
 
-  abbrev goes_so : List Awaited → Step
+  abbrev pub goes_so : List Awaited → Step
   goes_so cs = by_heard server_now (Some (waits_or_on going job_now Creates cs (hs ++ told_of k ∷ [])))
 
-  step_is : on_message server_now 0 chosen (node.Drive d) (Replies (reply_of k)) ≡ goes_so rest
+  pub step_is : on_message server_now 0 chosen (node.Drive d) (Replies (reply_of k)) ≡ goes_so rest
   unfolding on_message counters_have_room on_drive_reply heard_at on_reply hearing is_done
   step_is =
       ap (λ (o : Option Awaited). by_heard server_now (or_else (heard_by going (reply_of k) job_now o) None))
@@ -50,7 +50,7 @@ module _ (ns : List ℕ) (k d : ℕ) (rest : List Awaited) (hs : List Heard)
       ∙ ap goes_so left
 
 -- others are awaited still
-hears_more : (ns : List ℕ) (k d : ℕ) (c : Awaited) (cs : List Awaited) (hs : List Heard)
+pub hears_more : (ns : List ℕ) (k d : ℕ) (c : Awaited) (cs : List Awaited) (hs : List Heard)
     → others (asked k d ∷ c ∷ cs) (1 + k) ≡ c ∷ cs
     → Hears ns k d (Some (job_with (asked k d ∷ c ∷ cs) hs)) (Some (job_with (c ∷ cs) (hs ++ told_of k ∷ []))) false false
 unfolding put_file
@@ -59,7 +59,7 @@ hears_more ns k d c cs hs left chosen =
     (ap (λ (x : Step). x.state) e, ap (λ (x : Step). x.sends) e)
 
 -- this is the last one: the job is over
-hears_last : (ns : List ℕ) (k d : ℕ) (hs : List Heard) → others (asked k d ∷ []) (1 + k) ≡ []
+pub hears_last : (ns : List ℕ) (k d : ℕ) (hs : List Heard) → others (asked k d ∷ []) (1 + k) ≡ []
     → Hears ns k d (Some (job_with (asked k d ∷ []) hs)) None false true
 unfolding put_file goes_on
 hears_last ns k d hs left chosen =

@@ -89,7 +89,7 @@ pub record Stage (ns : List ℕ) (rows : List Posted) (job : Option Job) (ready 
 abbrev pub prompt : Plan
 prompt = record { opening = None; rule = Prompt 0 None }
 
-due_so : (w : World) (rows : List Posted) (n : ℕ) → w.network.messages ≡ rows → pending_from 0 0 rows ≡ Some n
+pub due_so : (w : World) (rows : List Posted) (n : ℕ) → w.network.messages ≡ rows → pending_from 0 0 rows ≡ Some n
     → due prompt w ≡ Some (Delivers n)
 due_so w rows n is first =
     ap (λ (ms : List Posted). due_pending w None (pending_from 0 0 ms)) is
@@ -107,14 +107,14 @@ module _ (ns : List ℕ) (rows : List Posted) (job : Option Job) (ready : Bool) 
   abbrev pub number_found : Posted → Type 0
   number_found p = slice_get rows n ≡ Some p
 
-  there : (p : Posted) → w.network.messages ≡ rows → number_found p → slice_get w.network.messages n ≡ Some p
+  pub there : (p : Posted) → w.network.messages ≡ rows → number_found p → slice_get w.network.messages n ≡ Some p
   there p is found = ap (λ (ms : List Posted). slice_get ms n) is ∙ found
 
   -- ---- a drive hears
 
   module _ (todo : List ℕ) (s : Stage ns rows job ready (d ∷ todo) clients w) (few : k < 5) (low : d < 6)
       (other : (e : ℕ) → In e todo → e ≡ d → ⊥) (found : number_found (out_row k d false)) (chosen : List ℕ) where
-    abbrev did : Judged
+    abbrev pub did : Judged
     did = record {
       drive = drive_with k d low;
       verdict = (judges (drive_new d) (Ok (create_of k d))).verdict;
@@ -134,10 +134,10 @@ module _ (ns : List ℕ) (rows : List Posted) (job : Option Job) (ready : Bool) 
           reply = r;
         }) (drive_answers k d low)
 
-    abbrev marked_world : World
+    abbrev pub marked_world : World
     marked_world = marked w n (out_row k d false)
 
-    heard : acts w chosen (Delivers n) ≡ told_delivered n (drive_replies marked_world d node.Server did)
+    pub heard : acts w chosen (Delivers n) ≡ told_delivered n (drive_replies marked_world d node.Server did)
     heard =
         delivered_act w chosen n (out_row k d false) (there (out_row k d false) s.rows_are found)
         ∙ ap (λ (o : Option DriveAt). told_delivered n (drive_hears marked_world d (out_row k d false).message o))
@@ -163,7 +163,7 @@ module _ (ns : List ℕ) (rows : List Posted) (job : Option Job) (ready : Bool) 
           (a.0, lookup_set_beside w.drives d e (drive_with k d low) beside ∙ a.1, a.2)
     ]
 
-    drive_goes : Stage ns (slice_set rows n (out_row k d true) ++ back_row k d false ∷ []) job ready todo clients
+    pub drive_goes : Stage ns (slice_set rows n (out_row k d true) ++ back_row k d false ∷ []) job ready todo clients
         (moved w (Delivers n) chosen)
     drive_goes =
         subst (λ (a : Act). Stage ns (slice_set rows n (out_row k d true) ++ back_row k d false ∷ []) job ready todo clients
@@ -193,13 +193,13 @@ module _ (ns : List ℕ) (rows : List Posted) (job : Option Job) (ready : Bool) 
   module _ (todo : List ℕ) (s : Stage ns rows job ready todo clients w) (few : k < 5) (low : d < 6)
       (found : number_found (back_row k d false)) (chosen : List ℕ) (after : Option Job) (done : Bool)
       (hears : Hears ns k d job after ready done) where
-    abbrev then_world : World
+    abbrev pub then_world : World
     then_world = marked w n (back_row k d false)
 
     abbrev the_step : Step
     the_step = on_message (server_with ns job ready) 0 chosen (node.Drive d) (Replies (reply_of k))
 
-    told : acts w chosen (Delivers n) ≡ told_delivered n (server_did then_world the_step)
+    pub told : acts w chosen (Delivers n) ≡ told_delivered n (server_did then_world the_step)
     unfolding message_in
     told =
         delivered_act w chosen n (back_row k d false) (there (back_row k d false) s.rows_are found)
@@ -213,7 +213,7 @@ module _ (ns : List ℕ) (rows : List Posted) (job : Option Job) (ready : Bool) 
         ∙ ap (λ (now : ℕ). told_delivered n
         (server_did then_world (on_message (server_with ns job ready) now chosen (node.Drive d) (Replies (reply_of k))))) s.clock
 
-    server_goes : Stage ns (slice_set rows n (back_row k d true)) after done todo clients (moved w (Delivers n) chosen)
+    pub server_goes : Stage ns (slice_set rows n (back_row k d true)) after done todo clients (moved w (Delivers n) chosen)
     server_goes =
         subst (λ (a : Act). Stage ns (slice_set rows n (back_row k d true)) after done todo clients
         (sends_all a).world) (sym told)

@@ -56,7 +56,7 @@ two_stripes r short = elim (cases_eq r.length 0) [
     few_between : (a n : ℕ) → n ≤ 2 → length (range_with_len a n) ≤ 2
     few_between a n l = omega (arith, range_long a n, l)
 
-two_touched : (f : Kept) (op : CallOp) → f.map ≡ raw_of file_map → (span_of op).length ≤ 1000 → length (touched f op) ≤ 2
+pub two_touched : (f : Kept) (op : CallOp) → f.map ≡ raw_of file_map → (span_of op).length ≤ 1000 → length (touched f op) ≤ 2
 two_touched f op is short = rw is (two_stripes (reached f op) (short_reach (is_write op)))
   where
     short_reach : (b : Bool) → (if b then span_of op else clipped f.size (span_of op)).length ≤ 1000
@@ -97,7 +97,7 @@ below_three (suc zero) low = inr (inl refl)
 below_three (suc (suc zero)) low = inr (inr (inl refl))
 below_three (suc (suc (suc c))) low = absurd (omega (arith, low))
 
-three_grants : (gs : List Grant) → Rise gs → ((a b : Grant) → In a gs → In b gs → a.client ≡ b.client → a ≡ b)
+pub three_grants : (gs : List Grant) → Rise gs → ((a b : Grant) → In a gs → In b gs → a.client ≡ b.client → a ≡ b)
     → ((g : Grant) → In g gs → g.client < 3) → length gs ≤ 3
 three_grants gs rise one low =
     omega (
@@ -107,7 +107,7 @@ three_grants gs rise one low =
           (λ c i. let r = client_of gs c i in below_three c (subst (λ (n : ℕ). n < 3) r.2 (low r.0 r.1))),
     )
 
-three_opposed : (s : Scene) (f : Kept) (c : ℕ) (op : CallOp) → length f.grants ≤ 3 → (b : Bool)
+pub three_opposed : (s : Scene) (f : Kept) (c : ℕ) (op : CallOp) → length f.grants ≤ 3 → (b : Bool)
     → length (if b then [] else against f.grants (wanted s f c op)) ≤ 3
 three_opposed s f c op few true = omega arith
 three_opposed s f c op few false = omega (arith, few, filter_fewer (conflicts (wanted s f c op)) f.grants)

@@ -41,7 +41,7 @@ use Rattle.generate_law.proofs.Runs.{Goes, First, Leads, moved, next, first, at_
 
 -- ---- drives and clients
 
-abbrev drives_to : (n : ℕ) → List (ℕ × DriveAt)
+abbrev pub drives_to : (n : ℕ) → List (ℕ × DriveAt)
 drives_to zero = []
 drives_to (suc n) = drives_to n ++ (n, drive_new n) ∷ []
 
@@ -53,7 +53,7 @@ clients_to zero = []
 clients_to (suc n) = clients_to n ++ (n, client_at n) ∷ []
 
 -- the world with n drives and m clients
-abbrev world_with : (n m : ℕ) → World
+abbrev pub world_with : (n m : ℕ) → World
 world_with n m = record {
   drives = drives_to n;
   clients = clients_to m;
@@ -63,7 +63,7 @@ world_with n m = record {
   down = false;
 }
 
-drive_made : (n : ℕ) → n < 6 → (chosen : List ℕ) → moved (world_with n 0) (Opens (makes_drive n)) chosen ≡ world_with (suc n) 0
+pub drive_made : (n : ℕ) → n < 6 → (chosen : List ℕ) → moved (world_with n 0) (Opens (makes_drive n)) chosen ≡ world_with (suc n) 0
 unfolding begins gives add_drive
 drive_made zero l chosen = refl
 drive_made (suc zero) l chosen = refl
@@ -73,7 +73,7 @@ drive_made (suc (suc (suc (suc zero)))) l chosen = refl
 drive_made (suc (suc (suc (suc (suc zero))))) l chosen = refl
 drive_made (suc (suc (suc (suc (suc (suc n)))))) l chosen = absurd (omega (arith, l))
 
-client_made : (m : ℕ) → m < 3 → (chosen : List ℕ) → moved (world_with 6 m) (Opens (event.Client m)) chosen ≡ world_with 6 (suc m)
+pub client_made : (m : ℕ) → m < 3 → (chosen : List ℕ) → moved (world_with 6 m) (Opens (event.Client m)) chosen ≡ world_with 6 (suc m)
 unfolding begins
 client_made zero l chosen = refl
 client_made (suc zero) l chosen = refl
@@ -109,7 +109,7 @@ parties_made v es l =
 filter_first : {A : Type 0} (p : A → Bool) (x : A) (xs : List A) → p x ≡ true → filter p (x ∷ xs) ≡ x ∷ filter p xs
 filter_first p x xs e = rw e refl
 
-sent_all : (cs : List Awaited) → ((a : Awaited) → In a cs → a.drive < 6)
+pub sent_all : (cs : List Awaited) → ((a : Awaited) → In a cs → a.drive < 6)
     → filter is_addressed (map server_post (to_drives (known_to 6) cs)) ≡ map server_post (to_drives (known_to 6) cs)
 sent_all [] low = refl
 sent_all (a ∷ cs) low =
@@ -118,10 +118,10 @@ sent_all (a ∷ cs) low =
     ∙ ap (λ (ps : List Post). server_post (to_drive (known_to 6) a) ∷ ps) (sent_all cs (λ b i. low b (inr i)))
 
 -- the server's step, with components on these drives
-abbrev step_with : List ℕ → Step
+abbrev pub step_with : List ℕ → Step
 step_with ns = makes (server_to 6) (unmade (server_to 6) 0 (raw_of file_map) 1 false ns)
 
-begun : (chosen : List ℕ)
+pub begun : (chosen : List ℕ)
     → acts (world_with 6 3) chosen (Opens makes_file) ≡ acted (server_did (world_with 6 3) (step_with (taken chosen)))
 unfolding begins world_makes create_file refusal file_at checked_64 checked
 begun chosen = refl
@@ -136,7 +136,7 @@ new_there (suc (suc (suc (suc (suc zero))))) l = refl
 new_there (suc (suc (suc (suc (suc (suc d)))))) l = absurd (omega (arith, l))
 
 module _ (a b c d e : ℕ) (good : AreGood (a ∷ b ∷ c ∷ d ∷ e ∷ [])) where
-  abbrev these : List ℕ
+  abbrev pub these : List ℕ
   these = a ∷ b ∷ c ∷ d ∷ e ∷ []
 
   each_low : (n : ℕ) → In n these → n < 6
@@ -147,7 +147,7 @@ module _ (a b c d e : ℕ) (good : AreGood (a ∷ b ∷ c ∷ d ∷ e ∷ [])) w
   each_low n (inr (inr (inr (inr (inl is))))) = subst (λ (x : ℕ). x < 6) (sym is) good.2.2.2.2.0
   each_low n (inr (inr (inr (inr (inr i))))) = absurd i
 
-  asked_low : (x : Awaited) → In x (asked_all a b c d e) → x.drive < 6
+  pub asked_low : (x : Awaited) → In x (asked_all a b c d e) → x.drive < 6
   asked_low x (inl is) = subst (λ (y : Awaited). y.drive < 6) (sym is) good.0
   asked_low x (inr (inl is)) = subst (λ (y : Awaited). y.drive < 6) (sym is) good.2.0
   asked_low x (inr (inr (inl is))) = subst (λ (y : Awaited). y.drive < 6) (sym is) good.2.2.0
@@ -155,10 +155,10 @@ module _ (a b c d e : ℕ) (good : AreGood (a ∷ b ∷ c ∷ d ∷ e ∷ [])) w
   asked_low x (inr (inr (inr (inr (inl is))))) = subst (λ (y : Awaited). y.drive < 6) (sym is) good.2.2.2.2.0
   asked_low x (inr (inr (inr (inr (inr i))))) = absurd i
 
-  abbrev the_step : Step
+  abbrev pub the_step : Step
   the_step = step_with these
 
-  sends : the_step.sends ≡ to_drives (known_to 6) (asked_all a b c d e)
+  pub sends : the_step.sends ≡ to_drives (known_to 6) (asked_all a b c d e)
   unfolding add_file put_file components_on making to_each is_meant
   sends = refl
 
@@ -166,7 +166,7 @@ module _ (a b c d e : ℕ) (good : AreGood (a ∷ b ∷ c ∷ d ∷ e ∷ [])) w
   unfolding add_file put_file components_on making to_each is_meant
   state = refl
 
-  first_stage : Stage these (rows_out a b c d e) (Some (job_with (asked_all a b c d e) [])) false these (clients_to 3)
+  pub first_stage : Stage these (rows_out a b c d e) (Some (job_with (asked_all a b c d e) [])) false these (clients_to 3)
       (sends_all (acted (server_did (world_with 6 3) the_step))).world
   first_stage = record {
     rows_are =

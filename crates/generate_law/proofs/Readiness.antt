@@ -264,10 +264,10 @@ module _ (safe : GrantsAreSafe) (w : World) (h : List Line) (here : StandsFor w 
 
 -- ---- the calls of the scenario
 
-offset_low : (x : ℕ) → offset_of x < 261000
+pub offset_low : (x : ℕ) → offset_of x < 261000
 offset_low x = mod-lt (x / 2 ^ 40) (omega arith)
 
-length_low : (x : ℕ) → length_of x ≤ 1000
+pub length_low : (x : ℕ) → length_of x ≤ 1000
 length_low x = omega (arith, mod-lt (x / 2 ^ 20) {m = 1000} (omega arith))
 
 -- each is inside the file

@@ -15,13 +15,14 @@ use Rattle.exchange_law.specs.Text.{AreOfText}
 use Rattle.generate_law.specs.Plays.{Plays}
 use Rattle.generate_law.specs.Scenario.{call_event, call_of, calls_from, first_call, length_of, makes_drive, makes_file, next_random, offset_of, opening, scenario_of}
 use Rattle.generate_law.proofs.Events.{events_in, events_are}
+use Rattle.generate_law.proofs.Readiness.{length_low, offset_low}
 
 -- the text of a scenario has the event
-record IsGood (e : Event) : Type 0 where
-  written : is_written e ≡ true
-  fits : Fits e
+pub record IsGood (e : Event) : Type 0 where
+  pub written : is_written e ≡ true
+  pub fits : Fits e
 
-lines_good : (ls : List Line) → AllByRecursion IsGood (events_in ls) → AreWritten ls × AreOfText ls
+pub lines_good : (ls : List Line) → AllByRecursion IsGood (events_in ls) → AreWritten ls × AreOfText ls
 lines_good [] g = (tt, tt)
 lines_good (line.Event e ∷ ls) g = let r = lines_good ls g.1 in ((g.0.written, r.0), (g.0.fits, r.1))
 lines_good (l ∷ ls) g = let r = lines_good ls g in ((refl, r.0), (tt, r.1))
@@ -33,32 +34,47 @@ same_bytes zero b i low = omega arith
 same_bytes (suc n) b zero low = low
 same_bytes (suc n) b (suc i) low = same_bytes n b i low
 
-drive_good : (d : ℕ) → is_written (makes_drive d) ≡ true → d < 64 → IsGood (makes_drive d)
+pub drive_good : (d : ℕ) → is_written (makes_drive d) ≡ true → d < 64 → IsGood (makes_drive d)
 drive_good d named low = record {
   written = named;
   fits = (tt, (low, ((refl, λ i. same_bytes 20 11 i (omega arith)), ((omega arith, omega arith), tt))));
 }
 
-client_good : (c : ℕ) → c < 16 → IsGood (event.Client c)
+pub client_good : (c : ℕ) → c < 16 → IsGood (event.Client c)
 client_good c low = record { written = refl; fits = (tt, (low, tt)) }
 
-file_good : IsGood makes_file
+pub file_good : IsGood makes_file
 file_good = record {
   written = refl;
-  fits = (tt, (omega arith, ((omega arith, omega arith), ((omega arith, omega arith), ((omega arith, omega arith), ((omega arith, omega arith), ((omega arith, omega arith), ((omega arith, omega arith), ((omega arith, omega arith), tt)))))))));
+  fits = (
+    tt,
+    (
+      omega arith,
+      (
+        (omega arith, omega arith),
+        (
+          (omega arith, omega arith),
+          (
+            (omega arith, omega arith),
+            (
+              (omega arith, omega arith),
+              (
+                (omega arith, omega arith),
+                ((omega arith, omega arith), ((omega arith, omega arith), tt)),
+              ),
+            ),
+          ),
+        ),
+      ),
+    ),
+  );
 }
 
-first_good : IsGood first_call
+pub first_good : IsGood first_call
 first_good = record {
   written = refl;
   fits = (tt, (omega arith, (tt, (omega arith, ((omega arith, omega arith), (λ i. same_bytes 1 0 i (omega arith), tt))))));
 }
-
-offset_low : (x : ℕ) → offset_of x < 261000
-offset_low x = mod-lt (x / 2 ^ 40) (omega arith)
-
-length_low : (x : ℕ) → length_of x ≤ 1000
-length_low x = omega (arith, mod-lt (x / 2 ^ 20) {m = 1000} (omega arith))
 
 call_fits : (k x : ℕ) → AllFit (call_parts (call_of k x))
 call_fits k x = either (k % 2 == 0)
@@ -83,7 +99,7 @@ call_fits k x = either (k % 2 == 0)
       ),
     )
 
-call_good : (k x : ℕ) → IsGood (call_event k x)
+pub call_good : (k x : ℕ) → IsGood (call_event k x)
 call_good k x = record {
   written = refl;
   fits = (tt, (omega (arith, mod-lt k {m = 3} (omega arith)), call_fits k x));

@@ -7,3 +7,5 @@ pub mod Going
 pub mod Opening
 pub mod Calm
 pub mod Few
+pub mod Sums
+pub mod Kept

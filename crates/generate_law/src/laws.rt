@@ -3,17 +3,35 @@ ghost use Rattle.generate_law.specs.Calm.{ScenarioIsCalm};
 ghost use Rattle.generate_law.specs.Counts.{CallsAreOfEvents, ScenarioHasCounts};
 ghost use Rattle.generate_law.specs.Few.{EachCallTakesFew, FirstCallTakesFew};
 ghost use Rattle.generate_law.specs.Going.{CallsKeepRest};
+ghost use Rattle.generate_law.specs.Kept.{FewAreKept, NoneFillsUp, ScenarioGoesWell, ScenarioIsFew};
 ghost use Rattle.generate_law.specs.Opening.{EachCallRests, OpeningRests, ScenarioCallsEndInOk};
 ghost use Rattle.generate_law.specs.Plays.{NoneIsRefused};
 ghost use Rattle.generate_law.specs.Quiet.{ScenarioIsUnguessed, UninjectedIsUnguessed};
 ghost use Rattle.generate_law.specs.Rests.{EachCallIsReady, FirstCallIsReady, FirstRestBegins, RestsGoOn};
+ghost use Rattle.generate_law.specs.Sums.{SummaryIsPlain};
 
-use cause_law::{clients_are_read, down_is_read};
-use component_law::grants_are_in_order;
-use history_law::{drives_are_read, grants_are_safe};
+use cause_law::{
+    answers_are_fit, clients_are_read, down_is_read, files_and_answers_are_readable,
+    grants_are_fresh, places_are_enough,
+};
+use component_law::{
+    components_agree, components_stand_apart, each_object_is_owned, grants_are_in_order,
+    keys_are_known, no_tag_is_ahead, no_tag_is_behind, nothing_due_rests, offline_have_failed,
+    server_sent_its_run, sizes_agree,
+};
+use exchange_law::{
+    all_files_fit, awaited_are_taken, clients_agree, clients_are_counted, clients_are_in_step,
+    counters_stay_low, files_have_shape, server_is_counted,
+};
+use headline_law::headline_holds;
+use history_claims::ended_calls_are_logged;
+use history_law::{book_is_read, drives_are_read, grants_are_safe, unguessed_are_unforged};
 use lossless_law::lossless_is_calm;
-use ready_law::{events_stand_apart, ready_calls_end_in_ok, scenes_are_read};
-use world_history::one_event_more;
+use ready_law::{
+    clear_commands_are_carried_out, events_stand_apart, lost_are_listed, ready_calls_end_in_ok,
+    room_stays, scenes_are_read,
+};
+use world_history::{messages_are_read, one_event_more};
 
 /// Behind each front of the scenario's events the next one isn't refused: the parties that it names are there, those that it
 /// makes are new, and the server is up.
@@ -113,5 +131,62 @@ pub fn calls_take_few()
     ready_calls_end_in_ok();
     grants_are_safe();
     grants_are_in_order();
+    scenes_are_read();
+}
+
+/// If its history is calm and has few messages, its whole summary is that of the same calls on one plain list of bytes,
+/// and each of its calls ended in ok.
+pub fn summary_is_plain()
+    ensures { SummaryIsPlain }
+{
+    scenario_calls_end_in_ok();
+    ended_calls_are_logged();
+    headline_holds();
+}
+
+/// In the scenario of up to 1,000 calls each message of a call is short, and there are few. So few bytes are kept, no event
+/// stops at the limit of kept bytes, the history is calm, and each call ended in ok.
+pub fn scenario_goes_well()
+    ensures kept { FewAreKept }
+    ensures few { ScenarioIsFew }
+    ensures full { NoneFillsUp }
+    ensures well { ScenarioGoesWell }
+{
+    each_call_rests();
+    scenario_is_calm();
+    scenario_is_unguessed();
+    scenario_calls_end_in_ok();
+    one_event_more();
+    grants_are_safe();
+    grants_are_in_order();
+    nothing_due_rests();
+    clients_are_in_step();
+    counters_stay_low();
+    server_is_counted();
+    clients_are_counted();
+    all_files_fit();
+    files_have_shape();
+    clients_agree();
+    components_agree();
+    sizes_agree();
+    keys_are_known();
+    answers_are_fit();
+    awaited_are_taken();
+    grants_are_fresh();
+    places_are_enough();
+    no_tag_is_ahead();
+    no_tag_is_behind();
+    unguessed_are_unforged();
+    book_is_read();
+    messages_are_read();
+    components_stand_apart();
+    files_and_answers_are_readable();
+    each_object_is_owned();
+    server_sent_its_run();
+    clear_commands_are_carried_out();
+    room_stays();
+    lost_are_listed();
+    offline_have_failed();
+    events_stand_apart();
     scenes_are_read();
 }

@@ -23,6 +23,7 @@ mod RowsStored
 pub mod OwnEntries
 pub mod Numbers
 pub mod PlainLogged
+pub mod Called
 pub mod PlainAnswers
 pub mod PlainWrites
 pub mod PlainSent
@@ -62,6 +63,12 @@ pub mod AuditSteps
 pub mod AuditLaw
 pub mod HeardSteps
 pub mod HeardLaw
+pub mod FormatJobs
+pub mod FormatSteps
+pub mod FormatFiles
+pub mod FormatHears
+pub mod FormatLaw
+pub mod JobsWait
 pub mod ShortParts
 pub mod ShortSteps
 pub mod ShortLaw

@@ -14,20 +14,21 @@ use Rattle.scenario_text.specs.declared.names.TheConstants.{FILES}
 use Rattle.server_rules.specs.History as server
 use Rattle.client_rules.specs.Calls.{is_write}
 use Rattle.client_rules.specs.History.{Input, step}
+use Rattle.client_rules.specs.History as inputs
 use Rattle.client_rules.specs.Laws.{read_after}
 use Rattle.client_rules.proofs.ReadSteps.{reads_took_replies}
 use Rattle.world_history.specs.ServerNames.{Note}
 use Rattle.world_history.specs.ClientNames as client_rules
 use Rattle.world_history.specs.ClientNames.{Client, Call, CallOp, Outcome}
-use Rattle.world_history.specs.Handed.{Post, ended_by, end_line, op_in}
+use Rattle.world_history.specs.Handed.{Post, ended_by, end_line, op_in, pending_op}
 use Rattle.world_history.specs.Moves.{Act, Action, Opens, Delivers, TimesOut, Pends, acts, op_of}
 use Rattle.world_history.specs.Names.{is_tellable, is_tellable_note, where_known, note_line, known_note_line, known_outcome}
-use Rattle.world_history.specs.ReadLog.{Pending, Log, log_after, empty_log, log_in}
+use Rattle.world_history.specs.ReadLog.{Pending, Log, log_after, log_after_event, empty_log, log_in}
 use Rattle.world_history.specs.Sending.{Move, move, sent_lines}
 use Rattle.world_history.specs.State.{World, ClientAt, at_number}
 use Rattle.world_history.specs.Told.{kind_of}
 use Rattle.history_law.specs.Moments.{IsMoment, with_event, lines_in}
-use Rattle.history_law.specs.Moves.{MoveCases, IsQuiet, AreQuiet, front_of}
+use Rattle.history_law.specs.Moves.{MoveCases, IsForClient, IsQuiet, AreQuiet, asked_in, front_of}
 use Rattle.history_law.proofs.Each.{EachBehind, each_more, each_front, at_each_line}
 use Rattle.history_law.proofs.Moves.{each_act, front_cases}
 use Rattle.history_law.proofs.Staying.{written_front}
@@ -36,7 +37,8 @@ use Rattle.exchange_law.specs.Pending.{logged_op}
 use Rattle.exchange_law.proofs.Along.{lawful}
 use Rattle.exchange_law.proofs.CountGrowing.{fewer, text_front}
 use Rattle.headline_law.specs.Claim.{IsOfScenario}
-use Rattle.history_claims.specs.Logged.{IsLoggedAt, HasItsEntry, EndedAreLogged}
+use Rattle.history_claims.specs.Logged.{IsCalled, IsLoggedAt, HasItsEntry, EndedAreLogged}
+use Rattle.history_claims.proofs.Called.{Asks, called_by, later_calls_none}
 use Rattle.history_claims.proofs.OwnEntries.{entries_are_own}
 use Rattle.history_claims.proofs.PlainLogged.{LoggedLaws, OfClient, reads_by, all_logged, sound}
 use Rattle.history_claims.proofs.PlainPending.{IsIn, event_keeps}
@@ -119,16 +121,38 @@ module _ (laws : LoggedLaws) (w : World) (h : List Line) (k : IsMoment w h) (cho
   abbrev Base : List Line → Type 0
   Base b = ((p : Pending) (c : ℕ) → at_number (log_in h).pending c ≡ Some p → at_number (log_in b).pending c ≡ Some p)
       × (IsOfScenario b → IsOfScenario h)
+      × ((c : ℕ) (op : CallOp) → Asks action c op → IsCalled (log_in b) c)
 
   base_more : (b : List Line) (x : Line) → log_after (log_in b) x ≡ log_in b → Base b → Base (b ++ x ∷ [])
   base_more b x same base = (
     λ p c is. ap (λ (l : Log). at_number l.pending c) (same_log b x same) ∙ base.0 p c is,
     λ s. base.1 (scenario_front b (x ∷ []) s),
+    λ c op is. subst (λ (l : Log). IsCalled l c) (sym (same_log b x same)) (base.2 c op is),
   )
 
   module _ (c : ℕ) (a : ClientAt) (found : at_number w.clients c ≡ Some a) (i : Input) where
     o : OfClient h c a.state
     o = all_logged laws scenario_front w h k c a found
+
+    -- the call that the step is about is pending
+    its_call : (b : List Line) → Base b → IsOfScenario b → IsForClient w action c a i → (op : CallOp)
+        → op_in a.state i ≡ Some op → IsCalled (log_in b) c
+    its_call b base s given op is = by i given is
+      where
+        old : pending_op a.state ≡ Some op → IsCalled (log_in b) c
+        old some = from (at_number (log_in h).pending c) refl
+          where
+            logged : logged_op (at_number (log_in h).pending c) ≡ Some op
+            logged =
+                laws.pending w h k (base.1 s) c ∙ ap (λ (z : Client). pending_op z) (ap (state_of c) found) ∙ some
+
+            from : (o : Option Pending) → at_number (log_in h).pending c ≡ o → IsCalled (log_in b) c
+            from None none = absurd (cc (sym (ap logged_op none) ∙ logged))
+            from (Some p) there = (p, base.0 p c there)
+
+        by : (j : Input) → IsForClient w action c a j → op_in a.state j ≡ Some op → IsCalled (log_in b) c
+        by (inputs.Calls x) given is = base.2 c x given
+        by j given is = old is
 
     -- the entry of its call
     its_entry : (b : List Line) → Base b → IsOfScenario b → (call : Call) → a.state.call ≡ Some call → (write : Bool) →
@@ -165,22 +189,26 @@ module _ (laws : LoggedLaws) (w : World) (h : List Line) (k : IsMoment w h) (cho
         its_entry b base s n.call n.pending false read (o.logged (base.1 s) n read)
 
     -- a write that is acknowledged
-    acknowledged : (b : List Line) → Base b → (count : ℕ) → (step a.state i).outcome ≡ Some (client_rules.WriteOk count) →
+    acknowledged : (b : List Line) → Base b → IsForClient w action c a i → (op : CallOp) → op_in a.state i ≡ Some op →
+        (count : ℕ) → (step a.state i).outcome ≡ Some (client_rules.WriteOk count) →
         At b (line.Ended c (outcome.WriteOk count))
-    acknowledged b base count is s some = elim (written_late a.state i (sound c a.state o) count is) [
-      | inl none ↦ absurd (some none)
-      | inr late ↦
-          let w = o.wrote (base.1 s) late in its_entry b base s late.call late.pending true w.1 w.0
-    ]
+    acknowledged b base given op about count is s = (
+      its_call b base s given op about,
+      λ some. elim (written_late a.state i (sound c a.state o) count is) [
+        | inl none ↦ absurd (some none)
+        | inr late ↦
+            let w = o.wrote (base.1 s) late in its_entry b base s late.call late.pending true w.1 w.0
+      ],
+    )
 
-    ended_at : (b : List Line) → Base b → (p : Option CallOp) (o : Option Outcome) → (step a.state i).outcome ≡ o →
-        EachBehind At b (ended_by c p o)
-    ended_at b base None o is = tt
-    ended_at b base (Some p) None is = tt
-    ended_at b base (Some p) (Some o) is =
+    ended_at : (b : List Line) → Base b → IsForClient w action c a i → (p : Option CallOp) (o : Option Outcome) →
+        op_in a.state i ≡ p → (step a.state i).outcome ≡ o → EachBehind At b (ended_by c p o)
+    ended_at b base given None o about is = tt
+    ended_at b base given (Some p) None about is = tt
+    ended_at b base given (Some p) (Some o) about is =
         other_end b c (kind_of p) o (λ bytes e.
         answered b base bytes (is ∙ ap (λ (z : Outcome). Some z) e)) (λ count e.
-        acknowledged b base count (is ∙ ap (λ (z : Outcome). Some z) e))
+        acknowledged b base given p about count (is ∙ ap (λ (z : Outcome). Some z) e))
 
   module _ (b : List Line) (base : Base b) where
     abbrev Told : Act → Type 0
@@ -204,7 +232,7 @@ module _ (laws : LoggedLaws) (w : World) (h : List Line) (k : IsMoment w h) (cho
           (λ x bx. notes_at x (server.step w.server chosen i).notes);
       goes = λ ms said c a found i is.
           front_at delivery.Taken (ended_by c (op_in a.state i) (step a.state i).outcome)
-          (λ x bx. ended_at c a found i x bx (op_in a.state i) (step a.state i).outcome refl);
+          (λ x bx. ended_at c a found i x bx is (op_in a.state i) (step a.state i).outcome refl refl);
       comes = λ c is. tt;
       stops = λ c a found. tt;
       judged = λ ms said d a found hears m number. (λ s. tt, tt);
@@ -228,24 +256,26 @@ module _ (laws : LoggedLaws) (w : World) (h : List Line) (k : IsMoment w h) (m :
       (sent_at (b ++ act.told) (length act.world.network.messages) act.posts)
 
   move_at : EachBehind At h (lines_in w m)
-  move_at = by m.action
+  move_at = by m.action refl
     where
-      plain : EachBehind At h (move w m).lines
-      plain = all_at h (λ p c is. is, λ s. s)
+      plain : ((c : ℕ) (op : CallOp) → Asks m.action c op → IsCalled (log_in h) c) → EachBehind At h (move w m).lines
+      plain none = all_at h (λ p c is. is, λ s. s, none)
 
-      by : (a : Action) → EachBehind At h (with_event a (move w m).lines)
-      by (Opens e) = (
-        λ s. tt,
-        all_at (h ++ line.Event e ∷ []) (
-          λ p c is.
-              ap (λ (l : Log). at_number l.pending c) (fold-append log_after empty_log h (line.Event e ∷ []))
-              ∙ event_keeps c (log_in h) e p is,
-          λ s. scenario_front h (line.Event e ∷ []) s,
-        ),
-      )
-      by (Delivers n) = plain
-      by (TimesOut c j) = plain
-      by (Pends c) = plain
+      by : (a : Action) → m.action ≡ a → EachBehind At h (with_event a (move w m).lines)
+      by (Opens e) same =
+          let behind : log_in (h ++ line.Event e ∷ []) ≡ log_after_event (log_in h) e =
+          fold-append log_after empty_log h (line.Event e ∷ []) in (
+            λ s. tt,
+            all_at (h ++ line.Event e ∷ []) (
+              λ p c is. ap (λ (l : Log). at_number l.pending c) behind ∙ event_keeps c (log_in h) e p is,
+              λ s. scenario_front h (line.Event e ∷ []) s,
+              λ c op is.
+                  subst (λ (l : Log). IsCalled l c) (sym behind) (called_by (log_in h) e c op (sym (ap asked_in same) ∙ is)),
+            ),
+          )
+      by (Delivers n) same = plain (λ c op is. absurd (cc (sym (ap asked_in same) ∙ is)))
+      by (TimesOut k j) same = plain (λ c op is. later_calls_none m.action k j (ap asked_in same) c op is)
+      by (Pends q) same = plain (λ c op is. absurd (cc (sym (ap asked_in same) ∙ is)))
 
 -- Each of them has its entry.
 pub ended_are_logged : LoggedLaws → EndedAreLogged

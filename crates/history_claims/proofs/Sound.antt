@@ -21,6 +21,7 @@ use Rattle.history_claims.specs.Sound.{HistoriesAreSound}
 use Rattle.history_claims.specs.LeftShort.{RepairsLeaveShort}
 use Rattle.history_claims.specs.Logged.{EndedAreLogged}
 use Rattle.history_claims.specs.Audits.{EachFoundHasItsCause}
+use Rattle.history_claims.specs.Formats.{EachFormatHasItsCause}
 use Rattle.history_claims.specs.Heard.{EachHeardHasItsCause}
 use Rattle.history_claims.specs.Notes.{EachNoteHasItsCause}
 use Rattle.history_claims.specs.Numbered.{MessagesAreNumbered}
@@ -35,6 +36,7 @@ use Rattle.history_claims.specs.Plain.{ReadyReadsArePlain}
 use Rattle.history_claims.specs.Reach.{EachReachHasItsCause}
 use Rattle.history_claims.specs.Refusals.{EachRefusalIsTold}
 use Rattle.history_claims.specs.Stages.{EachStageHasItsEnd}
+use Rattle.history_claims.specs.Waiting.{EachJobWaits}
 use Rattle.component_law.specs.Given.{GrantsAreOlder}
 use Rattle.component_law.specs.Live.{EachAnswerIsLive}
 use Rattle.component_law.specs.Barred.{GivenIsBarred}
@@ -100,12 +102,13 @@ pub histories_are_sound : HistoriesAreSafe → VerdictsAreAnswered → CommandsA
     → AuditsFindNone → EachRepairLeavesNone → MessagesAreNumbered → WritesAreStored → MessagesAreReceived → EachEventDelivers
     → EachIsTimedOut → EachIsRefused → EachRecallIsCaused → RepliesCarryBytes → EachNoteHasItsCause → EachStageHasItsEnd
     → EachRefusalIsTold → EachReachHasItsCause → EachEndedHasItsCause → EachFoundHasItsCause → EachHeardHasItsCause
-    → RepairsLeaveShort → WithinTheLimitAreFew
+    → EachFormatHasItsCause → EachJobWaits → RepairsLeaveShort → WithinTheLimitAreFew
     → HistoriesAreSound
 histories_are_sound safe answered issued listed fair ranges fronts apart spread created own fenced live given older barred exact
     allowed lanes lanes_own judged awaited low ends outcomes read bytes tags caused told changed gone lost raised waits until sent
     barred_by named objects said left unanswered borne ready leaves logged plain right audits mended numbered stored
-    received delivers silent refuses recalled carried noted stages refusals reached ended found heard short few = record {
+    received delivers silent refuses recalled carried noted stages refusals reached ended found heard formats
+    waiting short few = record {
       sound = λ h l. record {
         safe = safe h l;
         answered = λ w s. answered w h s;
@@ -161,6 +164,8 @@ histories_are_sound safe answered issued listed fair ranges fronts apart spread 
         reached = λ w s a. reached w h s a;
         found = λ w s a. found w h s a;
         heard = λ w s a. heard w h s a;
+        formats = λ w s a. formats w h s a;
+        waiting = λ before after is. waiting before;
         logged = λ written text few. logged h l written text few;
         said = λ w g k m rest d is. said w g k m d;
         left = λ w g k m rest d is. left w g k m d;

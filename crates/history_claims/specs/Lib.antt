@@ -19,4 +19,6 @@ pub mod Reach
 pub mod Refusals
 pub mod Audits
 pub mod Heard
+pub mod Formats
+pub mod Waiting
 pub mod LeftShort

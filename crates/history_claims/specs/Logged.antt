@@ -30,6 +30,10 @@ pub record IsOwnEntry (entries : List Logged) (client : ℕ) (x : Call) (n : ℕ
   pub file : logged.file ≡ file_of (op_of x)
   pub says : IsOfCall x logged.entry
 
+-- A call of the client is pending by the log.
+abbrev pub IsCalled : Log → (client : ℕ) → Type 0
+IsCalled l c = (p : Pending) × (at_number l.pending c ≡ Some p)
+
 -- The pending call of a client, a write or a read, has its own entry in the log.
 pub record HasItsEntry (l : Log) (client : ℕ) (write : Bool) : Type 0 where
   pub pending : Pending
@@ -40,10 +44,11 @@ pub record HasItsEntry (l : Log) (client : ℕ) (write : Bool) : Type 0 where
   pub own : IsOwnEntry l.entries client pending.call number
 
 -- So it is where a line tells that a read was answered, or that some bytes were written. The line fills its answer, or its
--- acknowledgement, in.
+-- acknowledgement, in. Where it tells that no byte was written, the call is pending too, and may have no entry.
 abbrev pub IsLoggedAt : List Line → Line → Type 0
 IsLoggedAt before (line.Ended c (ReadOk bytes)) = HasItsEntry (log_in before) c false
-IsLoggedAt before (line.Ended c (WriteOk count)) = (count ≡ 0 → ⊥) → HasItsEntry (log_in before) c true
+IsLoggedAt before (line.Ended c (WriteOk count)) =
+    IsCalled (log_in before) c × ((count ≡ 0 → ⊥) → HasItsEntry (log_in before) c true)
 IsLoggedAt before l = Unit {0}
 
 -- so it is in each lawful history of a scenario's text with few messages

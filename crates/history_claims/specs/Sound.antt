@@ -59,11 +59,13 @@ use Rattle.cause_law.specs.Reopened.{CrashesBarAt}
 use Rattle.component_law.specs.TagTags.{HaveTagsAt}
 use Rattle.headline_law.specs.Claim.{HasNoBadAudit, IsRightIfCalm, RepairedAt}
 use Rattle.history_claims.specs.Audits.{FoundsHaveCauses}
+use Rattle.history_claims.specs.Formats.{FormatsHaveCauses}
 use Rattle.history_claims.specs.Heard.{HeardHaveCauses}
 use Rattle.history_claims.specs.Notes.{NotesHaveCauses}
 use Rattle.history_claims.specs.Reach.{ReachesHaveCauses}
 use Rattle.history_claims.specs.Refusals.{RefusalsAreTold}
 use Rattle.history_claims.specs.Stages.{StagesHaveEnds}
+use Rattle.history_claims.specs.Waiting.{JobsWait}
 use Rattle.history_claims.specs.Texts.{EventsMakeText, CutsGoOn}
 
 -- What the lines of a sound history say.
@@ -162,6 +164,8 @@ pub record IsSound (h : List Line) : Type 0 where
   -- and what it awaits no more was answered, or its drive was taken out, or the server crashed or was opened; or another
   -- component was lost, and the job begins a piece that it reads again, or gives the target of a rebuild up
   pub until : (w : World) → StandsFor w h → AreWritten h → AwaitedHaveEnds h
+  -- at each moment a job that runs awaits some command: so one that has its last answer goes on in the same step, or is over
+  pub waiting : AtEachMoment JobsWait h
   -- so at each moment each command that a job awaits was sent to its drive, as far as a line can name the drive
   pub sent : AtEachMoment WereSentAt h
   -- at each moment of a history of a scenario's text with few messages, each file that had a live grant or a fence when the
@@ -203,6 +207,10 @@ pub record IsSound (h : List Line) : Type 0 where
   -- `high` of a file stays, or rises to the end of a grant for writing that is live behind the step, and it reaches the end of
   -- each such grant that wasn't live before
   pub reached : (w : World) → StandsFor w h → AreWritten h → ReachesHaveCauses h
+  -- the format of each file stays, but with the begin of a fence it becomes the server's, if that is greater, and it is 2 where
+  -- a command of its job has too old a one and goes again; what its job awaits anew has it. A file that is made begins with the
+  -- server's, which rises only by an event that asks for more
+  pub formats : (w : World) → StandsFor w h → AreWritten h → FormatsHaveCauses h
   -- the line of each message has the number of messages before it
   pub numbered : AtEachLine NumberedAt h
   -- what is delivered was sent. Its receiver is deaf to it exactly if it has failed, is down, was stopped, or isn't there; else a

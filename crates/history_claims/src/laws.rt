@@ -15,8 +15,8 @@ ghost use Rattle.history_claims.specs.Spread.{ComponentsStandSpread};
 ghost use Rattle.history_claims.specs.Stored.{WritesAreStored};
 
 use crate::note_laws::{
-    founds_have_causes, heard_have_causes, notes_have_causes, reaches_have_causes,
-    refusals_are_told, stages_have_ends,
+    formats_have_causes, founds_have_causes, heard_have_causes, jobs_wait, notes_have_causes,
+    reaches_have_causes, refusals_are_told, stages_have_ends,
 };
 use cause_law::{
     answers_are_of_replies, awaited_have_causes, awaited_have_ends, awaited_were_sent,
@@ -201,15 +201,16 @@ pub fn ready_reads_are_plain()
 /// layout can't be used or since a command lies outside its capability, none is refused since its client has no
 /// sequence number left, and the server's counters have room. Each call ends as what it met says: the answers and
 /// replies that it took, and timeouts, or is left pending at the end of its event; and a read is answered by what was
-/// read of drives in its call; an acknowledged write stored its bytes. One that is left pending waits for the answer to an older request, or its server is
-/// down. In a whole history each new request is answered in its step by the first row that applies to its file's
-/// book, any other answer repeats the last one or says that its request is misordered, and nothing else makes a grant
-/// live or ends one but a fence. There a file's tag changes exactly with the note that a fence of it is over, its
-/// components as notes and declarations say, and what its job awaits was sent and isn't answered. A crash of the
-/// server bars each file that had a grant or a fence, until a fence of it is over, and no grant and no object number
-/// comes twice. A recall is of a live grant, by an order or since a request is told to try later. A party is deaf to a
-/// message exactly if it failed, is down or was stopped, an event delivers just what it has to, and a component times
-/// out, and a client refuses, only where they have to.
+/// read of drives in its call; an acknowledged write stored its bytes. One that is left pending waits for the answer
+/// to an older request, or its server is down. In a whole history each new request is answered in its step by the
+/// first row that applies to its file's book, any other answer repeats the last one or says that its request is
+/// misordered, and nothing else makes a grant live or ends one but a fence. There a file's tag changes exactly with
+/// the note that a fence of it is over, its components as notes and declarations say, its format with a fence or a
+/// command of too old a format, and what its job awaits, something while it runs, was sent and isn't answered. A
+/// crash of the server bars each file that had a grant or a fence, until a fence of it is over, and no grant and no
+/// object number comes twice. A recall is of a live grant, by an order or since a request is told to try later. A
+/// party is deaf to a message exactly if it failed, is down or was stopped, an event delivers just what it has to,
+/// and a component times out, and a client refuses, only where they have to.
 /// Each call that is ready ends in ok if its event is over, within its bound of messages; a ready read
 /// whose event is calm gives what the writes before it leave in order, if each of these was acknowledged; and as long
 /// as few drives fail no stripe is beyond its code. Up to each place up to which such a history is calm and
@@ -284,6 +285,8 @@ pub fn histories_are_sound()
     ended_have_causes();
     founds_have_causes();
     heard_have_causes();
+    formats_have_causes();
+    jobs_wait();
     repairs_leave_counted_short();
     within_the_limit_are_few();
 }

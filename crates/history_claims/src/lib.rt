@@ -3,10 +3,11 @@
 //! The parts are laws of the crates below: `history_law`, `exchange_law`, `component_law`, `cause_law`, `ready_law`
 //! and `headline_law`. Here are more: messages are numbered as they are sent, and are taken by who hears; an event
 //! delivers what it has to; what a repair leaves short it counted, and it is short; a component times out, and a client
-//! refuses, where it has to; a recall has its cause; what replies carry are bytes, if messages are; at each moment the components of a zoned file are spread over zones; if a file
-//! is made, its CREATEs go to its components' drives; a call that ended in ok has its entry in the log; an acknowledged
-//! write has stored its bytes; a ready read of a calm event gives what the writes before it leave; and each note of the
-//! server has its cause, and what a job is at ends with its note.
+//! refuses, where it has to; a recall has its cause; what replies carry are bytes, if messages are; at each moment the
+//! components of a zoned file are spread over zones; if a file is made, its CREATEs go to its components' drives; a call
+//! that ended in ok has its entry in the log; an acknowledged write has stored its bytes; a ready read of a calm event
+//! gives what the writes before it leave; each note of the server has its cause, what a job is at ends with its note,
+//! and until then the job awaits something; and a file's format changes only as it has to.
 #![tactic(auto)]
 
 mod laws;
@@ -19,6 +20,6 @@ pub use laws::{
     replies_carry_bytes, writes_are_stored,
 };
 pub use note_laws::{
-    founds_have_causes, heard_have_causes, notes_have_causes, reaches_have_causes,
-    refusals_are_told, stages_have_ends,
+    formats_have_causes, founds_have_causes, heard_have_causes, jobs_wait, notes_have_causes,
+    reaches_have_causes, refusals_are_told, stages_have_ends,
 };

@@ -1,14 +1,16 @@
-// What the server notes of files, and how far their grants for writing reached.
+// What the server notes of files, how far their grants for writing reached, and their formats.
 ghost use Rattle.history_claims.specs.Audits.{EachFoundHasItsCause};
+ghost use Rattle.history_claims.specs.Formats.{EachFormatHasItsCause};
 ghost use Rattle.history_claims.specs.Heard.{EachHeardHasItsCause};
 ghost use Rattle.history_claims.specs.Notes.{EachNoteHasItsCause};
 ghost use Rattle.history_claims.specs.Reach.{EachReachHasItsCause};
 ghost use Rattle.history_claims.specs.Refusals.{EachRefusalIsTold};
 ghost use Rattle.history_claims.specs.Stages.{EachStageHasItsEnd};
+ghost use Rattle.history_claims.specs.Waiting.{EachJobWaits};
 
 use component_law::{each_step_raises_tags, seen_is_sound};
 use history_law::{book_is_read, grants_are_safe, server_moves, step_is_read};
-use server_rules::conflicts_are_exact;
+use server_rules::{conflicts_are_exact, each_step_is_safe, files_are_put};
 use world_history::{one_event_more, reading_goes_on};
 
 /// In a whole history whose events a text may have, each note of the server has its cause in what the books have of the
@@ -100,4 +102,30 @@ pub fn reaches_have_causes()
     server_moves();
     one_event_more();
     reading_goes_on();
+}
+
+/// In such a history the format of a file stays in each step, unless a fence of it begins, with which it becomes the
+/// server's if that is greater, or a command of its job is answered as of too old a format, which then goes again in
+/// format 2, and so it is the file's. What its job awaits anew has its format. A file that is made begins with the
+/// server's, which rises by an event that asks for more, and by nothing else.
+pub fn formats_have_causes()
+    ensures { EachFormatHasItsCause }
+{
+    files_are_put();
+    each_step_raises_tags();
+    seen_is_sound();
+    grants_are_safe();
+    book_is_read();
+    step_is_read();
+    server_moves();
+    one_event_more();
+    reading_goes_on();
+}
+
+/// By the book of any lines, a job that runs awaits some command. So one whose last answer comes goes on in the same
+/// step, or is over.
+pub fn jobs_wait()
+    ensures { EachJobWaits }
+{
+    each_step_is_safe();
 }

@@ -15,6 +15,8 @@ mod judge;
 #[cfg(test)]
 mod language;
 #[cfg(test)]
+mod many_connections;
+#[cfg(test)]
 mod stored_drives;
 #[cfg(test)]
 mod stores;

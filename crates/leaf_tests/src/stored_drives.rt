@@ -11,23 +11,23 @@ use std::alloc::Global;
 
 const KEY: [u8; DRIVE_KEY_BYTES] = [11; DRIVE_KEY_BYTES];
 
-const CAPACITY: u64 = 1_000_000;
+pub const CAPACITY: u64 = 1_000_000;
 
 // How many calls of a disk a new store takes, and a change.
-const CREATE: u32 = 3;
+pub const CREATE: u32 = 3;
 
 const CHANGE: u32 = 4;
 
 // What is asked of one object, under a capability that allows all of it.
 #[derive(Clone, Copy)]
-struct Ask {
+pub struct Ask {
     action: Action,
     nonce: u64,
     length: u64,
     payload: &'static [u8],
 }
 
-const MAKE: Ask = Ask {
+pub const MAKE: Ask = Ask {
     action: Action::Create,
     nonce: 1,
     length: 0,
@@ -55,7 +55,7 @@ const FENCE: Ask = Ask {
     payload: b"",
 };
 
-const READ: Ask = Ask {
+pub const READ: Ask = Ask {
     action: Action::Read,
     nonce: 9,
     length: 9,
@@ -70,17 +70,17 @@ const ASK_NAME: Ask = Ask {
 };
 
 // Verdicts of replies.
-const PERFORMED: u16 = 0;
+pub const PERFORMED: u16 = 0;
 
 const OTHER_OBJECT: u16 = 5;
 
-const NO_OBJECT: u16 = 7;
+pub const NO_OBJECT: u16 = 7;
 
 const OTHER_TAG: u16 = 9;
 
 const OLD_FORMAT: u16 = 17;
 
-fn keys(alloc: Global) -> KeyTable {
+pub fn keys(alloc: Global) -> KeyTable {
     let mut keys = KeyTable::new(alloc);
     let _ = keys.push(DriveKey {
         version: 1,
@@ -90,7 +90,7 @@ fn keys(alloc: Global) -> KeyTable {
 }
 
 // The bytes of a command. All capabilities name tag 1.
-fn message(alloc: Global, ask: Ask) -> Bytes {
+pub fn message(alloc: Global, ask: Ask) -> Bytes {
     let capability = Capability {
         format: FORMAT_SHA1,
         key_version: 1,
@@ -342,11 +342,11 @@ const RECORDS: &[(&[Body], Opened)] = &[
     (&[Body::Bytes(&[1])], Opened::Refused(24)),
     (&[Body::Bytes(b"no command")], Opened::Refused(24)),
     (&[Body::Of(WRITE)], Opened::Refused(24)),
-    (&[Body::Of(MAKE), Body::Of(READ)], Opened::Refused(290)),
-    (&[Body::Of(MAKE), Body::Of(MAKE)], Opened::Refused(290)),
+    (&[Body::Of(MAKE), Body::Of(READ)], Opened::Refused(298)),
+    (&[Body::Of(MAKE), Body::Of(MAKE)], Opened::Refused(298)),
     (
         &[Body::Of(MAKE), Body::Bytes(&[SECOND_FORMAT, 2])],
-        Opened::Refused(290),
+        Opened::Refused(298),
     ),
 ];
 

@@ -1,6 +1,6 @@
 //! Logs on disks in memory, which crash and of which calls fail.
 use crate::ends::{copied, numbers};
-use gate_log::{Entry, GateLog, LogErr, LogReader, MAX_BODY};
+use gate_log::{Entry, GateLog, LogErr, LogReader, MAX_BODY, crc_32};
 use osd_disk::{Disk, MemDisk};
 use osd_lists::Bytes;
 use std::alloc::Global;
@@ -13,15 +13,28 @@ const BODIES: &[&[u8]] = &[b"abc", b"defgh"];
 // The bytes of a log with both.
 const WHOLE: &[u8] =
     b"\x07\x07\x07\x07\x07\x07\x07\x07\x07\x07\x07\x07\x07\x07\x07\x07\x07\x07\x07\x07\x07\x07\x07\x07\
-    \x01\x00\x00\x00\x03abc\x01\x00\x00\x00\x05defgh\x00";
+    \xff\xff\xff\xff\xfc\x00\x00\x00\x03abc\x35\x24\x41\xc2\
+    \xff\xff\xff\xff\xfa\x00\x00\x00\x05defgh\x83\xe7\x82\x39\x00";
+
+// Where its gates stand.
+const FIRST_GATE: usize = 24;
+
+const SECOND_GATE: usize = 40;
+
+const LAST_GATE: usize = 58;
+
+// The bytes of a log whose first record is as earlier versions wrote it.
+const MIXED: &[u8] =
+    b"\x07\x07\x07\x07\x07\x07\x07\x07\x07\x07\x07\x07\x07\x07\x07\x07\x07\x07\x07\x07\x07\x07\x07\x07\
+    \x01\x00\x00\x00\x03abc\xff\xff\xff\xff\xfa\x00\x00\x00\x05defgh\x83\xe7\x82\x39\x00";
 
 // How many calls of a disk a new log takes, and a record that is added.
 const CREATE: u32 = 3;
 
 const APPEND: u32 = 4;
 
-// How many calls the opening of that log takes: a sync, the size, the header, the first gate, and two reads a record.
-const OPEN: u32 = 8;
+// How many calls the opening of that log takes: a sync, the size, the header, the first gate, and three reads a record.
+const OPEN: u32 = 10;
 
 // Adds bodies to a log, as far as that goes.
 fn add_all<D: Disk>(alloc: Global, log: &mut GateLog<D>, bodies: &[&[u8]]) {
@@ -144,7 +157,7 @@ fn a_log_is_written_as_its_page_says(rt: HostRuntime) {
 
 // Where a log of so many bytes is refused.
 fn place_of_prefix(len: usize) -> u64 {
-    if len <= 32 { 24 } else { 32 }
+    if len <= SECOND_GATE { 24 } else { 40 }
 }
 
 #[test]
@@ -156,46 +169,87 @@ fn a_log_cut_short_is_refused_at_its_place(rt: HostRuntime) {
     }
 }
 
-// A log's bytes with one of them changed.
-fn with_byte(alloc: Global, at: usize, value: u8) -> Bytes {
-    let mut changed = copied(alloc, WHOLE);
-    if at < changed.len() {
-        *changed.get_mut(at) = value;
+// How a log of these bytes is opened if one bit of this byte turned.
+fn opened_turned(alloc: Global, log: &[u8], at: usize, bit: u32) -> OpenedLog {
+    let mut bytes = copied(alloc, log);
+    if at < bytes.len() && bit < 8 {
+        let byte = *bytes.get(at);
+        *bytes.get_mut(at) = byte ^ (1u8 << bit);
     }
-    changed
+    opened_bytes(alloc, bytes, &[])
 }
 
-// A place, the byte that stands there now, and how the log is opened: gates, lengths, and a byte of a body.
-const CHANGED: &[(usize, u8, OpenedLog)] = &[
-    (24, 0, OpenedLog::Records(0)),
-    (24, 255, OpenedLog::Records(2)),
-    (25, 1, OpenedLog::Refused(24)),
-    (26, 1, OpenedLog::Refused(24)),
-    (27, 1, OpenedLog::Refused(24)),
-    (28, 0, OpenedLog::Refused(24)),
-    (28, 14, OpenedLog::Refused(24)),
-    (28, 13, OpenedLog::Records(1)),
-    (29, 0, OpenedLog::Records(2)),
-    (32, 0, OpenedLog::Records(1)),
-    (32, 255, OpenedLog::Records(2)),
-    (33, 1, OpenedLog::Refused(32)),
-    (34, 1, OpenedLog::Refused(32)),
-    (35, 1, OpenedLog::Refused(32)),
-    (36, 0, OpenedLog::Refused(32)),
-    (36, 6, OpenedLog::Refused(32)),
-    (36, 4, OpenedLog::Refused(41)),
-    (42, 7, OpenedLog::Refused(42)),
-];
+// How the log is opened if a bit of this byte turned. The header isn't the log's to judge, and a gate stays open.
+fn opened_where_turned(at: usize) -> OpenedLog {
+    if at <= FIRST_GATE || at == SECOND_GATE {
+        OpenedLog::Records(2)
+    } else if at == LAST_GATE {
+        OpenedLog::Refused(58)
+    } else if at < SECOND_GATE {
+        OpenedLog::Refused(24)
+    } else {
+        OpenedLog::Refused(40)
+    }
+}
 
 #[test]
-fn a_changed_byte_shows_where_it_says(rt: HostRuntime) {
+fn a_turned_bit_shows_where_it_says(rt: HostRuntime) {
     let alloc = rt.alloc();
-    for (at, value, how) in CHANGED.iter() {
-        assert!(rt; opened_bytes(alloc, with_byte(alloc, *at, *value), &[]) == *how);
+    for at in 0..WHOLE.len() {
+        for bit in 0..8u32 {
+            assert!(rt; opened_turned(alloc, WHOLE, at, bit) == opened_where_turned(at));
+        }
     }
-    for at in 0..24usize {
-        assert!(rt; opened_bytes(alloc, with_byte(alloc, at, 0), &[]) == OpenedLog::Records(2));
+}
+
+// How many bytes are turned, bit by bit, of a log with so many records, each of which has so many bytes with its gate.
+const TURNED: usize = 4096;
+
+const RECORDS: u32 = 14;
+
+const RECORD: usize = 313;
+
+const LONG_BODY: &[u8] = &[5; 300];
+
+// The bytes of a log whose records have bodies of 300 bytes.
+fn long_log(alloc: Global) -> Bytes {
+    let Ok(mut log) = GateLog::create(MemDisk::new(alloc, numbers(alloc, &[])), HEADER) else {
+        return Bytes::new(alloc);
+    };
+    for _ in 0..RECORDS {
+        add_all(alloc, &mut log, &[LONG_BODY]);
     }
+    copied(alloc, log.into_disk().bytes())
+}
+
+#[test]
+fn each_bit_that_turns_in_a_long_log_shows(rt: HostRuntime) {
+    let alloc = rt.alloc();
+    let log = long_log(alloc);
+    for at in FIRST_GATE..TURNED {
+        let gate = at - (at - FIRST_GATE) % RECORD;
+        let how = if at == gate {
+            OpenedLog::Records(RECORDS)
+        } else {
+            OpenedLog::Refused(gate as u64)
+        };
+        for bit in 0..8u32 {
+            assert!(rt; opened_turned(alloc, log.as_slice(), at, bit) == how);
+        }
+    }
+}
+
+#[test]
+fn a_record_of_an_earlier_version_is_read(rt: HostRuntime) {
+    let alloc = rt.alloc();
+    let disk = MemDisk::holding(alloc, copied(alloc, MIXED), numbers(alloc, &[]));
+    assert!(rt; opens_with(alloc, disk, BODIES));
+}
+
+#[test]
+fn the_checksum_is_that_of_the_standard(rt: HostRuntime) {
+    let sum = crc_32(b"123456789");
+    assert!(rt; sum == 0xcbf4_3926);
 }
 
 #[test]

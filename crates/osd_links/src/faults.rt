@@ -57,8 +57,8 @@ pub enum Cause {
 }
 
 impl Cause {
-    // Why a call of the system failed on a socket.
-    pub(crate) fn of(e: io::Error) -> Self {
+    /// Why a call of the system failed on a socket.
+    pub fn of(e: io::Error) -> Self {
         match e.kind() {
             ErrorKind::ConnectionRefused => Cause::Refused,
             ErrorKind::HostUnreachable | ErrorKind::NetworkUnreachable | ErrorKind::NetworkDown =>
@@ -73,8 +73,8 @@ impl Cause {
         }
     }
 
-    // Why an address gave no place to connect to or to listen at.
-    pub(crate) fn of_address(e: io::Error) -> Self {
+    /// Why an address gave no place to connect to or to listen at.
+    pub fn of_address(e: io::Error) -> Self {
         match e.kind() {
             ErrorKind::InvalidInput => Cause::Malformed,
             _ => Cause::NoHost,

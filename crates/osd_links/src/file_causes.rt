@@ -14,6 +14,8 @@ pub enum FileCause {
     NotAFile,
     /// Another process has the file open as its disk.
     InUse,
+    /// Others than its owner may read or write the file, and this user can't change that.
+    NotPrivate,
     /// The system doesn't allow it.
     Forbidden,
     /// No space is left for the file.
@@ -43,6 +45,8 @@ impl FileCause {
             FileCause::NoFolder => "its folder doesn't exist",
             FileCause::NotAFile => "it is no plain file",
             FileCause::InUse => "another process has it open",
+            FileCause::NotPrivate =>
+                "others may read or write it, and only its owner can change that",
             FileCause::Forbidden => "the system doesn't allow it",
             FileCause::Full => "no space is left for it",
             FileCause::TooLong => "it would get too long",

@@ -7,14 +7,17 @@ use crate::read_ahead::ReadAhead;
 use crate::write_ahead::WriteAhead;
 use osd_disk::{Disk, DiskErr};
 use std::alloc::AllocGlobal;
-use std::fs::{File, OpenOptions, TryLockError};
+use std::fs::{File, OpenOptions, Permissions, TryLockError};
 use std::io;
 use std::os::fd::AsRawFd;
-use std::os::unix::fs::{FileExt, OpenOptionsExt};
+use std::os::unix::fs::{FileExt, OpenOptionsExt, PermissionsExt};
 use std::rt::Files;
 
-// Who may read and write a new file: its owner alone.
+// Who may read and write the file: its owner alone.
 const OWNER_ALONE: u32 = 0o600;
+
+// What a file's group and all others may do with it.
+const OF_OTHERS: u32 = 0o077;
 
 // No file has bytes from this place on.
 const MAX_SIZE: u64 = 1 << 63;
@@ -26,7 +29,8 @@ const STANDARD_ERROR: i32 = 2;
 /// trait says is trusted.
 ///
 /// After a call that failed each call fails, since what a failed sync left behind isn't known. The
-/// file is locked against other processes as long as the disk is open.
+/// file is locked against other processes as long as the disk is open. Whoever made it, only its owner may read and write it once
+/// it is open (mode 0600): where that can't be set, since another user owns it, it isn't opened.
 ///
 /// What is read is read ahead: reads that follow one another, as those of a log, cost few calls of the system.
 ///
@@ -109,10 +113,23 @@ fn open_locked<R: Files<File = File>>(runtime: &R, name: &str) -> Result<File, F
         return Err(FileCause::NotAFile);
     }
     match file.try_lock() {
-        Ok(()) => Ok(file),
+        Ok(()) => {
+            keep_private(&file)?;
+            Ok(file)
+        }
         Err(TryLockError::WouldBlock) => Err(FileCause::InUse),
         Err(TryLockError::Error(e)) => Err(FileCause::of(e)),
     }
+}
+
+// Leaves a file that others may read or write to its owner alone: a store has what clients wrote, and a journal has the drives' keys.
+fn keep_private(file: &File) -> Result<(), FileCause> {
+    let permissions = file.metadata().map_err(FileCause::of)?.permissions();
+    if permissions.mode() & OF_OTHERS == 0 {
+        return Ok(());
+    }
+    let set = file.set_permissions(Permissions::from_mode(OWNER_ALONE));
+    set.map_err(|_| FileCause::NotPrivate)
 }
 
 // Makes a file and its name in its folder last. From then on the file is read from the device: the

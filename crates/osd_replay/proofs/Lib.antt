@@ -11,3 +11,4 @@ pub mod Generated
 pub mod Making
 pub mod Placed
 pub mod ShownBytes
+pub mod Asked

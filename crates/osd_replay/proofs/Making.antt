@@ -1,5 +1,5 @@
 -- A scenario made from a seed, event by event, and what it comes to.
-use Rattle.std.proofs.Common.{◌≡◌, ℕ, ◌<◌, Bool, true, false, List, [], ◌∷◌, ◌++◌, length, take, refl, sym, ap, subst, ◌∙◌, append_assoc}
+use Rattle.std.proofs.Common.{◌≡◌, ℕ, ◌<◌, ◌≤◌, Bool, true, false, List, [], ◌∷◌, ◌++◌, length, take, refl, sym, ap, subst, ◌∙◌, append_assoc}
 use Rattle.std.specs.Io.KnownBytes.{Appends}
 use Rattle.sha1.specs.Sha1.{Holds}
 use Rattle.osd_bytes.specs.Causes.{Rose}
@@ -9,7 +9,11 @@ use Rattle.scenario_text.specs.declared.line.Line.TheVariants.{Last}
 use Rattle.scenario_text.specs.LineSpelling.{lines_text}
 use Rattle.world_history.specs.State.{World, empty_world}
 use Rattle.world_history.specs.declared.summary.Summary.{Summary}
+use Rattle.world_history.specs.Guesses.{last_line, unguessed}
+use Rattle.world_history.specs.Summing.{summary_of}
+use Rattle.world_watch.specs.Capping.{capped_summary}
 use Rattle.scenario_text.specs.Spelling.{Fits}
+use Rattle.exchange_law.specs.Text.{AreFew}
 use Rattle.scenario_text.proofs.Histories.{lines_text_more}
 use Rattle.calm_law.specs.Watching.{WatchesAll}
 use Rattle.layout_world.specs.State.{WorldState, Shows}
@@ -20,12 +24,15 @@ use Rattle.osd_replay.specs.Stops.{error_of, status_of}
 use Rattle.osd_replay.specs.Generate.{Made, FillsBehind, StopsBehind, StopsAmong, ComesTo, IsDone, IsWriteFault, Promises, result_text}
 use Rattle.generate_law.specs.Plays.{Plays, NoneIsRefused}
 use Rattle.generate_law.specs.Scenario.{scenario_of}
+use Rattle.generate_law.specs.Kept.{MOST_CALLS, NoneFillsUp, ScenarioGoesWell, WentWell}
+use Rattle.generate_law.specs.Sums.{IsPlainSum, SummaryIsPlain}
 use Rattle.generate_law.proofs.Counting.{scenario_has_counts}
-use Rattle.generate_law.proofs.Refusing.{scenario_is_unguessed}
 use Rattle.osd_replay.specs.Transcript.{Tells}
 use Rattle.osd_replay.specs.LineCarried.{CarriesEvent, CarriesBy, StopsEvent, StopsIn}
 use Rattle.osd_replay.specs.declared.carry_out.Carried.{Carried}
 use Rattle.osd_replay.specs.declared.generate.Digested.{Digested}
+use Rattle.osd_replay.specs.declared.command.TheConstants.{MAX_CALLS}
+use Rattle.osd_replay.specs.declared.status.Quantity.TheVariants.{Input, Kept, Line as LineQuantity}
 use Rattle.osd_replay.specs.declared.stop.Stop.{Stop}
 use Rattle.osd_replay.specs.declared.stop.Stop.TheVariants.{Refused, Read, Memory, Full}
 use Rattle.osd_replay.proofs.Telling.{told_sound, told_text, told_few, tells_none, tells_more, last_said}
@@ -89,6 +96,10 @@ stops_among all front rest e (Full quantity) is h = record { events = front; nex
 
 -- ---- the whole scenario
 
+-- the calls that are asked for are few
+few_so : (calls : ℕ) → calls ≤ MAX_CALLS → calls ≤ MOST_CALLS
+few_so calls low = low
+
 -- nothing was made yet
 pub made_none : (d : Digested) → Shows d.world.parties empty_world → WatchesAll [] d.world.watch → Holds d.digest [] → Made [] d
 made_none d shows watches holds =
@@ -98,13 +109,20 @@ made_none d shows watches holds =
 plays_it : {events : List Event} → {w : World} → {h : List Line} → Tells events w h → Plays events w h
 plays_it {events} {w} {h} t = record { stands = t.stands; events_are = t.events_are }
 
-pub comes_to : HistoriesAreSound → (seed calls : ℕ) (events : List Event) (d : Digested) (text : List ℕ) →
+pub comes_to : HistoriesAreSound → SummaryIsPlain → ScenarioGoesWell → (seed calls : ℕ) → calls ≤ MAX_CALLS →
+    (events : List Event) (d : Digested) (text : List ℕ) →
     events ≡ scenario_of seed calls → Made events d
     → ((h : List Line) → Holds d.digest (lines_text h) →
     text ≡ result_text d.world.watch.summary h (Last d.world.watch.moments.calm d.world.watch.guesses.unguessed)) →
     ComesTo seed calls text
-comes_to law seed calls events d text is m told =
+comes_to law plain well seed calls low events d text is m told =
     let here : Made (scenario_of seed calls) d = subst (λ (es : List Event). Made es d) is m in
+    let here_well : WentWell here.history = well seed calls here.world here.history (few_so calls low) (plays_it here.tells) in
+    let last : last_line here.history ≡ Last true true =
+    ap (λ (b : Bool). Last b (unguessed here.history)) here_well.calm ∙ ap (λ (b : Bool). Last true b) here_well.unguessed in
+    let few : AreFew here.history = told_few law (scenario_of seed calls) here.world here.history here.tells in
+    let sums : IsPlainSum seed calls (summary_of here.history) =
+    plain seed calls here.world here.history (plays_it here.tells) few here_well.calm in
     record {
       outcome = record {
         world = here.world;
@@ -113,16 +131,17 @@ comes_to law seed calls events d text is m told =
         sound = told_sound law (scenario_of seed calls) here.world here.history here.tells;
         written = here.watches.written;
         text = told_text law (scenario_of seed calls) here.world here.history here.tells (scenario_fits seed calls);
-        few = told_few law (scenario_of seed calls) here.world here.history here.tells;
-        last = Last d.world.watch.moments.calm d.world.watch.guesses.unguessed;
-        ends = last_said d.world here.history here.watches;
+        few = few;
         counted = scenario_has_counts seed calls here.world here.history (plays_it here.tells);
-        clean = scenario_is_unguessed seed calls here.world here.history (plays_it here.tells);
+        plain = sums;
+        ends = sym last;
       };
       text_is =
           told here.history here.holds
-          ∙ ap (λ (s : Summary). result_text s here.history (Last d.world.watch.moments.calm d.world.watch.guesses.unguessed))
-          here.watches.told.summary;
+          ∙ ap (λ (l : Line). result_text d.world.watch.summary here.history l)
+          (last_said d.world here.history here.watches ∙ last)
+          ∙ ap (λ (s : Summary). result_text s here.history (Last true true))
+          (here.watches.told.summary ∙ ap capped_summary sums.sum);
     }
 
 pub all_told : (seed calls : ℕ) (b a : Ends) (text : List ℕ) → ComesTo seed calls text → Appends b.taken a.taken text →
@@ -145,15 +164,19 @@ only_error : (b a : Ends) (error : List ℕ) (whole : Bool) → Puts b.taken a.t
     PutsError b a [] error
 only_error b a error whole put = tells b a b.taken [] error b.writes_failed whole (appends_none b.taken) put refl
 
-pub not_made : NoneIsRefused → (seed calls : ℕ) (b a : Ends) (stop : Stop) (whole : Bool) →
+pub not_made : NoneIsRefused → NoneFillsUp → (seed calls : ℕ) → calls ≤ MAX_CALLS → (b a : Ends) (stop : Stop) (whole : Bool) →
     StopsAmong (scenario_of seed calls) stop →
     Puts b.taken a.taken b.writes_failed a.writes_failed (error_of stop 0) whole → Promises seed calls b a (status_of stop 0)
-not_made none seed calls b a (Refused kind) whole h put =
+not_made none fills seed calls low b a (Refused kind) whole h put =
     absurd (cc (sym (none seed calls h.events h.next h.rest h.stops.world h.stops.history h.all_are (plays_it h.stops.tells))
     ∙ h.stops.refused))
-not_made none seed calls b a Read whole h put = absurd h.stops
-not_made none seed calls b a Memory whole h put = record { puts = only_error b a _ whole put }
-not_made none seed calls b a (Full quantity) whole h put = record { at = h; puts = only_error b a _ whole put }
+not_made none fills seed calls low b a Read whole h put = absurd h.stops
+not_made none fills seed calls low b a Memory whole h put = record { puts = only_error b a _ whole put }
+not_made none fills seed calls low b a (Full Kept) whole h put =
+    absurd (fills seed calls h.events h.next h.rest h.stops.world h.stops.history h.stops.cut (few_so calls low) h.all_are
+    (plays_it h.stops.tells) h.stops.fills)
+not_made none fills seed calls low b a (Full Input) whole h put = absurd h.stops
+not_made none fills seed calls low b a (Full LineQuantity) whole h put = absurd h.stops
 
 -- ---- pieces of text
 

@@ -14,7 +14,6 @@ use Rattle.world_history.specs.declared.summary.Summary.{Summary}
 use Rattle.world_history.specs.State.{World}
 use Rattle.world_history.specs.Refusals.{refusal}
 use Rattle.world_history.specs.Runs.{FillsUp}
-use Rattle.world_history.specs.Guesses.{unguessed}
 use Rattle.world_history.specs.Summing.{summary_of}
 use Rattle.world_watch.specs.Capping.{capped_summary}
 use Rattle.scenario_text.specs.Spelling.{Fits}
@@ -24,9 +23,10 @@ use Rattle.calm_law.specs.Watching.{WatchesAll}
 use Rattle.layout_world.specs.State.{Shows}
 use Rattle.history_claims.specs.Sound.{IsSound}
 use Rattle.osd_replay.specs.Ends.{Ends, PutsError}
-use Rattle.osd_replay.specs.Errors.{error_line, full_name}
+use Rattle.osd_replay.specs.Errors.{error_line}
 use Rattle.generate_law.specs.Counts.{HasCounts}
 use Rattle.generate_law.specs.Scenario.{scenario_of}
+use Rattle.generate_law.specs.Sums.{IsPlainSum, plain_summary}
 use Rattle.osd_replay.specs.Transcript.{Tells, EndsWith, final_text}
 use Rattle.osd_replay.specs.declared.generate.Digested.{Digested}
 use Rattle.osd_replay.specs.declared.status.Quantity.{Quantity}
@@ -130,8 +130,7 @@ IsToldOf d text =
     (h : List Line) → Holds d.digest (lines_text h)
     → text ≡ result_text d.world.watch.summary h (Last d.world.watch.moments.calm d.world.watch.guesses.unguessed)
 
--- All events of the scenario were carried out: this is their history, of which holds what holds of every one, and the
--- last line of it.
+-- All events of the scenario were carried out: this is their history, of which holds what holds of every one.
 pub record Outcome (seed calls : ℕ) : Type 0 where
   pub world : World
   pub history : List Line
@@ -140,15 +139,18 @@ pub record Outcome (seed calls : ℕ) : Type 0 where
   pub written : AreWritten history
   pub text : AreOfText history
   pub few : AreFew history
-  pub last : Line
-  pub ends : EndsWith history last
-  -- it has one call more than are asked for: a write, and then each second one is a write. Nothing in it was guessed
+  -- it has one call more than are asked for: a write, and then each second one is a write
   pub counted : HasCounts calls (summary_of history)
-  pub clean : unguessed history ≡ true
+  -- each of them ended in ok, and its summary is that of the same calls on one plain list of bytes
+  pub plain : IsPlainSum seed calls (summary_of history)
+  -- it was calm, and nothing in it was guessed, as its last line says
+  pub ends : EndsWith history (Last true true)
 
--- what is told of it
+-- what is told of it: the summary of the same calls on one plain list of bytes, the digest of the history's transcript, and its
+-- last line, `calm yes unguessed yes`
 abbrev pub outcome_text : (seed calls : ℕ) → Outcome seed calls → List ℕ
-outcome_text seed calls o = result_text (capped_summary (summary_of o.history)) o.history o.last
+outcome_text seed calls o =
+    result_text (capped_summary (plain_summary (scenario_of seed calls))) o.history (Last true true)
 
 -- its text
 pub record ComesTo (seed calls : ℕ) (text : List ℕ) : Type 0 where
@@ -169,16 +171,11 @@ pub record IsWriteFault (seed calls : ℕ) (before after : Ends) : Type 0 where
   pub out : Appends before.taken after.taken (take upto (outcome_text seed calls outcome))
   pub rose : Rose before.writes_failed after.writes_failed
 
--- an event of the scenario isn't carried out, and only the error line went out, which has no number
-pub record IsStopped (seed calls : ℕ) (before after : Ends) (stop : Stop) (reason : List ℕ) : Type 0 where
-  pub at : StopsAt (scenario_of seed calls) stop
-  pub puts : PutsError before after [] (error_line 0 reason)
-
--- there was no memory
+-- there was no memory, and only the error line went out, which has no number
 pub record IsMemory (before after : Ends) : Type 0 where
   pub puts : PutsError before after [] (error_line 0 (codes "memory"))
 
--- No event of the scenario is refused.
+-- No event of the scenario is refused, and none would pass the limit of kept bytes.
 abbrev pub Promises : (seed calls : ℕ) → Ends → Ends → Status → Type 0
 Promises seed calls before after Done = IsDone seed calls before after
 Promises seed calls before after BadWords = ⊥
@@ -186,8 +183,7 @@ Promises seed calls before after (BadScenario number kind) = ⊥
 Promises seed calls before after ReadFault = ⊥
 Promises seed calls before after WriteFault = IsWriteFault seed calls before after
 Promises seed calls before after Memory = IsMemory before after
-Promises seed calls before after (Full quantity) =
-    IsStopped seed calls before after (StopsFull quantity) (full_name quantity)
+Promises seed calls before after (Full quantity) = ⊥
 
 -- nothing was read
 pub record ReadsNothing (before after : Ends) : Type 0 where

@@ -1,17 +1,18 @@
 // A scenario made from a seed, and what it comes to.
-ghost use Rattle.std.specs.Prelude.{◌≡◌, ℕ, List, [], Option, IfOk, IfErr, OnOk, string_bytes};
+ghost use Rattle.std.specs.Prelude.{◌≡◌, ◌≤◌, ℕ, List, [], Option, IfOk, IfErr, OnOk, string_bytes};
 ghost use Rattle.sha1.specs.Sha1.{Holds};
 ghost use Rattle.osd_replay.specs.Ends.{ends};
 ghost use Rattle.osd_replay.specs.Generate.{count_line, counts_text, digest_line, IsToldOf};
 ghost use Rattle.history_claims.specs.Texts.{EventsFit};
 ghost use Rattle.osd_replay.specs.Generate.{Made, MakesMore, StopsMaking, StopsAmong, ComesTo, Promises};
 ghost use Rattle.generate_law.specs.Scenario.{scenario_of};
+ghost use Rattle.osd_replay.specs.declared.command.TheConstants.{MAX_CALLS};
 
 use crate::carry_out::{Carried, carry_out_event};
 use crate::generator::scenario;
 use crate::status::{Quantity, Status};
 use crate::stop::{Stop, stopped};
-use generate_law::none_is_refused;
+use generate_law::{none_is_refused, scenario_goes_well, summary_is_plain};
 use history_claims::histories_are_sound;
 use layout_world::{Summary, World};
 use osd_bytes::{Sink, put_all};
@@ -132,11 +133,14 @@ impl Digested {
         placer: &P,
     ) -> Result<Bytes, Stop>
         requires places { P.is_placer placer.now }
+        requires few { calls ≤ MAX_CALLS }
         requires begins { Made [] self.now }
         ensures ok { IfOk result (ComesTo seed calls) }
         ensures err { IfErr result (StopsAmong (scenario_of seed calls)) }
     {
         histories_are_sound();
+        scenario_goes_well();
+        summary_is_plain();
         let events = scenario(alloc, seed, calls)?;
         match self.carry_out_all(alloc, events, placer) {
             Ok(()) => {}
@@ -149,7 +153,8 @@ impl Digested {
 
 // What a scenario comes to in a new world, whose drop has but one place here.
 fn carried_out<P: Place>(alloc: Global, seed: u64, calls: u64, placer: &P) -> Result<Bytes, Stop>
-    requires { P.is_placer placer.now }
+    requires places { P.is_placer placer.now }
+    requires few { calls ≤ MAX_CALLS }
     ensures ok { IfOk result (ComesTo seed calls) }
     ensures err { IfErr result (StopsAmong (scenario_of seed calls)) }
 {
@@ -161,7 +166,7 @@ fn carried_out<P: Place>(alloc: Global, seed: u64, calls: u64, placer: &P) -> Re
     carried
 }
 
-/// Carries out the scenario of `calls` calls that is made from a seed, and puts what it came to: six
+/// Carries out the scenario of `calls` calls, at most 1,000, that is made from a seed, and puts what it came to: six
 /// counts, the digest (SHA-1) of its transcript, and the transcript's last line.
 pub fn generate<K: Sink, P: Place>(
     alloc: Global,
@@ -170,12 +175,14 @@ pub fn generate<K: Sink, P: Place>(
     sink: &mut K,
     placer: &P,
 ) -> Status
-    requires { P.is_placer placer.now }
+    requires places { P.is_placer placer.now }
+    requires few { calls ≤ MAX_CALLS }
     ensures { (left : Option (List ℕ)) (reads : ℕ) → Promises seed calls
         (ends left reads (K.taken sink.old) (K.faults sink.old))
         (ends left reads (K.taken sink.new) (K.faults sink.new)) result }
 {
     none_is_refused();
+    scenario_goes_well();
     match carried_out(alloc, seed, calls, placer) {
         Ok(text) => match put_all(sink, text.as_slice()) {
             Ok(()) => Status::Done,

@@ -1,5 +1,5 @@
 -- What the commands over a network do.
-use Rattle.std.specs.Prelude.{◌≡◌, ◌⊎◌, ℕ, List, ⊤, Option}
+use Rattle.std.specs.Prelude.{◌≡◌, ◌⊎◌, ℕ, List, Option}
 use Rattle.clap.specs.Walk.{Text}
 use Rattle.clap.specs.Simple.{App}
 use Rattle.cluster_text.specs.Lines.{PutsLine, stop_line}
@@ -38,13 +38,19 @@ DriveEnds w before now status =
     × drive.EndsDrive w.number w.connections (streams_of before) (streams_of now) (drive_ends before) (drive_ends now)
     now.standing why))
 
+-- the links have the addresses that they had, or those of the server of the cluster that the text describes
+abbrev pub HasServersAddresses : (before now : Ends) → Type 0
+HasServersAddresses before now = server.SettlesAsText before.left now.left before.standing now.standing
+
 -- a server serves all connections, or stops
 abbrev pub ServerEnds : ServerWords → (before now : Ends) → Status → Type 0
 ServerEnds w before now status =
-    ((status ≡ Done)
-    × server.ServesAs w.connections (streams_of before) (streams_of now) (server_ends before) (server_ends now))
+    HasServersAddresses before now
+    × (((status ≡ Done)
+    × server.ServesAs w.connections (streams_of before) (streams_of now) (server_ends before) (server_ends now) now.standing)
     ⊎ ((why : CommandStop) × (status ≡ by_stop why)
-    × server.EndsServer w.connections (streams_of before) (streams_of now) (server_ends before) (server_ends now) why)
+    × server.EndsServer w.connections (streams_of before) (streams_of now) (server_ends before) (server_ends now) now.standing
+    why))
 
 -- a client's work is done or refused, or it stops; it asks for no time
 abbrev pub ClientEnds : ClientWords → (before now : Ends) → Status → Type 0

@@ -12,7 +12,7 @@ use Rattle.pnfs_run.specs.declared.status.Status.{Status}
 use Rattle.pnfs_run.specs.declared.status.Status.TheVariants.{Done, BadWords}
 use Rattle.pnfs_run.specs.Exit.{by_stored}
 use Rattle.pnfs_run.specs.Ends.{Ends, drive_ends, server_ends, streams_of}
-use Rattle.pnfs_run.specs.Network.{HasDrivesAddresses}
+use Rattle.pnfs_run.specs.Network.{HasDrivesAddresses, HasServersAddresses}
 
 -- the drive serves all connections from its store, or stops
 abbrev pub StoredDriveEnds : {D : Type 0} → DiskGhosts D → (disk left : D) → StoredDriveWords → (before now : Ends) → Status →
@@ -30,12 +30,13 @@ StoredDriveEnds s disk left w before now status =
 abbrev pub StoredServerEnds : {D : Type 0} → DiskGhosts D → (disk left : D) → StoredServerWords → (before now : Ends) → Status →
     Type 0
 StoredServerEnds s disk left w before now status =
-    ((status ≡ Done)
+    HasServersAddresses before now
+    × (((status ≡ Done)
     × server.ServesStoredAs s w.server.connections (streams_of before) (streams_of now) (server_ends before)
-    (server_ends now) disk left)
+    (server_ends now) now.standing disk left)
     ⊎ ((why : StoredStop) × (status ≡ by_stored why)
     × server.EndsStored s w.server.connections (streams_of before) (streams_of now) (server_ends before)
-    (server_ends now) disk left why)
+    (server_ends now) now.standing disk left why))
 
 -- where words are refused, the disk is as it was given
 abbrev pub LeavesDisk : {D : Type 0} → (disk left : D) → Status → Type 0

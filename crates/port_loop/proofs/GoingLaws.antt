@@ -4,37 +4,39 @@ use Rattle.std.proofs.lemmas.List.{append-nil, map-append, take-append-drop}
 use Rattle.osd_bytes.specs.Clocks.{TellsTime}
 use Rattle.osd_bytes.specs.Records.{Begun, Split, framed, fresh, split}
 use Rattle.osd_bytes.proofs.RecordLaws.{carried, split-append, split-nil}
-use Rattle.port_loop.specs.Points.{Around, Goes, Rests, Sets, Stands, Unused, Work, calm, is_busy, on}
-use Rattle.port_loop.specs.Ports.{came_on, is_full, is_open, went_on}
+use Rattle.port_loop.specs.Points.{Around, Goes, IsHeld, Rests, Sets, Unused, Work, calm, is_busy, on, with_over}
+use Rattle.port_loop.specs.Ports.{came_on, is_full, is_open, over_in, went_on}
 use Rattle.port_loop.specs.declared.ports.Happening.{Happening}
 use Rattle.port_loop.specs.declared.ports.Happening.TheVariants.{Began, Came, Went, Failed, Drained, Ended, Closed, Passed}
-use Rattle.port_loop.specs.Serving.{Told, times_of}
+use Rattle.port_loop.specs.declared.handler.Handler.{Ghosts}
+use Rattle.port_loop.specs.Serving.{Desk, HandlesAll}
 use Rattle.port_loop.specs.Sessions.{Reads, Sess, new_session, read_on}
 use Rattle.port_loop.specs.Steps.{Answer, Change, Follows, Handled, HasEnd, Step, Taken, after_all, frames_on, handled_in, happened, record_of, taken_in, taken_on, whole_in}
 use Rattle.port_loop.specs.Steps.Step.{Happens, Handles}
-use Rattle.port_loop.proofs.ListLaws.{after-append, everywhere, frames-append, other, same, told-append}
+use Rattle.port_loop.proofs.ListLaws.{after-append, everywhere, frames-append, handles-append, other, same}
 use Rattle.port_loop.proofs.StepLaws.{Alike, alike-other, apart, full-other, goes-settled, opens, port_of, rests-alike, stands-alike, unused-other}
 
 -- something happened on a connection; what is to be shown is about that one
-pub goes-happens : {S : Type 0} {reply : Answer S} {step : Change S} {first : S} {since : Option (List ℕ)} {a b : Around S}
+pub goes-happens : {H : Type 0} {v : Ghosts H} {first : v.State} {since : Desk H} {a b : Around H}
     {w x : Work} {at bt : ℕ → Option Sess} {steps : List Step} (h : Happening)
-    → Follows reply step first (Happens h) steps
+    → Follows v.reply_to v.state_after first (Happens h) steps
     → taken_in (h ∷ happened steps) ≡ map record_of (handled_in steps) ++ x.pending
-    → b.state ≡ a.state → b.times ≡ a.times
-    → Stands reply step first (Happens h ∷ steps) (port_of h) (bt (port_of h))
+    → b.desk ≡ a.desk → b.over ≡ over_in (h ∷ happened steps)
+    → IsHeld v.reply_to v.state_after first (Happens h ∷ steps) (port_of h) (bt (port_of h))
     → (is_busy x.busy (port_of h) ≡ false → Rests (Happens h ∷ steps) (port_of h) (bt (port_of h)))
     → ((q : ℕ) → nat_eq (port_of h) q ≡ false → bt q ≡ at q)
     → ((q : ℕ) → nat_eq (port_of h) q ≡ false → is_busy w.busy q ≡ false)
-    → ((q : ℕ) → b.opened ≤ q → Unused reply step first (Happens h ∷ steps) q)
-    → Goes reply step first since a w at steps → Goes reply step first since b x bt (Happens h ∷ steps)
-goes-happens {S} {reply} {step} {first} {since} {a} {b} {w} {x} {at} {bt} {steps} h follows records state same_times here rests
+    → ((q : ℕ) → b.opened ≤ q → Unused v.reply_to v.state_after first (Happens h ∷ steps) q)
+    → Goes v first since a w at steps → Goes v first since b x bt (Happens h ∷ steps)
+goes-happens {H} {v} {first} {since} {a} {b} {w} {x} {at} {bt} {steps} h follows records desk over here rests
     there free unused g = record {
       lawful = (follows, g.lawful);
       records = records;
-      state = state ∙ g.state;
-      times = subst (λ (t : Option (List ℕ)). Told since (times_of steps) t) (sym same_times) g.times;
-      each = λ q. everywhere (λ r. Stands reply step first (Happens h ∷ steps) r (bt r)) (port_of h) q here
-          (λ ne. subst (λ (o : Option Sess). Stands reply step first (Happens h ∷ steps) q o) (sym (there q ne))
+      state = ap (λ (d : Desk H). v.state d.handler) desk ∙ g.state;
+      desk = subst (λ (d : Desk H). HandlesAll v since (handled_in steps) d) (sym desk) g.desk;
+      over = over;
+      each = λ q. everywhere (λ r. IsHeld v.reply_to v.state_after first (Happens h ∷ steps) r (bt r)) (port_of h) q here
+          (λ ne. subst (λ (o : Option Sess). IsHeld v.reply_to v.state_after first (Happens h ∷ steps) q o) (sym (there q ne))
           (stands-alike (at q) (alike-other q h steps ne) (g.each q)));
       rests = λ q. everywhere (λ r. is_busy x.busy r ≡ false → Rests (Happens h ∷ steps) r (bt r)) (port_of h) q rests
           (λ ne idle. subst (λ (o : Option Sess). Rests (Happens h ∷ steps) q o) (sym (there q ne))
@@ -44,14 +46,14 @@ goes-happens {S} {reply} {step} {first} {since} {a} {b} {w} {x} {at} {bt} {steps
 
 -- ---- what comes from outside
 
-pub goes-began : {S : Type 0} {reply : Answer S} {step : Change S} {first : S} {since : Option (List ℕ)} {a b : Around S}
+pub goes-began : {H : Type 0} {v : Ghosts H} {first : v.State} {since : Desk H} {a b : Around H}
     {at bt : ℕ → Option Sess} {steps : List Step} (p : ℕ)
-    → p ≡ a.opened → b.opened ≡ a.opened + 1 → b.state ≡ a.state → b.times ≡ a.times → Sets p (Some new_session) at bt
-    → Goes reply step first since a calm at steps → Goes reply step first since b calm bt (Happens (Began p) ∷ steps)
-goes-began {S} {reply} {step} {first} {since} {a} {b} {at} {bt} {steps} p number opened state times sets g =
+    → p ≡ a.opened → b.opened ≡ a.opened + 1 → b.desk ≡ a.desk → b.over ≡ a.over → Sets p (Some new_session) at bt
+    → Goes v first since a calm at steps → Goes v first since b calm bt (Happens (Began p) ∷ steps)
+goes-began {H} {v} {first} {since} {a} {b} {at} {bt} {steps} p number opened desk over sets g =
     let u = g.unused p (omega (arith, number)) in
-    goes-happens (Began p) (goes-settled g, u.unknown) g.records state times
-    (subst (λ (o : Option Sess). Stands reply step first (Happens (Began p) ∷ steps) p o) (sym sets.here)
+    goes-happens (Began p) (goes-settled g, u.unknown) g.records desk (over ∙ g.over)
+    (subst (λ (o : Option Sess). IsHeld v.reply_to v.state_after first (Happens (Began p) ∷ steps) p o) (sym sets.here)
     (rw (same p) refl, rw u.came (ap (λ (s : Split). s.begun) (split-nil fresh)), rw (u.frames, u.went) refl))
     (λ idle. subst (λ (o : Option Sess). Rests (Happens (Began p) ∷ steps) p o) (sym sets.here)
     (record { begun = (fresh, refl); bound = omega arith; all = λ e. refl }))
@@ -59,35 +61,36 @@ goes-began {S} {reply} {step} {first} {since} {a} {b} {at} {bt} {steps} p number
     (λ q above. unused-other q (Began p) steps (other p q (λ e. omega (arith, opened, above, number, e)))
     (g.unused q (omega (arith, opened, above)))) g
 
-pub goes-ignored : {S : Type 0} {reply : Answer S} {step : Change S} {first : S} {since : Option (List ℕ)} {a b : Around S}
+pub goes-ignored : {H : Type 0} {v : Ghosts H} {first : v.State} {since : Desk H} {a b : Around H}
     {at bt : ℕ → Option Sess} {steps : List Step} (p : ℕ) (bytes : List ℕ)
-    → at p ≡ None → p < a.opened → b.opened ≡ a.opened → b.state ≡ a.state → b.times ≡ a.times → Sets p None at bt
-    → Goes reply step first since a calm at steps → Goes reply step first since b calm bt (Happens (Came p bytes) ∷ steps)
-goes-ignored {S} {reply} {step} {first} {since} {a} {b} {at} {bt} {steps} p bytes none less opened state times sets g =
+    → at p ≡ None → p < a.opened → b.opened ≡ a.opened → b.desk ≡ a.desk → b.over ≡ a.over → Sets p None at bt
+    → Goes v first since a calm at steps → Goes v first since b calm bt (Happens (Came p bytes) ∷ steps)
+goes-ignored {H} {v} {first} {since} {a} {b} {at} {bt} {steps} p bytes none less opened desk over sets g =
     let shut : is_open p (happened steps) ≡ false =
-    subst (λ (o : Option Sess). Stands reply step first steps p o) none (g.each p) in
+    subst (λ (o : Option Sess). IsHeld v.reply_to v.state_after first steps p o) none (g.each p) in
     goes-happens (Came p bytes) (goes-settled g)
-    (rw shut (append-nil (taken_in (happened steps)) ∙ g.records)) state times
-    (subst (λ (o : Option Sess). Stands reply step first (Happens (Came p bytes) ∷ steps) p o) (sym sets.here) shut)
+    (rw shut (append-nil (taken_in (happened steps)) ∙ g.records)) desk (over ∙ g.over)
+    (subst (λ (o : Option Sess). IsHeld v.reply_to v.state_after first (Happens (Came p bytes) ∷ steps) p o) (sym sets.here) shut)
     (λ idle. subst (λ (o : Option Sess). Rests (Happens (Came p bytes) ∷ steps) p o) (sym sets.here) tt)
     sets.there (λ q ne. refl)
     (λ q above. unused-other q (Came p bytes) steps (other p q (λ e. omega (arith, opened, above, less, e)))
     (g.unused q (omega (arith, opened, above)))) g
 
 -- a piece is read, and its records are in hand
-pub goes-came : {S : Type 0} {reply : Answer S} {step : Change S} {first : S} {since : Option (List ℕ)} {a b : Around S}
+pub goes-came : {H : Type 0} {v : Ghosts H} {first : v.State} {since : Desk H} {a b : Around H}
     {at bt : ℕ → Option Sess} {steps : List Step} (p : ℕ) (bytes : List ℕ) (records : List (List ℕ)) (s t : Sess)
-    → at p ≡ Some s → Reads bytes records s t → b.opened ≡ a.opened → b.state ≡ a.state → b.times ≡ a.times
+    → at p ≡ Some s → Reads bytes records s t → b.opened ≡ a.opened → b.desk ≡ a.desk → b.over ≡ a.over
     → Sets p (Some t) at bt
-    → Goes reply step first since a calm at steps
-    → Goes reply step first since b (on p records) bt (Happens (Came p bytes) ∷ steps)
-goes-came {S} {reply} {step} {first} {since} {a} {b} {at} {bt} {steps} p bytes records s t is reads opened state times sets g =
-    let h : Stands reply step first steps p (Some s) = opens reply step first steps p s (at p) is (g.each p) in
+    → Goes v first since a calm at steps
+    → Goes v first since b (on p records) bt (Happens (Came p bytes) ∷ steps)
+goes-came {H} {v} {first} {since} {a} {b} {at} {bt} {steps} p bytes records s t is reads opened desk over sets g =
+    let h : IsHeld v.reply_to v.state_after first steps p (Some s) = opens v.reply_to v.state_after first steps p s (at p) is
+    (g.each p) in
     let whole : whole_in (came_on p (happened steps)) bytes ≡ records =
     ap (λ (x : Option Begun). (read_on x bytes).records) h.1 ∙ ap (λ (x : Split). x.records) reads.0 in
     goes-happens (Came p bytes) (goes-settled g)
-    (rw (h.0, whole) (ap (λ (l : List Taken). l ++ map (taken_on p) records) (g.records ∙ append-nil _))) state times
-    (subst (λ (o : Option Sess). Stands reply step first (Happens (Came p bytes) ∷ steps) p o) (sym sets.here) (
+    (rw (h.0, whole) (ap (λ (l : List Taken). l ++ map (taken_on p) records) (g.records ∙ append-nil _))) desk (over ∙ g.over)
+    (subst (λ (o : Option Sess). IsHeld v.reply_to v.state_after first (Happens (Came p bytes) ∷ steps) p o) (sym sets.here) (
       h.0,
       rw (same p, h.0) (ap (λ (x : Split). x.begun) (split-append fresh (came_on p (happened steps)) bytes)
           ∙ ap (λ (x : Option Begun). (carried (split fresh (came_on p (happened steps))).records x bytes).begun) h.1
@@ -105,15 +108,15 @@ goes-came {S} {reply} {step} {first} {since} {a} {b} {at} {bt} {steps} p bytes r
     begun-carried rs None bytes = refl
     begun-carried rs (Some b) bytes = refl
 
-pub goes-drained : {S : Type 0} {reply : Answer S} {step : Change S} {first : S} {since : Option (List ℕ)} {a b : Around S}
+pub goes-drained : {H : Type 0} {v : Ghosts H} {first : v.State} {since : Desk H} {a b : Around H}
     {at : ℕ → Option Sess} {steps : List Step} (p : ℕ)
-    → b.opened ≡ a.opened → b.state ≡ a.state → b.times ≡ a.times
-    → Goes reply step first since a calm at steps
-    → Goes reply step first since b (on p []) at (Happens (Drained p) ∷ steps)
-goes-drained {S} {reply} {step} {first} {since} {a} {b} {at} {steps} p opened state times g =
-    let alike : Alike reply step first p (Happens (Drained p) ∷ steps) steps =
+    → b.opened ≡ a.opened → b.desk ≡ a.desk → b.over ≡ a.over
+    → Goes v first since a calm at steps
+    → Goes v first since b (on p []) at (Happens (Drained p) ∷ steps)
+goes-drained {H} {v} {first} {since} {a} {b} {at} {steps} p opened desk over g =
+    let alike : Alike v.reply_to v.state_after first p (Happens (Drained p) ∷ steps) steps =
     record { stays = refl; came = refl; went = refl; frames = refl } in
-    goes-happens (Drained p) (goes-settled g) g.records state times (stands-alike (at p) alike (g.each p))
+    goes-happens (Drained p) (goes-settled g) g.records desk (over ∙ g.over) (stands-alike (at p) alike (g.each p))
     (λ idle. absurd (cc (sym idle ∙ same p)))
     (λ q ne. refl) (λ q ne. refl)
     (λ q above. let u = g.unused q (omega (arith, opened, above)) in record {
@@ -133,13 +136,14 @@ shut-ended h p q log here there shut =
     ≡ false)
     p q (λ t s. here) (λ ne t s. t ne ∙ s) there shut
 
-pub goes-ended : {S : Type 0} {reply : Answer S} {step : Change S} {first : S} {since : Option (List ℕ)} {a b : Around S}
+pub goes-ended : {H : Type 0} {v : Ghosts H} {first : v.State} {since : Desk H} {a b : Around H}
     {at bt : ℕ → Option Sess} {steps : List Step} (p : ℕ)
-    → b.opened ≡ a.opened → b.state ≡ a.state → b.times ≡ a.times → Sets p None at bt
-    → Goes reply step first since a calm at steps → Goes reply step first since b calm bt (Happens (Ended p) ∷ steps)
-goes-ended {S} {reply} {step} {first} {since} {a} {b} {at} {bt} {steps} p opened state times sets g =
-    goes-happens (Ended p) (goes-settled g) g.records state times
-    (subst (λ (o : Option Sess). Stands reply step first (Happens (Ended p) ∷ steps) p o) (sym sets.here) (rw (same p) refl))
+    → b.opened ≡ a.opened → b.desk ≡ a.desk → b.over ≡ with_over (at p) a.over → Sets p None at bt
+    → Goes v first since a calm at steps → Goes v first since b calm bt (Happens (Ended p) ∷ steps)
+goes-ended {H} {v} {first} {since} {a} {b} {at} {bt} {steps} p opened desk over sets g =
+    goes-happens (Ended p) (goes-settled g) g.records desk (ended (at p) (g.each p) over)
+    (subst (λ (o : Option Sess). IsHeld v.reply_to v.state_after first (Happens (Ended p) ∷ steps) p o) (sym sets.here) (rw
+    (same p) refl))
     (λ idle. subst (λ (o : Option Sess). Rests (Happens (Ended p) ∷ steps) p o) (sym sets.here) tt)
     sets.there (λ q ne. refl)
     (λ q above. let u = g.unused q (omega (arith, opened, above)) in record {
@@ -150,21 +154,27 @@ goes-ended {S} {reply} {step} {first} {since} {a} {b} {at} {bt} {steps} p opened
       empty = u.empty;
       frames = u.frames;
     }) g
+  where
+    ended : (o : Option Sess) → IsHeld v.reply_to v.state_after first steps p o → b.over ≡ with_over o a.over →
+        b.over ≡ over_in (Ended p ∷ happened steps)
+    ended None shut e = rw shut (e ∙ g.over)
+    ended (Some s) held e = rw held.0 (e ∙ ap (λ (n : ℕ). n + 1) g.over)
 
 -- ---- what the loop does
 
-pub goes-went : {S : Type 0} {reply : Answer S} {step : Change S} {first : S} {since : Option (List ℕ)} {a b : Around S}
+pub goes-went : {H : Type 0} {v : Ghosts H} {first : v.State} {since : Desk H} {a b : Around H}
     {at bt : ℕ → Option Sess} {steps : List Step} (p n : ℕ) (full : Bool) (s t : Sess)
-    → at p ≡ Some s → t ≡ record s { unsent = drop n s.unsent } → b.opened ≡ a.opened → b.state ≡ a.state → b.times ≡ a.times
+    → at p ≡ Some s → t ≡ record s { unsent = drop n s.unsent } → b.opened ≡ a.opened → b.desk ≡ a.desk → b.over ≡ a.over
     → Sets p (Some t) at bt
-    → Goes reply step first since a (on p []) at steps
-    → Goes reply step first since b (on p []) bt (Happens (Went p (take n s.unsent) full) ∷ steps)
-goes-went {S} {reply} {step} {first} {since} {a} {b} {at} {bt} {steps} p n full s t is is_t opened state times sets g =
-    let h : Stands reply step first steps p (Some s) = opens reply step first steps p s (at p) is (g.each p) in
+    → Goes v first since a (on p []) at steps
+    → Goes v first since b (on p []) bt (Happens (Went p (take n s.unsent) full) ∷ steps)
+goes-went {H} {v} {first} {since} {a} {b} {at} {bt} {steps} p n full s t is is_t opened desk over sets g =
+    let h : IsHeld v.reply_to v.state_after first steps p (Some s) = opens v.reply_to v.state_after first steps p s (at p) is
+    (g.each p) in
     goes-happens (Went p (take n s.unsent) full)
     (h.0, drop n s.unsent, h.2 ∙ ap (λ (l : List ℕ). went_on p (happened steps) ++ l) (sym (take-append-drop n s.unsent)))
-    g.records state times
-    (subst (λ (o : Option Sess). Stands reply step first (Happens (Went p (take n s.unsent) full) ∷ steps) p o)
+    g.records desk (over ∙ g.over)
+    (subst (λ (o : Option Sess). IsHeld v.reply_to v.state_after first (Happens (Went p (take n s.unsent) full) ∷ steps) p o)
     (sym (sets.here ∙ ap (λ (x : Sess). Some x) is_t)) (
       h.0,
       h.1,
@@ -177,29 +187,34 @@ goes-went {S} {reply} {step} {first} {since} {a} {b} {at} {bt} {steps} p n full 
     (λ q above. let u = g.unused q (omega (arith, opened, above)) in
     unused-other q (Went p (take n s.unsent) full) steps (apart p q h.0 u) u) g
 
-pub goes-failed : {S : Type 0} {reply : Answer S} {step : Change S} {first : S} {since : Option (List ℕ)} {a b : Around S}
+pub goes-failed : {H : Type 0} {v : Ghosts H} {first : v.State} {since : Desk H} {a b : Around H}
     {at : ℕ → Option Sess} {steps : List Step} (p : ℕ) (s : Sess)
-    → at p ≡ Some s → b.opened ≡ a.opened → b.state ≡ a.state → b.times ≡ a.times
-    → Goes reply step first since a (on p []) at steps
-    → Goes reply step first since b (on p []) at (Happens (Failed p) ∷ steps)
-goes-failed {S} {reply} {step} {first} {since} {a} {b} {at} {steps} p s is opened state times g =
-    let h : Stands reply step first steps p (Some s) = opens reply step first steps p s (at p) is (g.each p) in
-    let alike : Alike reply step first p (Happens (Failed p) ∷ steps) steps =
+    → at p ≡ Some s → b.opened ≡ a.opened → b.desk ≡ a.desk → b.over ≡ a.over
+    → Goes v first since a (on p []) at steps
+    → Goes v first since b (on p []) at (Happens (Failed p) ∷ steps)
+goes-failed {H} {v} {first} {since} {a} {b} {at} {steps} p s is opened desk over g =
+    let h : IsHeld v.reply_to v.state_after first steps p (Some s) = opens v.reply_to v.state_after first steps p s (at p) is
+    (g.each p) in
+    let alike : Alike v.reply_to v.state_after first p (Happens (Failed p) ∷ steps) steps =
     record { stays = refl; came = refl; went = refl; frames = refl } in
-    goes-happens (Failed p) h.0 g.records state times (stands-alike (at p) alike (g.each p))
+    goes-happens (Failed p) h.0 g.records desk (over ∙ g.over) (stands-alike (at p) alike (g.each p))
     (λ idle. absurd (cc (sym idle ∙ same p)))
     (λ q ne. refl) (λ q ne. ne)
     (λ q above. let u = g.unused q (omega (arith, opened, above)) in
     unused-other q (Failed p) steps (apart p q h.0 u) u) g
 
-pub goes-closed : {S : Type 0} {reply : Answer S} {step : Change S} {first : S} {since : Option (List ℕ)} {a b : Around S}
-    {at bt : ℕ → Option Sess} {steps : List Step} (p : ℕ)
-    → HasEnd reply step first p steps → b.opened ≡ a.opened → b.state ≡ a.state → b.times ≡ a.times → Sets p None at bt
-    → Goes reply step first since a (on p []) at steps
-    → Goes reply step first since b calm bt (Happens (Closed p) ∷ steps)
-goes-closed {S} {reply} {step} {first} {since} {a} {b} {at} {bt} {steps} p ends opened state times sets g =
-    goes-happens (Closed p) ends g.records state times
-    (subst (λ (o : Option Sess). Stands reply step first (Happens (Closed p) ∷ steps) p o) (sym sets.here) (rw (same p) refl))
+pub goes-closed : {H : Type 0} {v : Ghosts H} {first : v.State} {since : Desk H} {a b : Around H}
+    {at bt : ℕ → Option Sess} {steps : List Step} (p : ℕ) (s : Sess)
+    → at p ≡ Some s → HasEnd v.reply_to v.state_after first p steps → b.opened ≡ a.opened → b.desk ≡ a.desk →
+    b.over ≡ a.over + 1 → Sets p None at bt
+    → Goes v first since a (on p []) at steps
+    → Goes v first since b calm bt (Happens (Closed p) ∷ steps)
+goes-closed {H} {v} {first} {since} {a} {b} {at} {bt} {steps} p s is ends opened desk over sets g =
+    let h : IsHeld v.reply_to v.state_after first steps p (Some s) =
+    opens v.reply_to v.state_after first steps p s (at p) is (g.each p) in
+    goes-happens (Closed p) ends g.records desk (rw h.0 (over ∙ ap (λ (n : ℕ). n + 1) g.over))
+    (subst (λ (o : Option Sess). IsHeld v.reply_to v.state_after first (Happens (Closed p) ∷ steps) p o) (sym sets.here) (rw
+    (same p) refl))
     (λ idle. subst (λ (o : Option Sess). Rests (Happens (Closed p) ∷ steps) p o) (sym sets.here) tt)
     sets.there (λ q ne. ne)
     (λ q above. let u = g.unused q (omega (arith, opened, above)) in record {
@@ -212,33 +227,35 @@ goes-closed {S} {reply} {step} {first} {since} {a} {b} {at} {bt} {steps} p ends 
     }) g
 
 -- nothing is to be done for it any more
-pub goes-rests : {S : Type 0} {reply : Answer S} {step : Change S} {first : S} {since : Option (List ℕ)} {a : Around S}
+pub goes-rests : {H : Type 0} {v : Ghosts H} {first : v.State} {since : Desk H} {a : Around H}
     {at bt : ℕ → Option Sess} {steps : List Step} (p : ℕ)
     → Rests steps p (at p) → ((q : ℕ) → bt q ≡ at q)
-    → Goes reply step first since a (on p []) at steps → Goes reply step first since a calm bt steps
-goes-rests {S} {reply} {step} {first} {since} {a} {at} {bt} {steps} p rests alike g = record {
+    → Goes v first since a (on p []) at steps → Goes v first since a calm bt steps
+goes-rests {H} {v} {first} {since} {a} {at} {bt} {steps} p rests alike g = record {
   lawful = g.lawful;
   records = g.records;
   state = g.state;
-  times = g.times;
-  each = λ q. subst (λ (o : Option Sess). Stands reply step first steps q o) (sym (alike q)) (g.each q);
+  desk = g.desk;
+  over = g.over;
+  each = λ q. subst (λ (o : Option Sess). IsHeld v.reply_to v.state_after first steps q o) (sym (alike q)) (g.each q);
   rests = λ q idle. subst (λ (o : Option Sess). Rests steps q o) (sym (alike q))
       (everywhere (λ r. Rests steps r (at r)) p q rests (λ ne. g.rests q ne));
   unused = g.unused;
 }
 
 -- nothing happened on any connection
-pub goes-passed : {S : Type 0} {reply : Answer S} {step : Change S} {first : S} {since : Option (List ℕ)} {a b : Around S}
+pub goes-passed : {H : Type 0} {v : Ghosts H} {first : v.State} {since : Desk H} {a b : Around H}
     {at : ℕ → Option Sess} {steps : List Step}
-    → b.opened ≡ a.opened → b.state ≡ a.state → b.times ≡ a.times
-    → Goes reply step first since a calm at steps → Goes reply step first since b calm at (Happens Passed ∷ steps)
-goes-passed {S} {reply} {step} {first} {since} {a} {b} {at} {steps} opened state times g =
-    let alike : (q : ℕ) → Alike reply step first q (Happens Passed ∷ steps) steps =
+    → b.opened ≡ a.opened → b.desk ≡ a.desk → b.over ≡ a.over
+    → Goes v first since a calm at steps → Goes v first since b calm at (Happens Passed ∷ steps)
+goes-passed {H} {v} {first} {since} {a} {b} {at} {steps} opened desk over g =
+    let alike : (q : ℕ) → Alike v.reply_to v.state_after first q (Happens Passed ∷ steps) steps =
     λ q. record { stays = refl; came = refl; went = refl; frames = refl } in record {
       lawful = (goes-settled g, g.lawful);
       records = g.records;
-      state = state ∙ g.state;
-      times = subst (λ (t : Option (List ℕ)). Told since (times_of steps) t) (sym times) g.times;
+      state = ap (λ (d : Desk H). v.state d.handler) desk ∙ g.state;
+      desk = subst (λ (d : Desk H). HandlesAll v since (handled_in steps) d) (sym desk) g.desk;
+      over = over ∙ g.over;
       each = λ q. stands-alike (at q) (alike q) (g.each q);
       rests = λ q idle. rests-alike q (Happens Passed ∷ steps) steps (at q) refl (g.rests q idle);
       unused = λ q above. let u = g.unused q (omega (arith, opened, above)) in record {
@@ -252,31 +269,33 @@ goes-passed {S} {reply} {step} {first} {since} {a} {b} {at} {steps} opened state
     }
 
 -- the call failed
-pub goes-on : {S : Type 0} {reply : Answer S} {step : Change S} {first : S} {since : Option (List ℕ)} {a b : Around S} {w : Work}
+pub goes-on : {H : Type 0} {v : Ghosts H} {first : v.State} {since : Desk H} {a b : Around H} {w : Work}
     {at : ℕ → Option Sess} {steps : List Step}
-    → b.opened ≡ a.opened → b.state ≡ a.state → b.times ≡ a.times
-    → Goes reply step first since a w at steps → Goes reply step first since b w at steps
-goes-on {S} {reply} {step} {first} {since} {a} {b} {w} {at} {steps} opened state times g = record {
+    → b.opened ≡ a.opened → b.desk ≡ a.desk → b.over ≡ a.over
+    → Goes v first since a w at steps → Goes v first since b w at steps
+goes-on {H} {v} {first} {since} {a} {b} {w} {at} {steps} opened desk over g = record {
   lawful = g.lawful;
   records = g.records;
-  state = state ∙ g.state;
-  times = subst (λ (t : Option (List ℕ)). Told since (times_of steps) t) (sym times) g.times;
+  state = ap (λ (d : Desk H). v.state d.handler) desk ∙ g.state;
+  desk = subst (λ (d : Desk H). HandlesAll v since (handled_in steps) d) (sym desk) g.desk;
+  over = over ∙ g.over;
   each = g.each;
   rests = g.rests;
   unused = λ q above. g.unused q (omega (arith, opened, above));
 }
 
 -- the sessions are the same
-pub goes-at : {S : Type 0} {reply : Answer S} {step : Change S} {first : S} {since : Option (List ℕ)} {a : Around S} {w : Work}
+pub goes-at : {H : Type 0} {v : Ghosts H} {first : v.State} {since : Desk H} {a : Around H} {w : Work}
     {at bt : ℕ → Option Sess} {steps : List Step}
     → ((q : ℕ) → bt q ≡ at q)
-    → Goes reply step first since a w at steps → Goes reply step first since a w bt steps
-goes-at {S} {reply} {step} {first} {since} {a} {w} {at} {bt} {steps} alike g = record {
+    → Goes v first since a w at steps → Goes v first since a w bt steps
+goes-at {H} {v} {first} {since} {a} {w} {at} {bt} {steps} alike g = record {
   lawful = g.lawful;
   records = g.records;
   state = g.state;
-  times = g.times;
-  each = λ q. subst (λ (o : Option Sess). Stands reply step first steps q o) (sym (alike q)) (g.each q);
+  desk = g.desk;
+  over = g.over;
+  each = λ q. subst (λ (o : Option Sess). IsHeld v.reply_to v.state_after first steps q o) (sym (alike q)) (g.each q);
   rests = λ q idle. subst (λ (o : Option Sess). Rests steps q o) (sym (alike q)) (g.rests q idle);
   unused = g.unused;
 }
@@ -298,40 +317,45 @@ handles-other reply step first q h steps ne = record {
       ∙ rw ne (append-nil (frames_on reply step q first (handled_in steps)));
 }
 
-pub goes-handles : {S : Type 0} {reply : Answer S} {step : Change S} {first : S} {since : Option (List ℕ)} {a b : Around S}
+pub goes-handles : {H : Type 0} {v : Ghosts H} {first : v.State} {since : Desk H} {a b : Around H}
     {at bt : ℕ → Option Sess} {steps : List Step} (p time : ℕ) (message : List ℕ) (rest : List (List ℕ)) (s t : Sess)
-    → at p ≡ Some s → t ≡ record s { unsent = s.unsent ++ framed (reply a.state time message) }
-    → b.opened ≡ a.opened → b.state ≡ step a.state time message → TellsTime a.times b.times time → Sets p (Some t) at bt
-    → Goes reply step first since a (on p (message ∷ rest)) at steps
-    → Goes reply step first since b (on p rest) bt
+    → at p ≡ Some s → t ≡ record s { unsent = s.unsent ++ framed (v.reply_to (v.state a.desk.handler) time message) }
+    → b.opened ≡ a.opened → v.state b.desk.handler ≡ v.state_after (v.state a.desk.handler) time message
+    → TellsTime a.desk.times b.desk.times time → v.handles time message a.desk.handler b.desk.handler → b.over ≡ a.over
+    → Sets p (Some t) at bt
+    → Goes v first since a (on p (message ∷ rest)) at steps
+    → Goes v first since b (on p rest) bt
     (Handles (record { port = p; time = time; message = message }) ∷ steps)
-goes-handles {S} {reply} {step} {first} {since} {a} {b} {at} {bt} {steps} p time message rest s t is is_t opened state tells sets
-    g =
+goes-handles {H} {v} {first} {since} {a} {b} {at} {bt} {steps} p time message rest s t is is_t opened state tells done
+    over sets g =
     let h : Handled = record { port = p; time = time; message = message } in
-    let open_p : Stands reply step first steps p (Some s) = opens reply step first steps p s (at p) is (g.each p) in record {
+    let open_p : IsHeld v.reply_to v.state_after first steps p (Some s) = opens v.reply_to v.state_after first steps p s
+    (at p) is (g.each p) in record {
       lawful = ((map (taken_on p) rest, g.records), g.lawful);
       records = g.records
           ∙ sym (append_assoc (map record_of (handled_in steps)) (taken_on p message ∷ []) (map (taken_on p) rest))
           ∙ ap (λ (l : List Taken). l ++ map (taken_on p) rest) (sym (map-append record_of (handled_in steps) (h ∷ [])));
-      state = state ∙ ap (λ (d : S). step d time message) g.state ∙ sym (after-append step first (handled_in steps) (h ∷ []));
-      times = subst (λ (ts : List ℕ). Told since ts b.times)
-          (sym (map-append (λ (k : Handled). k.time) (handled_in steps) (h ∷ [])))
-          (told-append since a.times b.times (times_of steps) (time ∷ []) g.times (b.times, tells, refl));
-      each = λ q. everywhere (λ r. Stands reply step first (Handles h ∷ steps) r (bt r)) p q
-          (subst (λ (o : Option Sess). Stands reply step first (Handles h ∷ steps) p o)
+      state = state ∙ ap (λ (d : v.State). v.state_after d time message) g.state
+          ∙ sym (after-append v.state_after first (handled_in steps) (h ∷ []));
+      desk = handles-append v since a.desk b.desk (handled_in steps) (h ∷ []) g.desk (b.desk, tells, done, refl);
+      over = over ∙ g.over;
+      each = λ q. everywhere (λ r. IsHeld v.reply_to v.state_after first (Handles h ∷ steps) r (bt r)) p q
+          (subst (λ (o : Option Sess). IsHeld v.reply_to v.state_after first (Handles h ∷ steps) p o)
           (sym (sets.here ∙ ap (λ (x : Sess). Some x) is_t)) (
             open_p.0,
             open_p.1,
-            frames-append reply step p first (handled_in steps) (h ∷ [])
-                ∙ ap (λ (l : List ℕ). l ++ frames_on reply step p (after_all step first (handled_in steps)) (h ∷ [])) open_p.2
+            frames-append v.reply_to v.state_after p first (handled_in steps) (h ∷ [])
+                ∙ ap (λ (l : List ℕ). l ++ frames_on v.reply_to v.state_after p (after_all v.state_after first
+                (handled_in steps)) (h ∷ [])) open_p.2
                 ∙ append_assoc (went_on p (happened steps)) s.unsent
-                (frames_on reply step p (after_all step first (handled_in steps)) (h ∷ []))
+                (frames_on v.reply_to v.state_after p (after_all v.state_after first (handled_in steps)) (h ∷ []))
                 ∙ ap (λ (l : List ℕ). went_on p (happened steps) ++ (s.unsent ++ l))
-                (frame-one reply step p (after_all step first (handled_in steps)) time message
-                ∙ ap (λ (d : S). framed (reply d time message)) (sym g.state)),
+                (frame-one v.reply_to v.state_after p (after_all v.state_after first (handled_in steps)) time message
+                ∙ ap (λ (d : v.State). framed (v.reply_to d time message)) (sym g.state)),
           ))
-          (λ ne. subst (λ (o : Option Sess). Stands reply step first (Handles h ∷ steps) q o) (sym (sets.there q ne))
-          (stands-alike (at q) (handles-other reply step first q h steps ne) (g.each q)));
+          (λ ne. subst (λ (o : Option Sess). IsHeld v.reply_to v.state_after first (Handles h ∷ steps) q o) (sym
+          (sets.there q ne))
+          (stands-alike (at q) (handles-other v.reply_to v.state_after first q h steps ne) (g.each q)));
       rests = λ q ne. subst (λ (o : Option Sess). Rests (Handles h ∷ steps) q o) (sym (sets.there q ne))
           (rests-alike q (Handles h ∷ steps) steps (at q) refl (g.rests q ne));
       unused = λ q above.
@@ -342,6 +366,6 @@ goes-handles {S} {reply} {step} {first} {since} {a} {b} {at} {bt} {steps} p time
             came = u.came;
             went = u.went;
             empty = u.empty;
-            frames = frames-append reply step q first (handled_in steps) (h ∷ []) ∙ rw (u.frames, ne) refl;
+            frames = frames-append v.reply_to v.state_after q first (handled_in steps) (h ∷ []) ∙ rw (u.frames, ne) refl;
           };
     }

@@ -3,64 +3,65 @@ use Rattle.std.proofs.Common.{◌≡◌, ℕ, ◌+◌, List, [], ◌∷◌, ◌+
 use Rattle.port_loop.specs.Points.{Around, Goes, Moves, Sets, Stops, Work, holding}
 use Rattle.port_loop.specs.Ports.{Adds, waits_of}
 use Rattle.port_loop.specs.declared.ports.Happening.{Happening}
-use Rattle.port_loop.specs.Serving.{Ran}
+use Rattle.port_loop.specs.declared.handler.Handler.{Ghosts}
+use Rattle.port_loop.specs.Serving.{Desk, Ran}
 use Rattle.port_loop.specs.Sessions.{Sess}
-use Rattle.port_loop.specs.Steps.{Answer, Change, Handled, Step}
+use Rattle.port_loop.specs.Steps.{Handled, Step}
 use Rattle.port_loop.specs.Steps.Step.{Happens, Handles}
 use Rattle.port_loop.proofs.ListLaws.{adds-none, adds-one, adds-then, everywhere, same, waits-append}
 use Rattle.port_loop.proofs.StepLaws.{goes-ran}
 
-pub moves-zero : {S : Type 0} {reply : Answer S} {step : Change S} {a b : Around S} {w x : Work} {at bt : ℕ → Option Sess}
+pub moves-zero : {H : Type 0} {v : Ghosts H} {a b : Around H} {w x : Work} {at bt : ℕ → Option Sess}
     → b.told ≡ a.told
-    → ((first : S) (since : Option (List ℕ)) (steps : List Step) → Goes reply step first since a w at steps →
-    Goes reply step first since b x bt steps)
-    → Moves 0 reply step a w at b x bt
-moves-zero {S} {reply} {step} {a} {b} told h = λ first since steps g. ([], adds-none a.told b.told told, h first since steps g, refl)
+    → ((first : v.State) (since : Desk H) (steps : List Step) → Goes v first since a w at steps →
+    Goes v first since b x bt steps)
+    → Moves 0 v a w at b x bt
+moves-zero {H} {v} {a} {b} told h = λ first since steps g. ([], adds-none a.told b.told told, h first since steps g, refl)
 
-pub moves-one : {S : Type 0} {reply : Answer S} {step : Change S} {a b : Around S} {w x : Work} {at bt : ℕ → Option Sess}
+pub moves-one : {H : Type 0} {v : Ghosts H} {a b : Around H} {w x : Work} {at bt : ℕ → Option Sess}
     (happening : Happening)
     → Adds happening a.told b.told
-    → ((first : S) (since : Option (List ℕ)) (steps : List Step) → Goes reply step first since a w at steps →
-    Goes reply step first since b x bt (Happens happening ∷ steps))
-    → Moves (waits_of happening) reply step a w at b x bt
-moves-one {S} {reply} {step} {a} {b} happening told h =
+    → ((first : v.State) (since : Desk H) (steps : List Step) → Goes v first since a w at steps →
+    Goes v first since b x bt (Happens happening ∷ steps))
+    → Moves (waits_of happening) v a w at b x bt
+moves-one {H} {v} {a} {b} happening told h =
     λ first since steps g. (Happens happening ∷ [], adds-one happening a.told b.told told, h first since steps g, omega arith)
 
-pub moves-handles : {S : Type 0} {reply : Answer S} {step : Change S} {a b : Around S} {w x : Work} {at bt : ℕ → Option Sess}
+pub moves-handles : {H : Type 0} {v : Ghosts H} {a b : Around H} {w x : Work} {at bt : ℕ → Option Sess}
     (handled : Handled)
     → b.told ≡ a.told
-    → ((first : S) (since : Option (List ℕ)) (steps : List Step) → Goes reply step first since a w at steps →
-    Goes reply step first since b x bt (Handles handled ∷ steps))
-    → Moves 0 reply step a w at b x bt
-moves-handles {S} {reply} {step} {a} {b} handled told h =
+    → ((first : v.State) (since : Desk H) (steps : List Step) → Goes v first since a w at steps →
+    Goes v first since b x bt (Handles handled ∷ steps))
+    → Moves 0 v a w at b x bt
+moves-handles {H} {v} {a} {b} handled told h =
     λ first since steps g. (Handles handled ∷ [], adds-none a.told b.told told, h first since steps g, refl)
 
-pub moves-then : {S : Type 0} {n k : ℕ} {reply : Answer S} {step : Change S} {a b c : Around S} {w x y : Work}
+pub moves-then : {H : Type 0} {n k : ℕ} {v : Ghosts H} {a b c : Around H} {w x y : Work}
     {at bt ct : ℕ → Option Sess}
-    → Moves n reply step a w at b x bt → Moves k reply step b x bt c y ct → Moves (n + k) reply step a w at c y ct
-moves-then {S} {n} {k} {reply} {step} {a} {b} {c} {w} {x} {y} {at} {bt} {ct} l m = λ first since steps g.
+    → Moves n v a w at b x bt → Moves k v b x bt c y ct → Moves (n + k) v a w at c y ct
+moves-then {H} {n} {k} {v} {a} {b} {c} {w} {x} {y} {at} {bt} {ct} l m = λ first since steps g.
     let i = l first since steps g in
     let j = m first since (i.0 ++ steps) i.2 in (
       j.0 ++ i.0,
       adds-then i.0 j.0 a.told b.told c.told i.1 j.1,
-      subst (λ (l : List Step). Goes reply step first since c y ct l) (sym (append_assoc j.0 i.0 steps)) j.2,
+      subst (λ (l : List Step). Goes v first since c y ct l) (sym (append_assoc j.0 i.0 steps)) j.2,
       waits-append i.0 j.0 n k i.3 j.3,
     )
 
-pub moves-stop : {S : Type 0} {n : ℕ} {reply : Answer S} {step : Change S} {a b : Around S} (c : Around S) {w x : Work}
+pub moves-stop : {H : Type 0} {n : ℕ} {v : Ghosts H} {a b : Around H} (c : Around H) {w x : Work}
     {at bt : ℕ → Option Sess}
-    → Moves n reply step a w at b x bt → Stops reply step b x bt c → Stops reply step a w at c
-moves-stop {S} {n} {reply} {step} {a} {b} c {w} {x} {at} {bt} l m = λ first since steps g.
+    → Moves n v a w at b x bt → Stops v b x bt c → Stops v a w at c
+moves-stop {H} {n} {v} {a} {b} c {w} {x} {at} {bt} l m = λ first since steps g.
     let i = l first since steps g in
     let j = m first since (i.0 ++ steps) i.2 in (
       j.0 ++ i.0,
       adds-then i.0 j.0 a.told b.told c.told i.1 j.1,
-      subst (λ (l : List Step). Ran reply step first c.state since c.times l) (sym (append_assoc j.0 i.0 steps)) j.2,
+      subst (λ (l : List Step). Ran v first since c.desk l) (sym (append_assoc j.0 i.0 steps)) j.2,
     )
 
-pub stops-here : {S : Type 0} {n : ℕ} {reply : Answer S} {step : Change S} {a b : Around S} {w x : Work} {at bt : ℕ → Option Sess}
-    → Moves n reply step a w at b x bt → Stops reply step a w at b
-stops-here {S} {n} {reply} {step} {a} {b} m = λ first since steps g.
+pub stops-here : {H : Type 0} {n : ℕ} {v : Ghosts H} {a b : Around H} {w x : Work} {at bt : ℕ → Option Sess}
+    → Moves n v a w at b x bt → Stops v a w at b
+stops-here {H} {n} {v} {a} {b} m = λ first since steps g.
     let i = m first since steps g in (i.0, i.1, goes-ran i.2)
 
 -- ---- sessions in hand

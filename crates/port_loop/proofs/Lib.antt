@@ -1,4 +1,5 @@
 mod ListLaws
+pub mod FrontLaws
 mod StepLaws
 mod GoingLaws
 mod LeavingLaws

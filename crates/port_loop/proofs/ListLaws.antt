@@ -5,7 +5,8 @@ use Rattle.std.proofs.Math.Numerals.{add-one}
 use Rattle.std.proofs.lemmas.Bool.{eqb-true}
 use Rattle.port_loop.specs.Ports.{Adds}
 use Rattle.port_loop.specs.declared.ports.Happening.{Happening}
-use Rattle.port_loop.specs.Serving.{AddsAll, Told, onto}
+use Rattle.port_loop.specs.declared.handler.Handler.{Ghosts}
+use Rattle.port_loop.specs.Serving.{AddsAll, Desk, HandlesAll, onto}
 use Rattle.port_loop.specs.Steps.{Answer, Change, Handled, Step, after_all, frame_on, frames_on, happened, waits_in}
 use Rattle.port_loop.specs.Steps.Step.{Happens, Handles}
 
@@ -21,9 +22,10 @@ frames-append reply step p d (h ∷ hs) ks =
     ap (λ (x : List ℕ). frame_on reply p d h ++ x) (frames-append reply step p (step d h.time h.message) hs ks)
     ∙ sym (append_assoc (frame_on reply p d h) (frames_on reply step p (step d h.time h.message) hs) _)
 
-pub told-append : (a b c : Option (List ℕ)) (ts us : List ℕ) → Told a ts b → Told b us c → Told a (ts ++ us) c
-told-append a b c [] us t u = subst (λ (x : Option (List ℕ)). Told x us c) t u
-told-append a b c (x ∷ ts) us t u = (t.0, t.1, told-append t.0 b c ts us t.2 u)
+pub handles-append : {H : Type 0} (v : Ghosts H) (a b c : Desk H) (hs ks : List Handled) → HandlesAll v a hs b →
+    HandlesAll v b ks c → HandlesAll v a (hs ++ ks) c
+handles-append {H} v a b c [] ks t u = subst (λ (x : Desk H). HandlesAll v x ks c) t u
+handles-append {H} v a b c (h ∷ hs) ks t u = (t.0, t.1, t.2, handles-append v t.0 b c hs ks t.3 u)
 
 -- ---- numbers of connections
 

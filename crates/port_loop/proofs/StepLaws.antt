@@ -1,14 +1,16 @@
 -- What a step more leaves of other connections, and that a loop that goes is settled.
-use Rattle.std.proofs.Common.{◌≡◌, ℕ, true, false, nat_eq, List, [], ◌∷◌, map, Option, None, Some, refl, sym, ap, subst, ◌∙◌, arith}
+use Rattle.std.proofs.Common.{◌≡◌, inl, ℕ, true, false, nat_eq, List, ◌∷◌, map, Option, None, Some, refl, sym, ap, subst, ◌∙◌}
 use Rattle.std.proofs.lemmas.List.{append-nil}
-use Rattle.port_loop.specs.Points.{Around, Goes, Rests, Stands, Unused, Work, calm}
+use Rattle.port_loop.specs.Points.{Around, Goes, IsHeld, Rests, Unused, Work, calm}
 use Rattle.port_loop.specs.Ports.{came_on, is_full, is_known, is_open, went_on}
 use Rattle.port_loop.specs.declared.ports.Happening.{Happening}
 use Rattle.port_loop.specs.declared.ports.Happening.TheVariants.{Began, Came, Went, Failed, Drained, Ended, Closed, Passed}
-use Rattle.port_loop.specs.Serving.{Ran, Told, times_of}
+use Rattle.port_loop.specs.declared.handler.Handler.{Ghosts}
+use Rattle.port_loop.specs.Serving.{Desk, Ran}
 use Rattle.port_loop.specs.Sessions.{Sess}
 use Rattle.port_loop.specs.Steps.{Answer, Change, IsServed, Settled, Step, frames_on, handled_in, happened, record_of}
 use Rattle.port_loop.specs.Steps.Step.{Happens}
+use Rattle.port_loop.proofs.FrontLaws.{fronts}
 use Rattle.port_loop.proofs.ListLaws.{other}
 
 pub record Alike {S : Type 0} (reply : Answer S) (step : Change S) (first : S) (q : ℕ) (new old : List Step) : Type 0 where
@@ -18,7 +20,7 @@ pub record Alike {S : Type 0} (reply : Answer S) (step : Change S) (first : S) (
   pub frames : frames_on reply step q first (handled_in new) ≡ frames_on reply step q first (handled_in old)
 
 pub stands-alike : {S : Type 0} {reply : Answer S} {step : Change S} {first : S} {q : ℕ} {new old : List Step} (o : Option Sess)
-    → Alike reply step first q new old → Stands reply step first old q o → Stands reply step first new q o
+    → Alike reply step first q new old → IsHeld reply step first old q o → IsHeld reply step first new q o
 stands-alike None a s = a.stays ∙ s
 stands-alike (Some x) a s = (a.stays ∙ s.0, rw a.came s.1, rw (a.frames, a.went) s.2)
 
@@ -89,22 +91,22 @@ apart {S} {reply} {step} {first} {steps} p q stands u =
     other p q (λ e. absurd (cc (sym stands ∙ ap (λ (x : ℕ). is_open x (happened steps)) e ∙ u.shut)))
 
 pub opens : {S : Type 0} (reply : Answer S) (step : Change S) (first : S) (steps : List Step) (p : ℕ) (s : Sess) (o : Option Sess)
-    → o ≡ Some s → Stands reply step first steps p o → Stands reply step first steps p (Some s)
+    → o ≡ Some s → IsHeld reply step first steps p o → IsHeld reply step first steps p (Some s)
 opens reply step first steps p s o e h =
-    subst (λ (x : Option Sess). Stands reply step first steps p x) e h
+    subst (λ (x : Option Sess). IsHeld reply step first steps p x) e h
 
 -- ---- what a loop that goes shows
 
-pub goes-settled : {S : Type 0} {reply : Answer S} {step : Change S} {first : S} {since : Option (List ℕ)} {a : Around S}
+pub goes-settled : {H : Type 0} {v : Ghosts H} {first : v.State} {since : Desk H} {a : Around H}
     {at : ℕ → Option Sess} {steps : List Step}
-    → Goes reply step first since a calm at steps → Settled reply step first steps
-goes-settled {S} {reply} {step} {first} {since} {a} {at} {steps} g = record {
+    → Goes v first since a calm at steps → Settled v.reply_to v.state_after first steps
+goes-settled {H} {v} {first} {since} {a} {at} {steps} g = record {
   handled = sym (g.records ∙ append-nil (map record_of (handled_in steps)));
   served = λ p is. by_session p (at p) (g.each p) (g.rests p refl) is;
 }
   where
-    by_session : (p : ℕ) (o : Option Sess) → Stands reply step first steps p o → Rests steps p o →
-        is_open p (happened steps) ≡ true → IsServed reply step first p steps
+    by_session : (p : ℕ) (o : Option Sess) → IsHeld v.reply_to v.state_after first steps p o → Rests steps p o →
+        is_open p (happened steps) ≡ true → IsServed v.reply_to v.state_after first p steps
     by_session p None s r is = absurd (cc (sym is ∙ s))
     by_session p (Some x) s r is = record {
       begun = r.begun.0;
@@ -115,13 +117,12 @@ goes-settled {S} {reply} {step} {first} {since} {a} {at} {steps} g = record {
       all = r.all;
     }
 
-pub goes-ran : {S : Type 0} {reply : Answer S} {step : Change S} {first : S} {since : Option (List ℕ)} {a : Around S} {w : Work}
+pub goes-ran : {H : Type 0} {v : Ghosts H} {first : v.State} {since : Desk H} {a : Around H} {w : Work}
     {at : ℕ → Option Sess} {steps : List Step}
-    → Goes reply step first since a w at steps → Ran reply step first a.state since a.times steps
-goes-ran {S} {reply} {step} {first} {since} {a} {w} {at} {steps} g = record {
+    → Goes v first since a w at steps → Ran v first since a.desk steps
+goes-ran {H} {v} {first} {since} {a} {w} {at} {steps} g = record {
   lawful = g.lawful;
+  fronts = fronts v.reply_to v.state_after first steps g.lawful;
   state = g.state;
-  more = [];
-  times = subst (λ (ts : List ℕ). Told since ts a.times) (sym (append-nil (times_of steps))) g.times;
-  one = omega arith;
+  desk = inl g.desk;
 }

@@ -1,24 +1,25 @@
 -- Where a loop is between two of its steps.
-use Rattle.std.specs.Prelude.{◌≡◌, ⊤, ℕ, ◌≤◌, Bool, true, false, nat_eq, if◌then◌else◌, List, [], ◌++◌, length, map, Option, None, Some, Result, Ok, Err}
+use Rattle.std.specs.Prelude.{◌≡◌, ⊤, ℕ, ◌+◌, ◌≤◌, Bool, true, false, nat_eq, if◌then◌else◌, List, [], ◌++◌, length, map, Option, None, Some, Result, Ok, Err}
 use Rattle.osd_bytes.specs.Records.{Begun, fresh, split}
 use Rattle.port_loop.specs.declared.serving.TheConstants.{MOST_UNSENT}
 use Rattle.port_loop.specs.declared.serving.LoopErr.{LoopErr}
 use Rattle.port_loop.specs.declared.serving.LoopErr.TheVariants.{PortFault, HandlerFault, Memory}
-use Rattle.port_loop.specs.Ports.{came_on, is_full, is_known, is_open, went_on}
+use Rattle.port_loop.specs.Ports.{came_on, is_full, is_known, is_open, over_in, went_on}
+use Rattle.port_loop.specs.declared.handler.Handler.{Ghosts}
 use Rattle.port_loop.specs.declared.ports.Happening.{Happening}
-use Rattle.port_loop.specs.Serving.{AddsAll, Ran, Told, times_of}
+use Rattle.port_loop.specs.Serving.{AddsAll, Desk, HandlesAll, Ran}
 use Rattle.port_loop.specs.Sessions.{Sess}
 use Rattle.port_loop.specs.Steps.{Answer, Change, Lawful, Step, Taken, Unsent, after_all, frames_on, handled_in, happened, record_of, waits_in, taken_in, taken_on}
 
--- the connections that were opened, what was told, the state and the times
-pub record Around (S : Type 0) : Type 0 where
+-- the connections that were opened, what was told, the handler with its clock, and how many connections are over
+pub record Around (H : Type 0) : Type 0 where
   pub opened : ℕ
   pub told : Option (List Happening)
-  pub state : S
-  pub times : Option (List ℕ)
+  pub desk : Desk H
+  pub over : ℕ
 
-abbrev pub around : {S : Type 0} → ℕ → Option (List Happening) → S → Option (List ℕ) → Around S
-around opened told state times = record { opened = opened; told = told; state = state; times = times }
+abbrev pub around : {H : Type 0} → ℕ → Option (List Happening) → Desk H → ℕ → Around H
+around opened told desk over = record { opened = opened; told = told; desk = desk; over = over }
 
 -- what is in hand: the connection that is worked on, and its records that were taken and aren't handled
 pub record Work : Type 0 where
@@ -35,15 +36,20 @@ on p records = record { busy = Some p; pending = map (taken_on p) records }
 abbrev pub holding : ℕ → Sess → (ℕ → Option Sess) → ℕ → Option Sess
 holding p s at q = if nat_eq p q then Some s else at q
 
+-- how many connections are over, after one whose session was there or not
+abbrev pub with_over : Option Sess → ℕ → ℕ
+with_over None n = n
+with_over (Some s) n = n + 1
+
 -- the same sessions but for one connection
 pub record Sets (p : ℕ) (w : Option Sess) (at now : ℕ → Option Sess) : Type 0 where
   pub here : now p ≡ w
   pub there : (q : ℕ) → nat_eq p q ≡ false → now q ≡ at q
 
 -- a session is as its connection
-abbrev pub Stands : {S : Type 0} → Answer S → Change S → S → List Step → ℕ → Option Sess → Type 0
-Stands reply step first steps p None = is_open p (happened steps) ≡ false
-Stands reply step first steps p (Some s) =
+abbrev pub IsHeld : {S : Type 0} → Answer S → Change S → S → List Step → ℕ → Option Sess → Type 0
+IsHeld reply step first steps p None = is_open p (happened steps) ≡ false
+IsHeld reply step first steps p (Some s) =
     (is_open p (happened steps) ≡ true) × ((split fresh (came_on p (happened steps))).begun ≡ s.begun)
     × Unsent reply step first p steps s.unsent
 
@@ -70,42 +76,41 @@ pub record Unused {S : Type 0} (reply : Answer S) (step : Change S) (first : S) 
   pub frames : frames_on reply step p first (handled_in steps) ≡ []
 
 -- after these steps since a first state the loop is here
-pub record Goes {S : Type 0} (reply : Answer S) (step : Change S) (first : S) (since : Option (List ℕ)) (a : Around S)
-    (w : Work) (at : ℕ → Option Sess) (steps : List Step) : Type 0 where
-  pub lawful : Lawful reply step first steps
+pub record Goes {H : Type 0} (v : Ghosts H) (first : v.State) (since : Desk H) (a : Around H) (w : Work) (at : ℕ → Option Sess)
+    (steps : List Step) : Type 0 where
+  pub lawful : Lawful v.reply_to v.state_after first steps
   pub records : taken_in (happened steps) ≡ map record_of (handled_in steps) ++ w.pending
-  pub state : a.state ≡ after_all step first (handled_in steps)
-  pub times : Told since (times_of steps) a.times
-  pub each : (p : ℕ) → Stands reply step first steps p (at p)
+  pub state : v.state a.desk.handler ≡ after_all v.state_after first (handled_in steps)
+  pub desk : HandlesAll v since (handled_in steps) a.desk
+  pub over : a.over ≡ over_in (happened steps)
+  pub each : (p : ℕ) → IsHeld v.reply_to v.state_after first steps p (at p)
   pub rests : (p : ℕ) → is_busy w.busy p ≡ false → Rests steps p (at p)
-  pub unused : (p : ℕ) → a.opened ≤ p → Unused reply step first steps p
+  pub unused : (p : ℕ) → a.opened ≤ p → Unused v.reply_to v.state_after first steps p
 
 -- from one point to a later one, for which the loop waited so often
-abbrev pub Moves : {S : Type 0} → ℕ → Answer S → Change S → (before : Around S) → Work → (ℕ → Option Sess)
-    → (now : Around S) → Work → (ℕ → Option Sess) → Type 0
-Moves {S} n reply step before w at now x bt =
-    (first : S) (since : Option (List ℕ)) (steps : List Step) → Goes reply step first since before w at steps →
+abbrev pub Moves : {H : Type 0} → ℕ → (v : Ghosts H) → (before : Around H) → Work → (ℕ → Option Sess)
+    → (now : Around H) → Work → (ℕ → Option Sess) → Type 0
+Moves {H} n v before w at now x bt =
+    (first : v.State) (since : Desk H) (steps : List Step) → Goes v first since before w at steps →
     (more : List Step) × AddsAll (happened more) before.told now.told
-    × Goes reply step first since now x bt (more ++ steps) × (waits_in more ≡ n)
+    × Goes v first since now x bt (more ++ steps) × (waits_in more ≡ n)
 
 -- from one point to an end, in the middle of work
-abbrev pub Stops : {S : Type 0} → Answer S → Change S → (before : Around S) → Work → (ℕ → Option Sess) → (now : Around S)
-    → Type 0
-Stops {S} reply step before w at now =
-    (first : S) (since : Option (List ℕ)) (steps : List Step) → Goes reply step first since before w at steps →
-    (more : List Step) × AddsAll (happened more) before.told now.told
-    × Ran reply step first now.state since now.times (more ++ steps)
+abbrev pub Stops : {H : Type 0} → (v : Ghosts H) → (before : Around H) → Work → (ℕ → Option Sess) → (now : Around H) → Type 0
+Stops {H} v before w at now =
+    (first : v.State) (since : Desk H) (steps : List Step) → Goes v first since before w at steps →
+    (more : List Step) × AddsAll (happened more) before.told now.told × Ran v first since now.desk (more ++ steps)
 
 -- what a part of a turn leaves: a later point, or an end
-abbrev pub Leaves : {S T E : Type 0} → ℕ → Answer S → Change S → (before : Around S) → Work → (ℕ → Option Sess)
-    → (now : Around S) → Work → (ℕ → Option Sess) → Result T E → Type 0
-Leaves n reply step before w at now x bt (Ok t) = Moves n reply step before w at now x bt
-Leaves n reply step before w at now x bt (Err e) = Stops reply step before w at now
+abbrev pub Leaves : {H T E : Type 0} → ℕ → (v : Ghosts H) → (before : Around H) → Work → (ℕ → Option Sess)
+    → (now : Around H) → Work → (ℕ → Option Sess) → Result T E → Type 0
+Leaves n v before w at now x bt (Ok t) = Moves n v before w at now x bt
+Leaves n v before w at now x bt (Err e) = Stops v before w at now
 
 -- what a turn leaves, in which the loop waits once; a fault of the ports leaves all as it was
-abbrev pub Turns : {S : Type 0} → Answer S → Change S → (before : Around S) → (ℕ → Option Sess) → (now : Around S)
+abbrev pub Turns : {H : Type 0} → (v : Ghosts H) → (before : Around H) → (ℕ → Option Sess) → (now : Around H)
     → (ℕ → Option Sess) → Result ⊤ LoopErr → Type 0
-Turns reply step before at now bt (Ok done) = Moves 1 reply step before calm at now calm bt
-Turns reply step before at now bt (Err PortFault) = Moves 0 reply step before calm at now calm bt
-Turns reply step before at now bt (Err HandlerFault) = Stops reply step before calm at now
-Turns reply step before at now bt (Err Memory) = Stops reply step before calm at now
+Turns v before at now bt (Ok done) = Moves 1 v before calm at now calm bt
+Turns v before at now bt (Err PortFault) = Moves 0 v before calm at now calm bt
+Turns v before at now bt (Err HandlerFault) = Stops v before calm at now
+Turns v before at now bt (Err Memory) = Stops v before calm at now

@@ -57,6 +57,13 @@ is_open p (Ended q ∷ older) = if nat_eq q p then false else is_open p older
 is_open p (Closed q ∷ older) = if nat_eq q p then false else is_open p older
 is_open p (h ∷ older) = is_open p older
 
+-- how many connections began and are over
+abbrev pub over_in : List Happening → ℕ
+over_in [] = 0
+over_in (Ended p ∷ older) = if is_open p older then over_in older + 1 else over_in older
+over_in (Closed p ∷ older) = if is_open p older then over_in older + 1 else over_in older
+over_in (h ∷ older) = over_in older
+
 -- the last put on it didn't take all, and there was no room since
 abbrev pub is_full : ℕ → List Happening → Bool
 is_full p [] = false
@@ -82,3 +89,9 @@ abbrev pub went_on : ℕ → List Happening → List ℕ
 went_on p [] = []
 went_on p (Went q bytes full ∷ older) = if nat_eq q p then went_on p older ++ bytes else went_on p older
 went_on p (h ∷ older) = went_on p older
+
+-- ---- notes beside the connections
+
+-- so many more lines were told
+abbrev pub after_notes : List (List ℕ) → Option (List (List ℕ)) → Option (List (List ℕ))
+after_notes lines noted = option_map (λ l. l ++ lines) noted

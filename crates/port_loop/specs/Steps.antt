@@ -88,6 +88,10 @@ abbrev pub Unsent : {S : Type 0} → Answer S → Change S → S → ℕ → Lis
 Unsent reply step first p steps unsent =
     frames_on reply step p first (handled_in steps) ≡ went_on p (happened steps) ++ unsent
 
+-- what was put on each connection is a front of the frames of the replies to its own records, in order
+abbrev pub IsFrontOnEach : {S : Type 0} → Answer S → Change S → S → List Step → Type 0
+IsFrontOnEach reply step first steps = (p : ℕ) → (unsent : List ℕ) × Unsent reply step first p steps unsent
+
 -- ---- when a loop may wait for what happens next
 
 -- an open connection is served as far as it goes: its bytes can be read on, no more than a bound of bytes wait, and none

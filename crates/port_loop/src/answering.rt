@@ -1,6 +1,7 @@
-ghost use Rattle.std.specs.Prelude.{◌≤◌, [], ℕ, List, Option, IsErrOf};
+ghost use Rattle.std.specs.Prelude.{◌≤◌, [], ℕ, List, Option, IsErrOf, OnOk};
 ghost use Rattle.osd_bytes.specs.Causes.{Rose};
 ghost use Rattle.port_loop.specs.Points.{Leaves, around, holding, on};
+ghost use Rattle.port_loop.specs.Serving.{desk_at};
 ghost use Rattle.port_loop.specs.declared.ports.Happening.{Happening};
 ghost use Rattle.port_loop.specs.Sessions.{Sess};
 ghost use Rattle.port_loop.specs.declared.handler.HandlerErr.TheVariants.{Failed};
@@ -19,10 +20,11 @@ pub(crate) fn answer_all<H: Handler, C: Clock>(
     session: &mut Session,
     records: &ByteLists,
 ) -> Result<(), HandlerErr>
-    ensures leaves { (opened : ℕ) (told : Option (List Happening)) (at : ℕ → Option Sess) →
-        Leaves 0 H.reply_to H.state_after
-        (around opened told (H.state server.old) (C.times clock.old)) (on port records.now) (holding port session.old at)
-        (around opened told (H.state server.new) (C.times clock.new)) (on port []) (holding port session.new at) result }
+    requires { H.goes_on server.old }
+    ensures leaves { (opened over : ℕ) (told : Option (List Happening)) (at : ℕ → Option Sess) → Leaves 0 H.Handler
+        (around opened told (desk_at server.old (C.times clock.old)) over) (on port records.now) (holding port session.old at)
+        (around opened told (desk_at server.new (C.times clock.new)) over) (on port []) (holding port session.new at) result }
+    ensures goes_on { OnOk result (H.goes_on server.new) }
     ensures handler { IsErrOf result Failed → Rose (H.faults server.old) (H.faults server.new) }
     ensures later { H.faults server.old ≤ H.faults server.new }
 {

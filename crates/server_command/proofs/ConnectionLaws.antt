@@ -1,8 +1,11 @@
 -- The records of a connection, piece by piece.
-use Rattle.std.proofs.Common.{◌≡◌, ◌+◌, ℕ, suc, List, [], ◌∷◌, ◌++◌, length, Some, refl, sym, ap, subst, inl, inr, ◌∙◌, arith}
+use Rattle.std.proofs.Common.{◌≡◌, ◌+◌, ℕ, suc, List, [], ◌∷◌, ◌++◌, length, Option, None, Err, Some, refl, sym, ap, subst, inl, inr, ◌∙◌, arith}
 use Rattle.std.proofs.lemmas.List.{length-append}
 use Rattle.std.proofs.Math.Numerals.{add-one}
+use Rattle.osd_bytes.specs.Causes.{Rose}
+use Rattle.osd_bytes.specs.Connections.{Accepts, Traffic}
 use Rattle.osd_bytes.specs.Counts.{NoFewer}
+use Rattle.osd_bytes.specs.declared.source.Fault.{Fault}
 use Rattle.osd_bytes.specs.Records.{Split, fresh}
 use Rattle.osd_bytes.proofs.RecordLaws.{split-nil}
 use Rattle.osd_bytes.specs.Asking.{Ends}
@@ -11,7 +14,8 @@ use Rattle.osd_bytes.specs.Inboxes as over
 use Rattle.osd_bytes.specs.declared.inbox.TheConstants.{MAX_TAKEN}
 use Rattle.server_rules.specs.declared.server.Server.{Server}
 use Rattle.server_command.specs.Messages.{InTurn, ServesRecord, Serving}
-use Rattle.server_command.specs.Connections.{AcceptsOne, IsOver, ServesAll, ServesConnection, ServesPieces, ServesStream, Takes}
+use Rattle.server_command.specs.Steps.{ServerStep}
+use Rattle.server_command.specs.Connections.{AcceptsNone, AcceptsOne, IsOver, ServesAll, ServesConnection, ServesPieces, ServesStream, Takes}
 
 -- what a connection gave so far
 abbrev pub HasServed : (s t : Serving) → Coming → Type 0
@@ -45,17 +49,18 @@ nothing_taken : (piece : List ℕ) (room : ℕ) → length piece + room ≡ room
 nothing_taken [] room e = refl
 nothing_taken (x ∷ piece) room e = absurd (omega (arith, e))
 
-pub served_over : (s t : Serving) (new : Server) (now : Ends) (inbox left : Coming) (piece : List ℕ)
+pub served_over : (s t : Serving) (new : Server) (has : List ServerStep) (now : Ends) (inbox left : Coming) (piece : List ℕ)
     → HasServed s t inbox → WasTaken t.ends.told now.told piece → length piece + left.room ≡ inbox.room → left ≡ inbox
     → NoFewer t.ends.faults now.faults → now.times ≡ t.ends.times → over.IsOver inbox now.told t.ends.faults now.faults
-    → new ≡ t.server → ServesStream s new now
-served_over s t new now inbox left piece h took rooms same fewer times ends state = record {
+    → new ≡ t.server → has ≡ t.done → ServesStream s new has now
+served_over s t new has now inbox left piece h took rooms same fewer times ends state steps = record {
   pieces = h.0;
   taken = h.1;
   last = t;
   served = subst (λ (rs : List (List ℕ)). ServesPieces h.0 h.1 rs s t) (sym (ap (λ (x : Split). x.records) h.4)) h.3;
   limit = omega (arith, h.5);
   state = state;
+  steps = steps;
   ends = record {
     told = subst (λ (p : List ℕ). WasTaken t.ends.told now.told p)
         (nothing_taken piece inbox.room (ap (λ (i : Coming). length piece + i.room) (sym same) ∙ rooms)) took;
@@ -71,7 +76,18 @@ served_over s t new now inbox left piece h took rooms same fewer times ends stat
     why (inr (inr (inl r))) = inr (inr (inl r))
     why (inr (inr (inr e))) = inr (inr (inr e))
 
-pub served_one : (n : ℕ) (old s new : Server) (before between accepted now : Ends)
-    → ServesAll n old s before between → AcceptsOne between accepted → ServesConnection s new accepted now →
-    ServesAll (n + 1) old new before now
-served_one n old s new before between accepted now all accepts serves = rw add-one (s, between, all, accepted, accepts, serves)
+pub served_one : (n : ℕ) (old s new : Server) (had steps has : List ServerStep) (before between accepted now : Ends)
+    → ServesAll n old s had steps before between → AcceptsOne between accepted
+    → ServesConnection s new steps has accepted now → ServesAll (n + 1) old new had has before now
+served_one n old s new had steps has before between accepted now all accepts serves =
+    rw add-one (s, between, steps, all, accepted, accepts, serves)
+
+-- links that accept nothing tell nothing new
+pub accepts_none : (before now : Ends) (e : Fault) → Accepts before.told now.told (Err e) → now.times ≡ before.times
+    → NoFewer before.faults now.faults → Rose before.faults.listening now.faults.listening → AcceptsNone before now
+accepts_none before now e told times faults rose =
+    record { told = same before.told now.told told; times = times; faults = faults; rose = rose }
+  where
+    same : (old new : Option Traffic) → Accepts old new (Err e) → new ≡ old
+    same None new is = is
+    same (Some a) new is = is

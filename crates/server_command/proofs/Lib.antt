@@ -12,3 +12,4 @@ pub mod KeptLaws
 pub mod Telling
 pub mod CoreLaws
 pub mod FaultLaws
+pub mod CutLaws

@@ -1,6 +1,6 @@
 -- Commands that make files, one after the other, and where they stop.
 use Rattle.std.specs.Prelude.{slice_get}
-use Rattle.std.proofs.Common.{◌≡◌, ◌∙◌, ◌<◌, ℕ, zero, suc, true, List, [], ◌∷◌, ◌++◌, length, take, drop, Option, Some, None, refl, ap, subst}
+use Rattle.std.proofs.Common.{◌≡◌, ◌∙◌, ◌<◌, ℕ, zero, suc, true, false, List, [], ◌∷◌, ◌++◌, length, take, drop, Option, Some, None, Ok, refl, ap, subst, inr}
 use Rattle.osd_bytes.specs.Connections.{Traffic, after_notes}
 use Rattle.osd_bytes.specs.Counts.{Faults}
 use Rattle.osd_lists.specs.declared.node.Node.{Node}
@@ -10,24 +10,46 @@ use Rattle.cluster_text.specs.declared.cluster.ClusterFile.{ClusterFile}
 use Rattle.cluster_text.specs.declared.stop.CommandStop.TheVariants.{BadCluster, ReadFault, WriteFault, Memory, Full, LinkFault}
 use Rattle.server_command.specs.declared.server_stop.ServerStop.{ServerStop}
 use Rattle.server_command.specs.declared.server_stop.ServerStop.TheVariants.{Command, DiskFault}
+use Rattle.server_command.specs.declared.metadata_server.StepErr.{StepErr}
+use Rattle.server_command.specs.declared.metadata_server.StepErr.TheVariants as step_err
+use Rattle.server_command.specs.ServerStops.{stop_of_step}
+use Rattle.server_command.specs.Cuts.{CutsFile, CutsFiles, CutsHandle, CutsMake, CutsMakes, CutsMaking, CutsOn}
+use Rattle.server_command.specs.Steps.{ServerStep}
+use Rattle.server_command.specs.Steps as steps
+use Rattle.server_command.specs.Notes.{note_texts}
+use Rattle.server_command.specs.declared.files.TheConstants.{FIRST_TAG}
+use Rattle.server_rules.specs.declared.notes.Note.{Note}
+use Rattle.server_rules.specs.Files.{Step}
+use Rattle.server_rules.specs.Making.{create_file}
+use Rattle.server_requests.specs.Sending.{all_sent}
 use Rattle.server_rules.specs.declared.server.Server.{Server}
 use Rattle.server_requests.specs.declared.outgoing.Sent.{Sent}
-use Rattle.server_command.specs.Messages.{Handles, InTurn, Round, Rounds, Serving, UntilNone, serving}
+use Rattle.server_command.specs.Messages.{Handles, InTurn, Round, Rounds, Serving, serving}
 use Rattle.server_command.proofs.WorkLaws.{Grows, measure, round_less, turn_grows, works_grows}
 use Rattle.server_command.specs.Faults.{creation_fault, fault_line}
 use Rattle.reply_matching.specs.Creations.{creation_told}
-use Rattle.server_command.specs.Files.{Loses, LosesAll, LosesDrive, LosesFile, LosesFiles, LosesIn, Makes, MakesFile, MakesTo, RefusesFile, RefusesFiles, StopsAt, StopsBy}
+use Rattle.server_command.specs.Files.{Begins, Loses, LosesAll, LosesDrive, LosesFile, LosesFiles, LosesIn, Makes, MakesFile, MakesTo, RefusesFile, RefusesFiles, StopsAt, StopsBy}
 
 -- ---- where it stops
 
-pub stops_by : (A B X Y : Type 0) → (A → B) → (X → Y) → (stop : ServerStop) → StopsBy A X stop → StopsBy B Y stop
-stops_by A B X Y f g (Command LinkFault) s = f s
-stops_by A B X Y f g (Command (BadCluster kind)) s = (s.0, g s.1)
-stops_by A B X Y f g (Command Memory) s = tt
-stops_by A B X Y f g (Command ReadFault) s = absurd s
-stops_by A B X Y f g (Command WriteFault) s = absurd s
-stops_by A B X Y f g (Command Full) s = absurd s
-stops_by A B X Y f g DiskFault s = tt
+module _ (A B : List ServerStep → Type 0) (X Y : Type 0) (C D : (served unserved : List ServerStep) → Type 0)
+    (served unserved : List ServerStep) where
+  pub stops_by : (A served → B served) → (X → Y) → (C served unserved → D served unserved) → (stop : ServerStop)
+      → StopsBy A X C stop served unserved → StopsBy B Y D stop served unserved
+  stops_by f g h (Command LinkFault) s = (f s.0, s.1)
+  stops_by f g h (Command (BadCluster kind)) s = (s.0, g s.1, s.2)
+  stops_by f g h (Command Memory) s = h s
+  stops_by f g h (Command ReadFault) s = absurd s
+  stops_by f g h (Command WriteFault) s = absurd s
+  stops_by f g h (Command Full) s = absurd s
+  stops_by f g h DiskFault s = h s
+
+-- a step wasn't done
+pub stops_step : (A : List ServerStep → Type 0) (X : Type 0) (C : (served unserved : List ServerStep) → Type 0)
+    (served unserved : List ServerStep) (e : StepErr)
+    → C served unserved → StopsBy A X C (stop_of_step e) served unserved
+stops_step A X C served unserved step_err.DiskFault cut = cut
+stops_step A X C served unserved step_err.Memory cut = cut
 
 split_got : {A : Type 0} (xs : List A) (i : ℕ) (x : A) → slice_get xs i ≡ Some x → xs ≡ take i xs ++ x ∷ drop (suc i) xs
 split_got [] i x e = absurd (cc e)
@@ -61,14 +83,32 @@ drive_makes drive message reply s t between answered times hears none = (
 )
 
 -- where nothing was told in between, and the server is the same, a record is handled as if it came at once
-pub handled_from : (drive : ℕ) (reply : List ℕ) (waiting : List Sent) (first mid : Server) (times : Option (List ℕ))
-    (told now : Option Traffic) (faults later : Faults) (t : Serving) → mid ≡ first → now ≡ told → later ≡ faults
-    → Handles (Drive drive) reply (serving mid waiting true (ends_of now later times)) t
-    → Handles (Drive drive) reply (serving first waiting true (ends_of told faults times)) t
-handled_from drive reply waiting first mid times told now faults later t same tells still h =
-    subst (λ (x : Server). Handles (Drive drive) reply (serving x waiting true (ends_of told faults times)) t) same
-    (subst (λ (n : Option Traffic). Handles (Drive drive) reply (serving mid waiting true (ends_of n faults times)) t) tells
-    (subst (λ (f : Faults). Handles (Drive drive) reply (serving mid waiting true (ends_of now f times)) t) still h))
+pub handled_from : (drive : ℕ) (reply : List ℕ) (waiting : List Sent) (had : List ServerStep) (first mid : Server)
+    (times : Option (List ℕ)) (told now : Option Traffic) (faults later : Faults) (t : Serving)
+    → mid ≡ first → now ≡ told → later ≡ faults
+    → Handles (Drive drive) reply (serving mid waiting true had (ends_of now later times)) t
+    → Handles (Drive drive) reply (serving first waiting true had (ends_of told faults times)) t
+handled_from drive reply waiting had first mid times told now faults later t same tells still h =
+    subst (λ (x : Server). Handles (Drive drive) reply (serving x waiting true had (ends_of told faults times)) t) same
+    (subst (λ (n : Option Traffic). Handles (Drive drive) reply (serving mid waiting true had (ends_of n faults times)) t) tells
+    (subst (λ (f : Faults). Handles (Drive drive) reply (serving mid waiting true had (ends_of now f times)) t) still h))
+
+-- and so it is cut off
+pub cut_from_there : (drive : ℕ) (reply : List ℕ) (waiting : List Sent) (had : List ServerStep) (first mid : Server)
+    (times : Option (List ℕ)) (told now : Option Traffic) (faults later : Faults) (last : Ends)
+    (served unserved : List ServerStep) → mid ≡ first → now ≡ told → later ≡ faults
+    → CutsHandle (Drive drive) reply (serving mid waiting true had (ends_of now later times)) last served unserved
+    → CutsHandle (Drive drive) reply (serving first waiting true had (ends_of told faults times)) last served unserved
+cut_from_there drive reply waiting had first mid times told now faults later last served unserved same tells still h =
+    subst
+    (λ (x : Server). CutsHandle (Drive drive) reply (serving x waiting true had (ends_of told faults times)) last served unserved)
+    same
+    (subst
+    (λ (n : Option Traffic). CutsHandle (Drive drive) reply (serving mid waiting true had (ends_of n faults times)) last served
+    unserved) tells
+    (subst
+    (λ (f : Faults). CutsHandle (Drive drive) reply (serving mid waiting true had (ends_of now f times)) last served unserved)
+    still h))
 
 -- none came, or one that is, and a note tells which
 pub drive_loses : (drive : ℕ) (message line : List ℕ) (came : Option (List ℕ)) (s : Serving) (told now : Option Traffic)
@@ -86,6 +126,22 @@ drive_loses drive message line came s told now faults later answered fault tells
   tells = ap (λ (n : Option Traffic). record s { ends = ends_of n later s.ends.times }) tells
       ∙ ap (λ (f : Faults). record s { ends = ends_of (after_notes (line ∷ []) told) f s.ends.times }) same;
 }
+
+-- and nothing more was done
+pub drive_cuts : (drive : ℕ) (message : List ℕ) (came : Option (List ℕ)) (s : Serving) (told now : Option Traffic)
+    (faults later : Faults) → Answered (Drive drive) message s.ends.told told s.ends.faults faults came → now ≡ told
+    → later ≡ faults → CutsOn drive message s (ends_of now later s.ends.times) s.done []
+drive_cuts drive message came s told now faults later answered same still = inr (record {
+  came = came;
+  between = ends_of told faults s.ends.times;
+  answered = answered;
+  times = refl;
+  behind = (
+    ap (λ (n : Option Traffic). ends_of n later s.ends.times) same ∙ ap (λ (f : Faults). ends_of told f s.ends.times) still,
+    refl,
+    refl,
+  );
+})
 
 -- ---- rounds
 
@@ -109,33 +165,67 @@ loses_from u t ms rest e f h =
     subst (λ (ns : List Sent). LosesIn ns (record u { waiting = [] }) t) e
     (subst (λ (ns : List Sent). LosesIn ms (record u { waiting = ns }) t) f h)
 
-pub all_made : (rounds : ℕ) (s : Serving) (server : Server) (waiting : List Sent) (ends : Ends)
-    → Rounds Makes rounds s (serving server waiting true ends) → waiting ≡ [] → UntilNone Makes s (serving server [] true ends)
-all_made rounds s server waiting ends h e =
-    (rounds, subst (λ (ws : List Sent). Rounds Makes rounds s (serving server ws true ends)) e h, refl)
+pub cuts_from : (u : Serving) (now : Ends) (ms rest : List Sent) (served unserved : List ServerStep) → ms ≡ u.waiting
+    → rest ≡ [] → CutsMakes ms (record u { waiting = rest }) now served unserved
+    → CutsMakes u.waiting (record u { waiting = [] }) now served unserved
+cuts_from u now ms rest served unserved e f h =
+    subst (λ (ns : List Sent). CutsMakes ns (record u { waiting = [] }) now served unserved) e
+    (subst (λ (ns : List Sent). CutsMakes ms (record u { waiting = ns }) now served unserved) f h)
 
 -- ---- why it stopped
 
-pub round_stops : (ms : List Sent) (i : ℕ) (m : Sent) (s u t : Serving) (stop : ServerStop) → slice_get ms i ≡ Some m →
-    InTurn Makes (take i ms) s u
-    → StopsBy (Loses m u t) ⊥ stop → StopsBy (LosesIn ms s t) ⊥ stop
-round_stops ms i m s u t stop e made h =
-    stops_by (Loses m u t) (LosesIn ms s t) ⊥ ⊥ (λ l. stops_at Makes (λ n v. Loses n v t) ms i m s u e made l) (λ x. x) stop h
+pub round_stops : (ms : List Sent) (i : ℕ) (m : Sent) (s u : Serving) (t : List ServerStep → Serving) (now : Ends)
+    (stop : ServerStop) (served unserved : List ServerStep) → slice_get ms i ≡ Some m → InTurn Makes (take i ms) s u
+    → StopsBy (λ has. Loses m u (t has)) ⊥ (CutsMake m u now) stop served unserved
+    → StopsBy (λ has. LosesIn ms s (t has)) ⊥ (CutsMakes ms s now) stop served unserved
+round_stops ms i m s u t now stop served unserved e made h =
+    stops_by (λ has. Loses m u (t has)) (λ has. LosesIn ms s (t has)) ⊥ ⊥ (CutsMake m u now) (CutsMakes ms s now) served unserved
+    (λ l. stops_at Makes (λ n v. Loses n v (t served)) ms i m s u e made l) (λ x. x)
+    (λ x. stops_at Makes (λ n v. CutsMake n v now served unserved) ms i m s u e made x) stop h
 
-pub all_stops : (rounds : ℕ) (s u : Serving) (waiting ms rest : List Sent) (server : Server) (ends : Ends) (stop : ServerStop) →
-    Rounds Makes rounds s u
-    → ms ≡ u.waiting → rest ≡ [] → StopsBy (LosesIn ms (record u { waiting = rest }) (serving server waiting true ends)) ⊥ stop
-    → StopsBy (LosesAll s server ends) ⊥ stop
-all_stops rounds s u waiting ms rest server ends stop made e f h =
-    stops_by (LosesIn ms (record u { waiting = rest }) (serving server waiting true ends)) (LosesAll s server ends) ⊥ ⊥
-    (λ l. (rounds, u, made, waiting, loses_from u (serving server waiting true ends) ms rest e f l)) (λ x. x) stop h
+pub all_stops : (rounds : ℕ) (s u : Serving) (waiting ms rest : List Sent) (server : Server) (ends : Ends) (stop : ServerStop)
+    (served unserved : List ServerStep) → Rounds Makes rounds s u → ms ≡ u.waiting → rest ≡ []
+    → StopsBy (λ has. LosesIn ms (record u { waiting = rest }) (serving server waiting true has ends)) ⊥
+    (CutsMakes ms (record u { waiting = rest }) ends) stop served unserved
+    → StopsBy (λ has. LosesAll s server has ends) ⊥ (CutsMaking s ends) stop served unserved
+all_stops rounds s u waiting ms rest server ends stop served unserved made e f h =
+    stops_by (λ has. LosesIn ms (record u { waiting = rest }) (serving server waiting true has ends))
+    (λ has. LosesAll s server has ends) ⊥ ⊥ (CutsMakes ms (record u { waiting = rest }) ends) (CutsMaking s ends) served unserved
+    (λ l. (rounds, u, made, waiting, loses_from u (serving server waiting true served ends) ms rest e f l)) (λ x. x)
+    (λ x. (rounds, u, made, cuts_from u ends ms rest served unserved e f x)) stop h
 
 pub files_stop : (files : List ClusterFile) (i : ℕ) (f : ClusterFile) (s u : Serving) (server : Server) (ends : Ends)
-    (stop : ServerStop)
-    → slice_get files i ≡ Some f → InTurn MakesFile (take i files) s u →
-    StopsBy (LosesFile f u server ends) (RefusesFile f u.server) stop
-    → StopsBy (LosesFiles files s server ends) (RefusesFiles files s) stop
-files_stop files i f s u server ends stop e made h =
-    stops_by (LosesFile f u server ends) (LosesFiles files s server ends) (RefusesFile f u.server) (RefusesFiles files s)
-    (λ l. stops_at MakesFile (λ g v. LosesFile g v server ends) files i f s u e made l)
-    (λ r. stops_at MakesFile (λ g v. RefusesFile g v.server) files i f s u e made r) stop h
+    (stop : ServerStop) (served unserved : List ServerStep) → slice_get files i ≡ Some f → InTurn MakesFile (take i files) s u
+    → StopsBy (λ has. LosesFile f u server has ends) (RefusesFile f u.server) (CutsFile f u ends) stop served unserved
+    → StopsBy (λ has. LosesFiles files s server has ends) (RefusesFiles files s) (CutsFiles files s ends) stop served unserved
+files_stop files i f s u server ends stop served unserved e made h =
+    stops_by (λ has. LosesFile f u server has ends) (λ has. LosesFiles files s server has ends) (RefusesFile f u.server)
+    (RefusesFiles files s) (CutsFile f u ends) (CutsFiles files s ends) served unserved
+    (λ l. stops_at MakesFile (λ g v. LosesFile g v server served ends) files i f s u e made l)
+    (λ r. stops_at MakesFile (λ g v. RefusesFile g v.server) files i f s u e made r)
+    (λ x. stops_at MakesFile (λ g v. CutsFile g v ends served unserved) files i f s u e made x) stop h
+
+-- a file that was begun
+pub begun_at : (file : ClusterFile) (s : Serving) (chosen : List ℕ) (step : Step) (server : Server) (sends : List Sent)
+    (notes : List Note) (told : Option Traffic) (faults : Faults)
+    → create_file s.server file.number file.map FIRST_TAG false chosen ≡ Ok step → server ≡ step.state
+    → sends ≡ all_sent step.sends → notes ≡ step.notes → told ≡ after_notes (note_texts notes) s.ends.told
+    → faults ≡ s.ends.faults
+    → Begins file s (serving server sends s.stands (s.done ++ steps.Makes file.number file.map FIRST_TAG chosen ∷ [])
+    (ends_of told faults s.ends.times))
+begun_at file s chosen step server sends notes told faults is state sent are tells same = record {
+  chosen = chosen;
+  step = step;
+  is = is;
+  begun = rw (state, sent, tells, are, same) refl;
+}
+
+-- the commands of a file that was begun
+pub file_stops : (file : ClusterFile) (s u : Serving) (server : Server) (ends : Ends) (stop : ServerStop)
+    (served unserved : List ServerStep) → Begins file s u
+    → StopsBy (λ has. LosesAll u server has ends) ⊥ (CutsMaking u ends) stop served unserved
+    → StopsBy (λ has. LosesFile file s server has ends) (RefusesFile file s.server) (CutsFile file s ends) stop served unserved
+file_stops file s u server ends stop served unserved begun h =
+    stops_by (λ has. LosesAll u server has ends) (λ has. LosesFile file s server has ends) ⊥ (RefusesFile file s.server)
+    (CutsMaking u ends) (CutsFile file s ends) served unserved
+    (λ l. (u, begun, l)) (λ x. absurd x) (λ x. inr (inr (u, begun, x))) stop h

@@ -2,7 +2,7 @@
 use Rattle.std.proofs.Common.{◌≡◌, ◌∙◌, ap, refl, sym, subst, arith, inl, inr}
 use Rattle.std.proofs.lemmas.Bool.{cases_Bool, or_parts, and_parts}
 use Rattle.std.proofs.lemmas.Bool.Decides.{nat_tests}
-use Rattle.std.specs.Prelude.{ℕ, ◌+◌, Bool, true, false, ◌||◌, ◌&&◌, nat_eq, nat_le, nat_lt, if◌then◌else◌, List, [], ◌∷◌, ◌++◌, length, map, Option, Some, None, is_some, Result, Ok, Err, is_ok}
+use Rattle.std.specs.Prelude.{ℕ, ◌+◌, Bool, true, false, ◌&&◌, nat_eq, nat_le, nat_lt, if◌then◌else◌, List, [], ◌∷◌, ◌++◌, length, map, Option, Some, None, is_some, Result, Ok, Err, is_ok}
 use Rattle.std.specs.List.{list_any}
 use Rattle.data_map.specs.Check.{HasAlgorithm, bad_depth, bad_multiple, bad_unit, bad_width, checked, too_few, too_many}
 use Rattle.data_map.specs.declared.check.MapErr.{MapErr}
@@ -176,10 +176,10 @@ makeable_at n (f ∷ done) next left h = makeable_at n done next left h.2
 
 none_refused : (c : Cluster) (first : Server) (ends : Ends) → IsSound c → length (online first.drives) ≡ length c.drives →
     first.files ≡ []
-    → RefusesFiles c.files (serving first [] true ends) → ⊥
+    → RefusesFiles c.files (serving first [] true [] ends) → ⊥
 unfolding file_at
 none_refused c first ends sound drives files r =
-    let kept = files_keep r.done (serving first [] true ends) r.before r.does in
+    let kept = files_keep r.done (serving first [] true [] ends) r.before r.does in
     let apart = unrepeated r.done r.next r.left
     (subst (λ (fs : List ClusterFile). repeats (map (λ f. f.number) fs) ≡ false) r.are sound.files) in
     let none = kept.none (r.next).number apart (rw files refl) in

@@ -16,6 +16,7 @@ use Rattle.server_requests.specs.declared.outgoing.Sent.{Sent}
 use Rattle.server_command.specs.Messages.{AsksDrive, Hears, InTurn, PutsIf, Rounds, ServesRecord, Serving, UntilNone, Works, WorksTo, sender_of}
 use Rattle.server_command.specs.Connections.{IsRefused, ServesAll, ServesConnection, ServesPieces, ServesStream, begins}
 use Rattle.server_command.specs.Files.{Makes, MakesFile, MakesFiles, MakesTo}
+use Rattle.server_command.specs.Steps.{ServerStep}
 
 -- ---- one exchange, one answer
 
@@ -109,20 +110,23 @@ pieces (suc n) taken records s t h =
     let rest = turn ServesRecord record_served h.3 (record (h.4) { ends = h.5 }) t h.8 in
     omega (arith, first, (h.7).faults.listening, rest)
 
-connection : (old new : Server) (before now : Ends) → ServesConnection old new before now → NoFewer before now
-connection old new before now h =
-    let first = works None (begins old before) h.0 h.1 in
-    let stream : ServesStream h.0 new now = h.2 in
+connection : (old new : Server) (had has : List ServerStep) (before now : Ends) → ServesConnection old new had has before now
+    → NoFewer before now
+connection old new had has before now h =
+    let first = works None (begins old had before) h.0 h.1 in
+    let stream : ServesStream h.0 new has now = h.2 in
     let rest = pieces stream.pieces stream.taken _ h.0 stream.last stream.served in
     omega (arith, first, rest, stream.ends.faults.listening)
 
-serves_all : (count : ℕ) (old new : Server) (before now : Ends) → ServesAll count old new before now → NoFewer before now
-serves_all zero old new before now h = omega (arith, ap (λ (e : Ends). e.faults.listening) h.1)
-serves_all (suc n) old new before now h =
-    let first = serves_all n old h.0 before h.1 h.2 in
-    let rest = connection h.0 new h.3 now h.5 in
-    omega (arith, first, ap (λ (f : Faults). f.listening) (h.4).faults, rest)
+serves_all : (count : ℕ) (old new : Server) (had has : List ServerStep) (before now : Ends)
+    → ServesAll count old new had has before now → NoFewer before now
+serves_all zero old new had has before now h = omega (arith, ap (λ (e : Ends). e.faults.listening) h.1)
+serves_all (suc n) old new had has before now h =
+    let first = serves_all n old h.0 had h.2 before h.1 h.3 in
+    let rest = connection h.0 new h.2 has h.4 now h.6 in
+    omega (arith, first, ap (λ (f : Faults). f.listening) (h.5).faults, rest)
 
-pub rises : (count : ℕ) (old new : Server) (first before now : Ends) → NoFewer first before → IsRefused count old new before now
-    → Rose first.faults.listening now.faults.listening
-rises count old new first before now more h = omega (arith, more, serves_all h.0 old new before h.2 h.3, h.4)
+pub rises : (count : ℕ) (old new : Server) (had has : List ServerStep) (first before now : Ends) → NoFewer first before
+    → IsRefused count old new had has before now → Rose first.faults.listening now.faults.listening
+rises count old new had has first before now more h =
+    omega (arith, more, serves_all h.0 old new had has before h.2 h.3, (h.4).rose)

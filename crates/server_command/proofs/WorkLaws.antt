@@ -1,10 +1,9 @@
 -- The messages of a server, one after the other: each round that brings some raises the nonces.
-use Rattle.std.specs.Prelude.{◌↔◌, IsTrue, slice_get}
-use Rattle.std.proofs.Common.{◌≡◌, ◌⊎◌, ◌<◌, ◌≤◌, ◌-◌, ◌+◌, ℕ, zero, suc, min, Bool, true, false, List, [], ◌∷◌, ◌++◌, length, take, Option, Some, None, refl, sym, ap, subst, inl, inr, ◌∙◌, arith}
+use Rattle.std.specs.Prelude.{◌↔◌, IsTrue}
+use Rattle.std.proofs.Common.{◌≡◌, ◌⊎◌, ◌<◌, ◌≤◌, ◌-◌, ◌+◌, ℕ, min, Bool, true, false, List, [], ◌∷◌, ◌++◌, length, Option, Some, None, refl, sym, ap, subst, inl, inr, ◌∙◌, arith}
 use Rattle.std.proofs.lemmas.Bool.{cases_Bool}
 use Rattle.std.proofs.lemmas.Bool.Decides.{nat_tests}
 use Rattle.std.proofs.lemmas.List.{append-nil}
-use Rattle.std.proofs.Math.Numerals.{add-one}
 use Rattle.osd_lists.specs.declared.node.Node.{Node}
 use Rattle.osd_lists.specs.declared.node.Node.TheVariants.{Server as TheServer, Drive, Client}
 use Rattle.server_rules.specs.declared.limits.TheConstants.{COUNTERS_END}
@@ -20,7 +19,9 @@ use Rattle.server_rules.specs.Messages.{Message, Asks, Replies, Orders, counters
 use Rattle.server_rules.specs.Envelopes.{message_in, on_message_in, on_bytes}
 use Rattle.server_requests.specs.declared.outgoing.Sent.{Sent}
 use Rattle.server_requests.specs.Sending.{all_sent}
-use Rattle.server_command.specs.Messages.{Handles, Hears, InTurn, PutsIf, Round, Serving, Works, WorksTo}
+use Rattle.osd_bytes.specs.Asking.{Ends}
+use Rattle.server_command.specs.Messages.{Handles, Hears, InTurn, PutsIf, Round, Rounds, Serving, UntilNone, Works, WorksTo, serving}
+use Rattle.server_command.specs.Steps.{ServerStep}
 use Rattle.server_command.proofs.NonceLaws.{RisesIn, reply_rises}
 
 -- ---- one after the other
@@ -159,6 +160,14 @@ pub round_from : (R : Sent → Serving → Serving → Type 0) (s t : Serving) (
 round_from R s t ms rest e f h =
     subst (λ (ns : List Sent). InTurn R ns (record s { waiting = [] }) t) e
     (subst (λ (ns : List Sent). InTurn R ms (record s { waiting = ns }) t) f h)
+
+-- none waits any more
+pub all_worked : (R : Sent → Serving → Serving → Type 0) (rounds : ℕ) (s : Serving) (server : Server) (waiting : List Sent)
+    (stands : Bool) (has : List ServerStep) (ends : Ends)
+    → Rounds R rounds s (serving server waiting stands has ends) → waiting ≡ []
+    → UntilNone R s (serving server [] stands has ends)
+all_worked R rounds s server waiting stands has ends h e =
+    (rounds, subst (λ (ws : List Sent). Rounds R rounds s (serving server ws stands has ends)) e h, refl)
 
 pub round_ends : (sender : Option Node) (s t : Serving) → 0 < length s.waiting → Round (Works sender) s t
     → measure t.server.next_nonce t.waiting < measure s.server.next_nonce s.waiting

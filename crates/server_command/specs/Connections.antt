@@ -11,6 +11,7 @@ use Rattle.server_rules.specs.declared.server.Server.{Server}
 use Rattle.server_rules.specs.Messages.{resend}
 use Rattle.server_requests.specs.Sending.{all_sent}
 use Rattle.server_command.specs.Messages.{InTurn, ServesRecord, Serving, WorksAll, serving}
+use Rattle.server_command.specs.Steps.{ServerStep}
 
 -- ---- what comes on a connection
 
@@ -36,26 +37,27 @@ IsOver taken before now =
 
 -- ---- connections
 
--- what jobs wait for is sent once more at the begin of a connection
-abbrev pub begins : Server → Ends → Serving
-begins server ends = serving server (all_sent (resend server)) true ends
+-- what jobs wait for is sent once more at the begin of a connection, behind the steps that the server had done
+abbrev pub begins : Server → (had : List ServerStep) → Ends → Serving
+begins server had ends = serving server (all_sent (resend server)) true had ends
 
 -- each whole record that comes is served, up to the end, a call that fails, a record that is too long, or the limit of
 -- bytes
-pub record ServesStream (s : Serving) (new : Server) (now : Ends) : Type 0 where
+pub record ServesStream (s : Serving) (new : Server) (has : List ServerStep) (now : Ends) : Type 0 where
   pub pieces : ℕ
   pub taken : List ℕ
   pub last : Serving
   pub served : ServesPieces pieces taken (records_of taken) s last
   pub limit : length taken ≤ MAX_TAKEN
   pub state : new ≡ last.server
+  pub steps : has ≡ last.done
   pub ends : Takes [] last.ends now
   pub over : IsOver taken last.ends now
 
 -- a connection that was accepted is served: what jobs wait for is worked, and then each whole record that comes
-abbrev pub ServesConnection : (old new : Server) → (before now : Ends) → Type 0
-ServesConnection old new before now =
-    (resent : Serving) × WorksAll None (begins old before) resent × ServesStream resent new now
+abbrev pub ServesConnection : (old new : Server) → (had has : List ServerStep) → (before now : Ends) → Type 0
+ServesConnection old new had has before now =
+    (resent : Serving) × WorksAll None (begins old had before) resent × ServesStream resent new has now
 
 -- one more connection is accepted
 pub record AcceptsOne (before now : Ends) : Type 0 where
@@ -63,15 +65,22 @@ pub record AcceptsOne (before now : Ends) : Type 0 where
   pub faults : now.faults ≡ before.faults
   pub times : now.times ≡ before.times
 
--- so many connections are accepted and served, one after the other
-abbrev pub ServesAll : (count : ℕ) → (old new : Server) → (before now : Ends) → Type 0
-ServesAll zero old new before now = (new ≡ old) × (now ≡ before)
-ServesAll (suc n) old new before now =
-    (s : Server) × (between : Ends) × ServesAll n old s before between
-    × (accepted : Ends) × AcceptsOne between accepted × ServesConnection s new accepted now
+-- so many connections are accepted and served, one after the other: these are the steps of all, behind those that the server had
+-- done
+abbrev pub ServesAll : (count : ℕ) → (old new : Server) → (had has : List ServerStep) → (before now : Ends) → Type 0
+ServesAll zero old new had has before now = (new ≡ old) × (now ≡ before) × (has ≡ had)
+ServesAll (suc n) old new had has before now =
+    (s : Server) × (between : Ends) × (steps : List ServerStep) × ServesAll n old s had steps before between
+    × (accepted : Ends) × AcceptsOne between accepted × ServesConnection s new steps has accepted now
+
+-- no further one could be accepted, and nothing else happened
+pub record AcceptsNone (before now : Ends) : Type 0 where
+  pub told : now.told ≡ before.told
+  pub times : now.times ≡ before.times
+  pub faults : NoFewer before.faults now.faults
+  pub rose : Rose before.faults.listening now.faults.listening
 
 -- fewer were, and then none could be accepted
-abbrev pub IsRefused : (count : ℕ) → (old new : Server) → (before now : Ends) → Type 0
-IsRefused count old new before now =
-    (n : ℕ) × (n < count) × (between : Ends) × ServesAll n old new before between
-    × Rose between.faults.listening now.faults.listening
+abbrev pub IsRefused : (count : ℕ) → (old new : Server) → (had has : List ServerStep) → (before now : Ends) → Type 0
+IsRefused count old new had has before now =
+    (n : ℕ) × (n < count) × (between : Ends) × ServesAll n old new had has before between × AcceptsNone between now

@@ -1,5 +1,5 @@
 -- How the server of a cluster makes its files, and where it stops.
-use Rattle.std.specs.Prelude.{◌≡◌, ◌⊎◌, ℕ, true, false, List, [], ◌∷◌, ◌++◌, Option, Some, None, Ok, ⊤}
+use Rattle.std.specs.Prelude.{◌≡◌, ◌⊎◌, ℕ, true, false, List, [], ◌∷◌, ◌++◌, Option, Some, None, Ok}
 use Rattle.osd_bytes.specs.Connections.{after_notes}
 use Rattle.osd_lists.specs.declared.node.Node.{Node}
 use Rattle.osd_lists.specs.declared.node.Node.TheVariants.{Server as TheServer, Drive, Client}
@@ -17,6 +17,8 @@ use Rattle.osd_bytes.specs.Asking.{Answered, Ends}
 use Rattle.server_command.specs.Notes.{note_texts}
 use Rattle.server_command.specs.Messages.{AsksDrive, InTurn, Rounds, Serving, UntilNone, serving}
 use Rattle.server_command.specs.Faults.{fault_line}
+use Rattle.server_command.specs.Steps.{ServerStep}
+use Rattle.server_command.specs.Steps as steps
 use Rattle.server_command.specs.declared.files.TheConstants.{FIRST_TAG}
 use Rattle.server_command.specs.declared.server_stop.ServerStop.{ServerStop}
 use Rattle.server_command.specs.declared.server_stop.ServerStop.TheVariants.{Command, DiskFault}
@@ -34,14 +36,15 @@ pub record StopsAt {A : Type 0} (Does : A → Serving → Serving → Type 0) (S
   pub does : InTurn Does done s before
   pub stops : Stops next before
 
--- why: a drive gave no record or holds an object already, the server refused a file, there was no memory, or the disk that
--- keeps the server failed
-abbrev pub StopsBy : (lost refused : Type 0) → ServerStop → Type 0
-StopsBy lost refused (Command LinkFault) = lost
-StopsBy lost refused (Command (BadCluster kind)) = (kind ≡ Range) × refused
-StopsBy lost refused (Command Memory) = ⊤
-StopsBy lost refused (Command other) = ⊥
-StopsBy lost refused DiskFault = ⊤
+-- Why, and behind which steps: a drive gave no record or holds an object already, the server refused a file, or it was cut off,
+-- since there was no memory or the disk that keeps the server failed.
+abbrev pub StopsBy : (lost : List ServerStep → Type 0) → (refused : Type 0) → (cut : (served unserved : List ServerStep) → Type 0)
+    → ServerStop → (served unserved : List ServerStep) → Type 0
+StopsBy lost refused cut (Command LinkFault) served unserved = lost served × (unserved ≡ [])
+StopsBy lost refused cut (Command (BadCluster kind)) served unserved = (kind ≡ Range) × refused × (unserved ≡ [])
+StopsBy lost refused cut (Command Memory) served unserved = cut served unserved
+StopsBy lost refused cut (Command other) served unserved = ⊥
+StopsBy lost refused cut DiskFault served unserved = cut served unserved
 
 -- ---- commands to drives
 
@@ -78,10 +81,10 @@ abbrev pub LosesIn : List Sent → (s t : Serving) → Type 0
 LosesIn ms s t = StopsAt Makes (λ m u. Loses m u t) ms s
 
 -- rounds of commands, until one stops
-abbrev pub LosesAll : (s : Serving) → Server → Ends → Type 0
-LosesAll s server ends =
+abbrev pub LosesAll : (s : Serving) → Server → (has : List ServerStep) → Ends → Type 0
+LosesAll s server has ends =
     (rounds : ℕ) × (u : Serving) × Rounds Makes rounds s u
-    × (waiting : List Sent) × LosesIn u.waiting (record u { waiting = [] }) (serving server waiting true ends)
+    × (waiting : List Sent) × LosesIn u.waiting (record u { waiting = [] }) (serving server waiting true has ends)
 
 -- ---- files
 
@@ -93,6 +96,7 @@ pub record Begins (file : ClusterFile) (s t : Serving) : Type 0 where
   pub begun : t ≡ record s {
     server = step.state;
     waiting = all_sent step.sends;
+    done = s.done ++ steps.Makes file.number file.map FIRST_TAG chosen ∷ [];
     ends = record s.ends { told = after_notes (note_texts step.notes) s.ends.told };
   }
 
@@ -100,8 +104,8 @@ pub record Begins (file : ClusterFile) (s t : Serving) : Type 0 where
 abbrev pub MakesFile : ClusterFile → (s t : Serving) → Type 0
 MakesFile file s t = (u : Serving) × Begins file s u × UntilNone Makes u t
 
-abbrev pub LosesFile : ClusterFile → (s : Serving) → Server → Ends → Type 0
-LosesFile file s server ends = (u : Serving) × Begins file s u × LosesAll u server ends
+abbrev pub LosesFile : ClusterFile → (s : Serving) → Server → (has : List ServerStep) → Ends → Type 0
+LosesFile file s server has ends = (u : Serving) × Begins file s u × LosesAll u server has ends
 
 -- the server refuses the file, or its map has no algorithm
 abbrev pub RefusesFile : ClusterFile → Server → Type 0
@@ -113,8 +117,8 @@ abbrev pub MakesFiles : List ClusterFile → (s t : Serving) → Type 0
 MakesFiles files s t = InTurn MakesFile files s t
 
 -- some of these files are made, and for the next a drive gives no record, or holds an object already
-abbrev pub LosesFiles : List ClusterFile → (s : Serving) → Server → Ends → Type 0
-LosesFiles files s server ends = StopsAt MakesFile (λ f u. LosesFile f u server ends) files s
+abbrev pub LosesFiles : List ClusterFile → (s : Serving) → Server → (has : List ServerStep) → Ends → Type 0
+LosesFiles files s server has ends = StopsAt MakesFile (λ f u. LosesFile f u server has ends) files s
 
 -- some of these files are made, and the server refuses the next
 abbrev pub RefusesFiles : List ClusterFile → (s : Serving) → Type 0

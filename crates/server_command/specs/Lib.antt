@@ -10,3 +10,4 @@ pub mod Kept
 pub mod GoesOn
 pub mod Knowing
 pub mod ServerStops
+pub mod Cuts

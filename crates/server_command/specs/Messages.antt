@@ -15,17 +15,21 @@ use Rattle.server_rules.specs.Envelopes.{on_bytes}
 use Rattle.server_requests.specs.declared.outgoing.Sent.{Sent}
 use Rattle.server_requests.specs.Sending.{all_sent}
 use Rattle.server_command.specs.Notes.{note_texts}
+use Rattle.server_command.specs.Steps.{ServerStep}
+use Rattle.server_command.specs.Steps as steps
 
 -- a server in the midst of its work: the messages that wait to be sent, whether the accepted connection took all that
--- was put on it so far, and what is known of the links and the clock
+-- was put on it so far, the steps that the server has done, and what is known of the links and the clock
 pub record Serving : Type 0 where
   pub server : Server
   pub waiting : List Sent
   pub stands : Bool
+  pub done : List ServerStep
   pub ends : Ends
 
-abbrev pub serving : Server → List Sent → Bool → Ends → Serving
-serving server waiting stands ends = record { server = server; waiting = waiting; stands = stands; ends = ends }
+abbrev pub serving : Server → List Sent → Bool → List ServerStep → Ends → Serving
+serving server waiting stands done ends =
+    record { server = server; waiting = waiting; stands = stands; done = done; ends = ends }
 
 -- one after the other
 abbrev pub InTurn : {A : Type 0} → (A → Serving → Serving → Type 0) → List A → Serving → Serving → Type 0
@@ -44,6 +48,7 @@ pub record Handles (from : Node) (message : List ℕ) (s t : Serving) : Type 0 w
   pub server : t.server ≡ (on_bytes s.server time chosen from message).state
   pub waiting : t.waiting ≡ s.waiting ++ all_sent (on_bytes s.server time chosen from message).sends
   pub stands : t.stands ≡ s.stands
+  pub done : t.done ≡ s.done ++ steps.Hears time chosen from message ∷ []
   pub told : t.ends.told ≡
       after_notes (note_texts (on_bytes s.server time chosen from message).notes) s.ends.told
   pub faults : t.ends.faults ≡ s.ends.faults
@@ -71,6 +76,7 @@ pub record PutsAnswer (message : List ℕ) (s t : Serving) : Type 0 where
   pub cause : HasPutCause t.stands message s.ends.faults t.ends.faults
   pub server : t.server ≡ s.server
   pub waiting : t.waiting ≡ s.waiting
+  pub done : t.done ≡ s.done
   pub times : t.ends.times ≡ s.ends.times
 
 -- or nothing does

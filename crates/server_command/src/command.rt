@@ -2,7 +2,7 @@ ghost use Rattle.std.specs.Prelude.{◌≡◌, IfErr, OnOk};
 ghost use Rattle.osd_bytes.specs.Reading.{TakesAtMost};
 ghost use Rattle.osd_bytes.specs.declared.lines.TheConstants.{MAX_READ};
 ghost use Rattle.cluster_text.specs.Outside.{network_at, streams_at};
-ghost use Rattle.server_command.specs.Ends.{EndsServer, ServesAs, ServesIn, StopsIn, StopsServer};
+ghost use Rattle.server_command.specs.Ends.{EndsServer, ServesAs, ServesIn, SettlesAs, SettlesAsText, StopsIn, StopsServer};
 
 use crate::drives::server_of;
 use crate::files::make_files;
@@ -27,10 +27,11 @@ fn serve_in<K: Sink, L: Links, C: Clock, P: Place>(
     requires placer { P.is_placer placer.now }
     ensures serves { OnOk result (ServesIn connections cluster.now
         (network_at L.Links C.Clock links.old clock.old) (network_at L.Links C.Clock links.new clock.new)
-        (K.taken sink.old) (K.taken sink.new)) }
+        (L.standing links.new) (K.taken sink.old) (K.taken sink.new)) }
     ensures stops { IfErr result (StopsIn connections cluster.now
         (network_at L.Links C.Clock links.old clock.old) (network_at L.Links C.Clock links.new clock.new)
-        (K.taken sink.old) (K.taken sink.new) (K.faults sink.old) (K.faults sink.new)) }
+        (L.standing links.new) (K.taken sink.old) (K.taken sink.new) (K.faults sink.old) (K.faults sink.new)) }
+    ensures addresses { SettlesAs cluster.now (L.standing links.old) (L.standing links.new) }
 {
     // Here and below, arms in place of `?` or of the bare call are for the prover (docs/PROVER_FORMS.md).
     match settle_at(alloc, links, cluster, cluster.server.as_slice()) {
@@ -71,10 +72,13 @@ fn serve_cluster<S: Source, K: Sink, L: Links, C: Clock, P: Place>(
     requires placer { P.is_placer placer.now }
     ensures serves { OnOk result (ServesAs connections
         (streams_at S.Source K.Sink source.old sink.old) (streams_at S.Source K.Sink source.new sink.new)
-        (network_at L.Links C.Clock links.old clock.old) (network_at L.Links C.Clock links.new clock.new)) }
+        (network_at L.Links C.Clock links.old clock.old) (network_at L.Links C.Clock links.new clock.new)
+        (L.standing links.new)) }
     ensures stops { IfErr result (StopsServer connections
         (streams_at S.Source K.Sink source.old sink.old) (streams_at S.Source K.Sink source.new sink.new)
-        (network_at L.Links C.Clock links.old clock.old) (network_at L.Links C.Clock links.new clock.new)) }
+        (network_at L.Links C.Clock links.old clock.old) (network_at L.Links C.Clock links.new clock.new)
+        (L.standing links.new)) }
+    ensures addresses { SettlesAsText (S.left source.old) (S.left source.new) (L.standing links.old) (L.standing links.new) }
     ensures input { TakesAtMost MAX_READ (S.left source.old) (S.left source.new) }
 {
     let cluster = match cluster_from(alloc, Reader::Server, source) {
@@ -110,10 +114,13 @@ pub fn server_command<S: Source, K: Sink, L: Links, C: Clock, P: Place>(
     requires placer { P.is_placer placer.now }
     ensures serves { OnOk result (ServesAs connections
         (streams_at S.Source K.Sink source.old sink.old) (streams_at S.Source K.Sink source.new sink.new)
-        (network_at L.Links C.Clock links.old clock.old) (network_at L.Links C.Clock links.new clock.new)) }
+        (network_at L.Links C.Clock links.old clock.old) (network_at L.Links C.Clock links.new clock.new)
+        (L.standing links.new)) }
     ensures stops { IfErr result (EndsServer connections
         (streams_at S.Source K.Sink source.old sink.old) (streams_at S.Source K.Sink source.new sink.new)
-        (network_at L.Links C.Clock links.old clock.old) (network_at L.Links C.Clock links.new clock.new)) }
+        (network_at L.Links C.Clock links.old clock.old) (network_at L.Links C.Clock links.new clock.new)
+        (L.standing links.new)) }
+    ensures addresses { SettlesAsText (S.left source.old) (S.left source.new) (L.standing links.old) (L.standing links.new) }
     ensures input { TakesAtMost MAX_READ (S.left source.old) (S.left source.new) }
 {
     match serve_cluster(alloc, connections, source, sink, links, clock, placer) {

@@ -1,11 +1,12 @@
 // The records of a connection, and one connection after the other.
-ghost use Rattle.std.specs.Prelude.{◌≡◌, [], false, IfOk, IsErrOf, OnOk};
+ghost use Rattle.std.specs.Prelude.{◌≡◌, [], false, IfErr, IfOk, OnOk};
+ghost use Rattle.cluster_text.specs.Peers.{KeepsAddresses};
 ghost use Rattle.cluster_text.specs.Outside.{network_at};
-ghost use Rattle.server_command.specs.GoesOn.{Goes};
+ghost use Rattle.server_command.specs.Cuts.{CutsConnection, CutsRecord, CutsRecords, CutsStream};
+ghost use Rattle.server_command.specs.GoesOn.{Breaks, Does, EndsServing};
 ghost use Rattle.server_command.specs.declared.metadata_server.StepErr.TheVariants.{DiskFault};
-ghost use Rattle.server_command.specs.declared.serve_err.ServerServeErr.TheVariants as stops;
 ghost use Rattle.server_command.specs.Messages.{InTurn, ServesRecord, serving};
-ghost use Rattle.server_command.specs.Connections.{IsRefused, ServesAll, ServesConnection, ServesStream};
+ghost use Rattle.server_command.specs.Connections.{ServesConnection, ServesStream};
 
 use crate::messages::work_all;
 use crate::metadata_server::{MetadataServer, StepErr};
@@ -29,10 +30,13 @@ fn serve_record<H: MetadataServer, L: Links, C: Clock, P: Place>(
 ) -> Result<bool, StepErr>
     requires goes_on { H.is_over server.old ≡ false }
     requires placer { P.is_placer placer.now }
-    ensures serves { IfOk result (λ still. ServesRecord message.now
-        (serving (H.server server.old) [] puts (network_at L.Links C.Clock links.old clock.old))
-        (serving (H.server server.new) [] still (network_at L.Links C.Clock links.new clock.new))) }
-    ensures goes { Goes H.MetadataServer DiskFault server.old server.new result }
+    ensures serves { IfOk result (λ still. Does H.MetadataServer server.old server.new (λ had has. ServesRecord message.now
+        (serving (H.server server.old) [] puts had (network_at L.Links C.Clock links.old clock.old))
+        (serving (H.server server.new) [] still has (network_at L.Links C.Clock links.new clock.new)))) }
+    ensures cuts { IfErr result (λ e. Breaks H.MetadataServer (e ≡ DiskFault) server.old server.new (λ had. CutsRecord message.now
+        (serving (H.server server.old) [] puts had (network_at L.Links C.Clock links.old clock.old))
+        (network_at L.Links C.Clock links.new clock.new))) }
+    ensures addresses { KeepsAddresses (L.standing links.old) (L.standing links.new) }
 {
     let sender = sender_of(alloc, message)?;
     let sends = handle(alloc, server, links, clock, placer, sender, message)?;
@@ -61,10 +65,14 @@ fn serve_records<H: MetadataServer, L: Links, C: Clock, P: Place>(
 ) -> Result<bool, StepErr>
     requires goes_on { H.is_over server.old ≡ false }
     requires placer { P.is_placer placer.now }
-    ensures serves { IfOk result (λ still. InTurn ServesRecord records.now
-        (serving (H.server server.old) [] puts (network_at L.Links C.Clock links.old clock.old))
-        (serving (H.server server.new) [] still (network_at L.Links C.Clock links.new clock.new))) }
-    ensures goes { Goes H.MetadataServer DiskFault server.old server.new result }
+    ensures serves { IfOk result (λ still. Does H.MetadataServer server.old server.new (λ had has. InTurn ServesRecord records.now
+        (serving (H.server server.old) [] puts had (network_at L.Links C.Clock links.old clock.old))
+        (serving (H.server server.new) [] still has (network_at L.Links C.Clock links.new clock.new)))) }
+    ensures cuts { IfErr result (λ e. Breaks H.MetadataServer (e ≡ DiskFault) server.old server.new (λ had.
+        CutsRecords records.now
+        (serving (H.server server.old) [] puts had (network_at L.Links C.Clock links.old clock.old))
+        (network_at L.Links C.Clock links.new clock.new))) }
+    ensures addresses { KeepsAddresses (L.standing links.old) (L.standing links.new) }
 {
     let mut stands = puts;
     for i in 0..records.len() {
@@ -92,10 +100,13 @@ fn serve_stream<H: MetadataServer, L: Links, C: Clock, P: Place>(
 ) -> Result<(), StepErr>
     requires goes_on { H.is_over server.old ≡ false }
     requires placer { P.is_placer placer.now }
-    ensures serves { OnOk result (ServesStream
-        (serving (H.server server.old) [] puts (network_at L.Links C.Clock links.old clock.old)) (H.server server.new)
-        (network_at L.Links C.Clock links.new clock.new)) }
-    ensures goes { Goes H.MetadataServer DiskFault server.old server.new result }
+    ensures serves { OnOk result (Does H.MetadataServer server.old server.new (λ had has. ServesStream
+        (serving (H.server server.old) [] puts had (network_at L.Links C.Clock links.old clock.old))
+        (H.server server.new) has (network_at L.Links C.Clock links.new clock.new))) }
+    ensures cuts { IfErr result (λ e. Breaks H.MetadataServer (e ≡ DiskFault) server.old server.new (λ had. CutsStream
+        (serving (H.server server.old) [] puts had (network_at L.Links C.Clock links.old clock.old))
+        (network_at L.Links C.Clock links.new clock.new))) }
+    ensures addresses { KeepsAddresses (L.standing links.old) (L.standing links.new) }
 {
     let mut inbox = Inbox::new(alloc);
     let mut stands = puts;
@@ -119,9 +130,13 @@ fn serve_connection<H: MetadataServer, L: Links, C: Clock, P: Place>(
 ) -> Result<(), StepErr>
     requires goes_on { H.is_over server.old ≡ false }
     requires placer { P.is_placer placer.now }
-    ensures serves { OnOk result (ServesConnection (H.server server.old) (H.server server.new)
-        (network_at L.Links C.Clock links.old clock.old) (network_at L.Links C.Clock links.new clock.new)) }
-    ensures goes { Goes H.MetadataServer DiskFault server.old server.new result }
+    ensures serves { OnOk result (Does H.MetadataServer server.old server.new (λ had has.
+        ServesConnection (H.server server.old) (H.server server.new) had has
+        (network_at L.Links C.Clock links.old clock.old) (network_at L.Links C.Clock links.new clock.new))) }
+    ensures cuts { IfErr result (λ e. Breaks H.MetadataServer (e ≡ DiskFault) server.old server.new (λ had.
+        CutsConnection (H.server server.old) had
+        (network_at L.Links C.Clock links.old clock.old) (network_at L.Links C.Clock links.new clock.new))) }
+    ensures addresses { KeepsAddresses (L.standing links.old) (L.standing links.new) }
 {
     let sends = server.resend()?;
     let stands = work_all(alloc, server, links, clock, placer, None, sends, true)?;
@@ -138,11 +153,15 @@ fn serve_connection<H: MetadataServer, L: Links, C: Clock, P: Place>(
 /// refused, or if it is longer than a record may be. What is for who sent the record is put, unless an answer
 /// before it couldn't be put whole. A message to any other client is lost.
 ///
+/// What was put on a connection is what steps gave that the server had done to their ends by then. If a disk keeps the server,
+/// it has each of these from the step's end on.
+///
 /// # Errors
 ///
 /// [`ServerServeErr::LinkFault`] if no further connection could be accepted, after those before it were served whole;
 /// [`ServerServeErr::DiskFault`] only if the count of faults of the disk that keeps the server rose;
-/// [`ServerServeErr::Memory`], after which nothing may be left of a server that no disk keeps.
+/// [`ServerServeErr::Memory`], after which nothing may be left of a server that no disk keeps. Of the step at which memory or the
+/// disk failed nothing was put.
 pub fn serve<H: MetadataServer, L: Links, C: Clock, P: Place>(
     alloc: Global,
     server: &mut H,
@@ -153,16 +172,21 @@ pub fn serve<H: MetadataServer, L: Links, C: Clock, P: Place>(
 ) -> Result<(), ServerServeErr>
     requires goes_on { H.is_over server.old ≡ false }
     requires placer { P.is_placer placer.now }
-    ensures served { OnOk result (ServesAll connections (H.server server.old) (H.server server.new)
-        (network_at L.Links C.Clock links.old clock.old) (network_at L.Links C.Clock links.new clock.new)) }
-    ensures refused { IsErrOf result stops.LinkFault → IsRefused connections (H.server server.old) (H.server server.new)
-        (network_at L.Links C.Clock links.old clock.old) (network_at L.Links C.Clock links.new clock.new) }
-    ensures goes { Goes H.MetadataServer stops.DiskFault server.old server.new result }
+    ensures ends { EndsServing H.MetadataServer connections server.old server.new
+        (network_at L.Links C.Clock links.old clock.old) (network_at L.Links C.Clock links.new clock.new) result }
+    ensures addresses { KeepsAddresses (L.standing links.old) (L.standing links.new) }
 {
     let mut served = 0;
     while served < connections {
-        links.accept()?;
-        serve_connection(alloc, server, links, clock, placer)?;
+        // Arms in place of `?` are for the prover (docs/PROVER_FORMS.md).
+        match links.accept() {
+            Ok(()) => {}
+            Err(_) => return Err(ServerServeErr::LinkFault),
+        }
+        match serve_connection(alloc, server, links, clock, placer) {
+            Ok(()) => {}
+            Err(e) => return Err(ServerServeErr::from(e)),
+        }
         served += 1;
     }
     Ok(())

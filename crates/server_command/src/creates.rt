@@ -1,9 +1,11 @@
 // The commands by which files are made, one after the other.
-ghost use Rattle.std.specs.Prelude.{◌≡◌, [], true, false, IfErr, IfOk, OnOk};
+ghost use Rattle.std.specs.Prelude.{◌≡◌, [], true, false, IfErr, IfOk, OnErr, OnOk};
+ghost use Rattle.cluster_text.specs.Peers.{KeepsAddresses};
 ghost use Rattle.cluster_text.specs.Outside.{network_at};
 ghost use Rattle.osd_lists.specs.declared.node.Node.TheVariants.{Drive};
+ghost use Rattle.server_command.specs.Cuts.{CutsMake, CutsMakes, CutsMaking, CutsOn};
 ghost use Rattle.server_command.specs.Faults.{IsTold};
-ghost use Rattle.server_command.specs.GoesOn.{Goes};
+ghost use Rattle.server_command.specs.GoesOn.{Breaks, BrokeBy, Does, WentBy};
 ghost use Rattle.server_command.specs.Knowing.{Learns};
 ghost use Rattle.server_command.specs.declared.metadata_server.StepErr.TheVariants as step_err;
 ghost use Rattle.server_command.specs.declared.server_stop.ServerStop.TheVariants.{DiskFault};
@@ -31,7 +33,9 @@ fn tell_fault<L: Links>(
     said: Option<Creation>,
 ) -> Result<bool, Memory>
     ensures told { IfOk result (λ stops. IsTold drive said stops (L.told links.old) (L.told links.new)) }
+    ensures err { OnErr result (L.told links.new ≡ L.told links.old) }
     ensures same { L.faults links.new ≡ L.faults links.old }
+    ensures addresses { KeepsAddresses (L.standing links.old) (L.standing links.new) }
 {
     match said {
         Some(Creation::Held { object }) => {
@@ -56,9 +60,9 @@ fn keep_creation<H: MetadataServer>(
     said: Option<Creation>,
 ) -> Result<(), StepErr>
     requires goes_on { H.is_over server.old ≡ false }
-    ensures same { OnOk result (H.server server.new ≡ H.server server.old) }
     ensures learns { OnOk result (H.keeps server.old → Learns (H.knows server.old) (H.knows server.new) drive said) }
-    ensures goes { Goes H.MetadataServer step_err.DiskFault server.old server.new result }
+    ensures ok { OnOk result (WentBy H.MetadataServer [] server.old server.new) }
+    ensures err { IfErr result (λ e. BrokeBy H.MetadataServer [] [] (e ≡ step_err.DiskFault) server.old server.new) }
 {
     match said {
         Some(Creation::Made { object }) => match server.keep_made(drive, object) {
@@ -86,13 +90,18 @@ fn make_on<H: MetadataServer, L: Links, C: Clock, P: Place>(
 ) -> Result<(), ServerStop>
     requires goes_on { H.is_over server.old ≡ false }
     requires placer { P.is_placer placer.now }
-    ensures makes { OnOk result (MakesTo (Drive drive) message.now
-        (serving (H.server server.old) waiting.old true (network_at L.Links C.Clock links.old clock.old))
-        (serving (H.server server.new) waiting.new true (network_at L.Links C.Clock links.new clock.new))) }
-    ensures stops { IfErr result (StopsBy (LosesTo (Drive drive) message.now
-        (serving (H.server server.old) waiting.old true (network_at L.Links C.Clock links.old clock.old))
-        (serving (H.server server.new) waiting.new true (network_at L.Links C.Clock links.new clock.new))) ⊥) }
-    ensures goes { Goes H.MetadataServer DiskFault server.old server.new result }
+    ensures makes { OnOk result (Does H.MetadataServer server.old server.new (λ had has. MakesTo (Drive drive) message.now
+        (serving (H.server server.old) waiting.old true had (network_at L.Links C.Clock links.old clock.old))
+        (serving (H.server server.new) waiting.new true has (network_at L.Links C.Clock links.new clock.new)))) }
+    ensures stops { IfErr result (λ stop. Breaks H.MetadataServer (stop ≡ DiskFault) server.old server.new (λ had. StopsBy
+        (λ has. LosesTo (Drive drive) message.now
+        (serving (H.server server.old) waiting.old true had (network_at L.Links C.Clock links.old clock.old))
+        (serving (H.server server.new) waiting.new true has (network_at L.Links C.Clock links.new clock.new)))
+        ⊥
+        (CutsOn drive message.now
+        (serving (H.server server.old) waiting.old true had (network_at L.Links C.Clock links.old clock.old))
+        (network_at L.Links C.Clock links.new clock.new)) stop)) }
+    ensures addresses { KeepsAddresses (L.standing links.old) (L.standing links.new) }
 {
     let Some(reply) = asked(alloc, links, Node::Drive(drive), message)? else {
         let line = silent_line(alloc, drive)?;
@@ -130,13 +139,18 @@ fn make_one<H: MetadataServer, L: Links, C: Clock, P: Place>(
 ) -> Result<(), ServerStop>
     requires goes_on { H.is_over server.old ≡ false }
     requires placer { P.is_placer placer.now }
-    ensures makes { OnOk result (Makes sent.now
-        (serving (H.server server.old) waiting.old true (network_at L.Links C.Clock links.old clock.old))
-        (serving (H.server server.new) waiting.new true (network_at L.Links C.Clock links.new clock.new))) }
-    ensures stops { IfErr result (StopsBy (Loses sent.now
-        (serving (H.server server.old) waiting.old true (network_at L.Links C.Clock links.old clock.old))
-        (serving (H.server server.new) waiting.new true (network_at L.Links C.Clock links.new clock.new))) ⊥) }
-    ensures goes { Goes H.MetadataServer DiskFault server.old server.new result }
+    ensures makes { OnOk result (Does H.MetadataServer server.old server.new (λ had has. Makes sent.now
+        (serving (H.server server.old) waiting.old true had (network_at L.Links C.Clock links.old clock.old))
+        (serving (H.server server.new) waiting.new true has (network_at L.Links C.Clock links.new clock.new)))) }
+    ensures stops { IfErr result (λ stop. Breaks H.MetadataServer (stop ≡ DiskFault) server.old server.new (λ had. StopsBy
+        (λ has. Loses sent.now
+        (serving (H.server server.old) waiting.old true had (network_at L.Links C.Clock links.old clock.old))
+        (serving (H.server server.new) waiting.new true has (network_at L.Links C.Clock links.new clock.new)))
+        ⊥
+        (CutsMake sent.now
+        (serving (H.server server.old) waiting.old true had (network_at L.Links C.Clock links.old clock.old))
+        (network_at L.Links C.Clock links.new clock.new)) stop)) }
+    ensures addresses { KeepsAddresses (L.standing links.old) (L.standing links.new) }
 {
     match sent.to {
         Node::Drive(drive) => {
@@ -167,13 +181,18 @@ fn make_round<H: MetadataServer, L: Links, C: Clock, P: Place>(
 ) -> Result<(), ServerStop>
     requires goes_on { H.is_over server.old ≡ false }
     requires placer { P.is_placer placer.now }
-    ensures makes { OnOk result (InTurn Makes round.now
-        (serving (H.server server.old) waiting.old true (network_at L.Links C.Clock links.old clock.old))
-        (serving (H.server server.new) waiting.new true (network_at L.Links C.Clock links.new clock.new))) }
-    ensures stops { IfErr result (StopsBy (LosesIn round.now
-        (serving (H.server server.old) waiting.old true (network_at L.Links C.Clock links.old clock.old))
-        (serving (H.server server.new) waiting.new true (network_at L.Links C.Clock links.new clock.new))) ⊥) }
-    ensures goes { Goes H.MetadataServer DiskFault server.old server.new result }
+    ensures makes { OnOk result (Does H.MetadataServer server.old server.new (λ had has. InTurn Makes round.now
+        (serving (H.server server.old) waiting.old true had (network_at L.Links C.Clock links.old clock.old))
+        (serving (H.server server.new) waiting.new true has (network_at L.Links C.Clock links.new clock.new)))) }
+    ensures stops { IfErr result (λ stop. Breaks H.MetadataServer (stop ≡ DiskFault) server.old server.new (λ had. StopsBy
+        (λ has. LosesIn round.now
+        (serving (H.server server.old) waiting.old true had (network_at L.Links C.Clock links.old clock.old))
+        (serving (H.server server.new) waiting.new true has (network_at L.Links C.Clock links.new clock.new)))
+        ⊥
+        (CutsMakes round.now
+        (serving (H.server server.old) waiting.old true had (network_at L.Links C.Clock links.old clock.old))
+        (network_at L.Links C.Clock links.new clock.new)) stop)) }
+    ensures addresses { KeepsAddresses (L.standing links.old) (L.standing links.new) }
 {
     for i in 0..round.len() {
         // Here and below, arms in place of `?` or of the bare call are for the prover (docs/PROVER_FORMS.md).
@@ -202,13 +221,18 @@ pub fn make_all<H: MetadataServer, L: Links, C: Clock, P: Place>(
 ) -> Result<(), ServerStop>
     requires goes_on { H.is_over server.old ≡ false }
     requires placer { P.is_placer placer.now }
-    ensures makes { OnOk result (UntilNone Makes
-        (serving (H.server server.old) sends true (network_at L.Links C.Clock links.old clock.old))
-        (serving (H.server server.new) [] true (network_at L.Links C.Clock links.new clock.new))) }
-    ensures stops { IfErr result (StopsBy (LosesAll
-        (serving (H.server server.old) sends true (network_at L.Links C.Clock links.old clock.old))
-        (H.server server.new) (network_at L.Links C.Clock links.new clock.new)) ⊥) }
-    ensures goes { Goes H.MetadataServer DiskFault server.old server.new result }
+    ensures makes { OnOk result (Does H.MetadataServer server.old server.new (λ had has. UntilNone Makes
+        (serving (H.server server.old) sends true had (network_at L.Links C.Clock links.old clock.old))
+        (serving (H.server server.new) [] true has (network_at L.Links C.Clock links.new clock.new)))) }
+    ensures stops { IfErr result (λ stop. Breaks H.MetadataServer (stop ≡ DiskFault) server.old server.new (λ had. StopsBy
+        (λ has. LosesAll
+        (serving (H.server server.old) sends true had (network_at L.Links C.Clock links.old clock.old))
+        (H.server server.new) has (network_at L.Links C.Clock links.new clock.new))
+        ⊥
+        (CutsMaking
+        (serving (H.server server.old) sends true had (network_at L.Links C.Clock links.old clock.old))
+        (network_at L.Links C.Clock links.new clock.new)) stop)) }
+    ensures addresses { KeepsAddresses (L.standing links.old) (L.standing links.new) }
 {
     let mut waiting = sends;
     // Each round that brings commands raises the server's nonce, so a drive that answers for ever is left at last.

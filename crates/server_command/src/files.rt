@@ -1,10 +1,12 @@
 // The files of a cluster, made one after the other.
 ghost use Rattle.std.specs.Prelude.{◌≡◌, [], true, false, IfErr, OnOk};
+ghost use Rattle.cluster_text.specs.Peers.{KeepsAddresses};
 ghost use Rattle.cluster_text.specs.Outside.{network_at};
-ghost use Rattle.server_command.specs.GoesOn.{Goes};
+ghost use Rattle.server_command.specs.GoesOn.{Breaks, Does};
 ghost use Rattle.server_command.specs.declared.server_stop.ServerStop.TheVariants.{Command, DiskFault};
 ghost use Rattle.cluster_text.specs.declared.errors.ClusterKind.TheVariants.{Range};
 ghost use Rattle.cluster_text.specs.declared.stop.CommandStop.TheVariants.{BadCluster};
+ghost use Rattle.server_command.specs.Cuts.{CutsFile, CutsFiles};
 ghost use Rattle.server_command.specs.Messages.{serving};
 ghost use Rattle.server_command.specs.Files.{LosesFile, LosesFiles, MakesFile, MakesFiles, RefusesFile, RefusesFiles, StopsBy};
 
@@ -46,15 +48,18 @@ pub fn make_file<H: MetadataServer, L: Links, C: Clock, P: Place>(
 ) -> Result<(), ServerStop>
     requires goes_on { H.is_over server.old ≡ false }
     requires placer { P.is_placer placer.now }
-    ensures makes { OnOk result (MakesFile file.now
-        (serving (H.server server.old) [] true (network_at L.Links C.Clock links.old clock.old))
-        (serving (H.server server.new) [] true (network_at L.Links C.Clock links.new clock.new))) }
-    ensures stops { IfErr result (StopsBy
-        (LosesFile file.now
-        (serving (H.server server.old) [] true (network_at L.Links C.Clock links.old clock.old))
-        (H.server server.new) (network_at L.Links C.Clock links.new clock.new))
-        (RefusesFile file.now (H.server server.old))) }
-    ensures goes { Goes H.MetadataServer DiskFault server.old server.new result }
+    ensures makes { OnOk result (Does H.MetadataServer server.old server.new (λ had has. MakesFile file.now
+        (serving (H.server server.old) [] true had (network_at L.Links C.Clock links.old clock.old))
+        (serving (H.server server.new) [] true has (network_at L.Links C.Clock links.new clock.new)))) }
+    ensures stops { IfErr result (λ stop. Breaks H.MetadataServer (stop ≡ DiskFault) server.old server.new (λ had. StopsBy
+        (λ has. LosesFile file.now
+        (serving (H.server server.old) [] true had (network_at L.Links C.Clock links.old clock.old))
+        (H.server server.new) has (network_at L.Links C.Clock links.new clock.new))
+        (RefusesFile file.now (H.server server.old))
+        (CutsFile file.now
+        (serving (H.server server.old) [] true had (network_at L.Links C.Clock links.old clock.old))
+        (network_at L.Links C.Clock links.new clock.new)) stop)) }
+    ensures addresses { KeepsAddresses (L.standing links.old) (L.standing links.new) }
 {
     let map = file.map;
     if !server.counters_low() {
@@ -98,16 +103,19 @@ pub fn make_files<H: MetadataServer, L: Links, C: Clock, P: Place>(
 ) -> Result<(), ServerStop>
     requires goes_on { H.is_over server.old ≡ false }
     requires placer { P.is_placer placer.now }
-    ensures makes { OnOk result (MakesFiles files.now
-        (serving (H.server server.old) [] true (network_at L.Links C.Clock links.old clock.old))
-        (serving (H.server server.new) [] true (network_at L.Links C.Clock links.new clock.new))) }
-    ensures stops { IfErr result (StopsBy
-        (LosesFiles files.now
-        (serving (H.server server.old) [] true (network_at L.Links C.Clock links.old clock.old))
-        (H.server server.new) (network_at L.Links C.Clock links.new clock.new))
+    ensures makes { OnOk result (Does H.MetadataServer server.old server.new (λ had has. MakesFiles files.now
+        (serving (H.server server.old) [] true had (network_at L.Links C.Clock links.old clock.old))
+        (serving (H.server server.new) [] true has (network_at L.Links C.Clock links.new clock.new)))) }
+    ensures stops { IfErr result (λ stop. Breaks H.MetadataServer (stop ≡ DiskFault) server.old server.new (λ had. StopsBy
+        (λ has. LosesFiles files.now
+        (serving (H.server server.old) [] true had (network_at L.Links C.Clock links.old clock.old))
+        (H.server server.new) has (network_at L.Links C.Clock links.new clock.new))
         (RefusesFiles files.now
-        (serving (H.server server.old) [] true (network_at L.Links C.Clock links.old clock.old)))) }
-    ensures goes { Goes H.MetadataServer DiskFault server.old server.new result }
+        (serving (H.server server.old) [] true had (network_at L.Links C.Clock links.old clock.old)))
+        (CutsFiles files.now
+        (serving (H.server server.old) [] true had (network_at L.Links C.Clock links.old clock.old))
+        (network_at L.Links C.Clock links.new clock.new)) stop)) }
+    ensures addresses { KeepsAddresses (L.standing links.old) (L.standing links.new) }
 {
     for i in 0..files.len() {
         match make_file(alloc, server, links, clock, placer, &files[i]) {

@@ -1,10 +1,13 @@
 // The messages that a server has to send, one after the other.
-ghost use Rattle.std.specs.Prelude.{◌≡◌, [], ℕ, false, List, Option, IfOk};
+ghost use Rattle.std.specs.Prelude.{◌≡◌, [], ℕ, false, List, Option, IfOk, IfErr, OnErr};
+ghost use Rattle.cluster_text.specs.Peers.{KeepsAddresses};
 ghost use Rattle.cluster_text.specs.Outside.{network_at};
 ghost use Rattle.osd_bytes.specs.Asking.{ends_of};
 ghost use Rattle.server_rules.specs.declared.server.Server.{Server};
 ghost use Rattle.server_requests.specs.declared.outgoing.Sent.{Sent};
-ghost use Rattle.server_command.specs.GoesOn.{Goes};
+ghost use Rattle.server_command.specs.Cuts.{Cuts, CutsRound, CutsWork};
+ghost use Rattle.server_command.specs.GoesOn.{Breaks, Does};
+ghost use Rattle.server_command.specs.Steps.{ServerStep};
 ghost use Rattle.server_command.specs.declared.metadata_server.StepErr.TheVariants.{DiskFault};
 ghost use Rattle.server_command.specs.Messages.{InTurn, PutsIf, Works, WorksAll, is_sender, serving};
 
@@ -36,10 +39,12 @@ fn put_if<L: Links>(
     is_meant: bool,
     stands: bool,
 ) -> Result<bool, Memory>
-    ensures { IfOk result (λ still. (server : Server) (waiting : List Sent) (times : Option (List ℕ)) →
-        PutsIf is_meant message.now
-        (serving server waiting stands (ends_of (L.told links.old) (L.faults links.old) times))
-        (serving server waiting still (ends_of (L.told links.new) (L.faults links.new) times))) }
+    ensures puts { IfOk result (λ still. (server : Server) (waiting : List Sent) (done : List ServerStep)
+        (times : Option (List ℕ)) → PutsIf is_meant message.now
+        (serving server waiting stands done (ends_of (L.told links.old) (L.faults links.old) times))
+        (serving server waiting still done (ends_of (L.told links.new) (L.faults links.new) times))) }
+    ensures none { OnErr result ((L.told links.new ≡ L.told links.old) × (L.faults links.new ≡ L.faults links.old)) }
+    ensures addresses { KeepsAddresses (L.standing links.old) (L.standing links.new) }
 {
     if !is_meant {
         return Ok(stands);
@@ -62,10 +67,13 @@ fn work<H: MetadataServer, L: Links, C: Clock, P: Place>(
 ) -> Result<bool, StepErr>
     requires goes_on { H.is_over server.old ≡ false }
     requires placer { P.is_placer placer.now }
-    ensures works { IfOk result (λ still. Works sender sent.now
-        (serving (H.server server.old) waiting.old stands (network_at L.Links C.Clock links.old clock.old))
-        (serving (H.server server.new) waiting.new still (network_at L.Links C.Clock links.new clock.new))) }
-    ensures goes { Goes H.MetadataServer DiskFault server.old server.new result }
+    ensures works { IfOk result (λ still. Does H.MetadataServer server.old server.new (λ had has. Works sender sent.now
+        (serving (H.server server.old) waiting.old stands had (network_at L.Links C.Clock links.old clock.old))
+        (serving (H.server server.new) waiting.new still has (network_at L.Links C.Clock links.new clock.new)))) }
+    ensures cuts { IfErr result (λ e. Breaks H.MetadataServer (e ≡ DiskFault) server.old server.new (λ had. Cuts sent.now
+        (serving (H.server server.old) waiting.old stands had (network_at L.Links C.Clock links.old clock.old))
+        (network_at L.Links C.Clock links.new clock.new))) }
+    ensures addresses { KeepsAddresses (L.standing links.old) (L.standing links.new) }
 {
     let message = sent.bytes.as_slice();
     match sent.to {
@@ -100,10 +108,14 @@ fn work_round<H: MetadataServer, L: Links, C: Clock, P: Place>(
 ) -> Result<bool, StepErr>
     requires goes_on { H.is_over server.old ≡ false }
     requires placer { P.is_placer placer.now }
-    ensures works { IfOk result (λ still. InTurn (Works sender) round.now
-        (serving (H.server server.old) waiting.old puts (network_at L.Links C.Clock links.old clock.old))
-        (serving (H.server server.new) waiting.new still (network_at L.Links C.Clock links.new clock.new))) }
-    ensures goes { Goes H.MetadataServer DiskFault server.old server.new result }
+    ensures works { IfOk result (λ still. Does H.MetadataServer server.old server.new (λ had has. InTurn (Works sender) round.now
+        (serving (H.server server.old) waiting.old puts had (network_at L.Links C.Clock links.old clock.old))
+        (serving (H.server server.new) waiting.new still has (network_at L.Links C.Clock links.new clock.new)))) }
+    ensures cuts { IfErr result (λ e. Breaks H.MetadataServer (e ≡ DiskFault) server.old server.new (λ had.
+        CutsRound sender round.now
+        (serving (H.server server.old) waiting.old puts had (network_at L.Links C.Clock links.old clock.old))
+        (network_at L.Links C.Clock links.new clock.new))) }
+    ensures addresses { KeepsAddresses (L.standing links.old) (L.standing links.new) }
 {
     let mut stands = puts;
     for i in 0..round.len() {
@@ -136,10 +148,13 @@ pub fn work_all<H: MetadataServer, L: Links, C: Clock, P: Place>(
 ) -> Result<bool, StepErr>
     requires goes_on { H.is_over server.old ≡ false }
     requires placer { P.is_placer placer.now }
-    ensures works { IfOk result (λ still. WorksAll sender
-        (serving (H.server server.old) sends puts (network_at L.Links C.Clock links.old clock.old))
-        (serving (H.server server.new) [] still (network_at L.Links C.Clock links.new clock.new))) }
-    ensures goes { Goes H.MetadataServer DiskFault server.old server.new result }
+    ensures works { IfOk result (λ still. Does H.MetadataServer server.old server.new (λ had has. WorksAll sender
+        (serving (H.server server.old) sends puts had (network_at L.Links C.Clock links.old clock.old))
+        (serving (H.server server.new) [] still has (network_at L.Links C.Clock links.new clock.new)))) }
+    ensures cuts { IfErr result (λ e. Breaks H.MetadataServer (e ≡ DiskFault) server.old server.new (λ had. CutsWork sender
+        (serving (H.server server.old) sends puts had (network_at L.Links C.Clock links.old clock.old))
+        (network_at L.Links C.Clock links.new clock.new))) }
+    ensures addresses { KeepsAddresses (L.standing links.old) (L.standing links.new) }
 {
     let mut waiting = sends;
     let mut stands = puts;

@@ -1,9 +1,11 @@
 // A record of a node, handed to the server.
-ghost use Rattle.std.specs.Prelude.{◌≡◌, ◌++◌, Bool, false, List, IfOk, OnOk};
+ghost use Rattle.std.specs.Prelude.{◌≡◌, ◌++◌, Bool, false, List, IfOk, IfErr, OnOk};
+ghost use Rattle.cluster_text.specs.Peers.{KeepsAddresses};
 ghost use Rattle.cluster_text.specs.Outside.{network_at};
 ghost use Rattle.osd_lists.specs.declared.node.Node.TheVariants.{Drive};
 ghost use Rattle.server_requests.specs.declared.outgoing.Sent.{Sent};
-ghost use Rattle.server_command.specs.GoesOn.{Goes};
+ghost use Rattle.server_command.specs.Cuts.{CutsAsk, CutsHandle};
+ghost use Rattle.server_command.specs.GoesOn.{Breaks, Does};
 ghost use Rattle.server_command.specs.declared.metadata_server.StepErr.TheVariants.{DiskFault};
 ghost use Rattle.server_command.specs.Messages.{AsksDrive, Handles, sender_of, serving};
 
@@ -47,11 +49,16 @@ pub fn handle<H: MetadataServer, L: Links, C: Clock, P: Place>(
 ) -> Result<Sends, StepErr>
     requires goes_on { H.is_over server.old ≡ false }
     requires placer { P.is_placer placer.now }
-    ensures handles { IfOk result (λ sends. (waiting : List Sent) (stands : Bool) → Handles from message.now
-        (serving (H.server server.old) waiting stands (network_at L.Links C.Clock links.old clock.old))
-        (serving (H.server server.new) (waiting ++ sends) stands
+    ensures handles { IfOk result (λ sends. (waiting : List Sent) (stands : Bool) →
+        Does H.MetadataServer server.old server.new (λ had has. Handles from message.now
+        (serving (H.server server.old) waiting stands had (network_at L.Links C.Clock links.old clock.old))
+        (serving (H.server server.new) (waiting ++ sends) stands has
+        (network_at L.Links C.Clock links.new clock.new)))) }
+    ensures cuts { IfErr result (λ e. (waiting : List Sent) (stands : Bool) →
+        Breaks H.MetadataServer (e ≡ DiskFault) server.old server.new (λ had. CutsHandle from message.now
+        (serving (H.server server.old) waiting stands had (network_at L.Links C.Clock links.old clock.old))
         (network_at L.Links C.Clock links.new clock.new))) }
-    ensures goes { Goes H.MetadataServer DiskFault server.old server.new result }
+    ensures addresses { KeepsAddresses (L.standing links.old) (L.standing links.new) }
 {
     let now = clock.now();
     let Step { sends, notes, .. } = server.on_message(now, from, message, placer)?;
@@ -84,10 +91,15 @@ pub fn hear_drive<H: MetadataServer, L: Links, C: Clock, P: Place>(
 ) -> Result<(), StepErr>
     requires goes_on { H.is_over server.old ≡ false }
     requires placer { P.is_placer placer.now }
-    ensures hears { OnOk result ((stands : Bool) → Handles (Drive drive) reply.now
-        (serving (H.server server.old) waiting.old stands (network_at L.Links C.Clock links.old clock.old))
-        (serving (H.server server.new) waiting.new stands (network_at L.Links C.Clock links.new clock.new))) }
-    ensures goes { Goes H.MetadataServer DiskFault server.old server.new result }
+    ensures hears { OnOk result ((stands : Bool) →
+        Does H.MetadataServer server.old server.new (λ had has. Handles (Drive drive) reply.now
+        (serving (H.server server.old) waiting.old stands had (network_at L.Links C.Clock links.old clock.old))
+        (serving (H.server server.new) waiting.new stands has (network_at L.Links C.Clock links.new clock.new)))) }
+    ensures cuts { IfErr result (λ e. (stands : Bool) →
+        Breaks H.MetadataServer (e ≡ DiskFault) server.old server.new (λ had. CutsHandle (Drive drive) reply.now
+        (serving (H.server server.old) waiting.old stands had (network_at L.Links C.Clock links.old clock.old))
+        (network_at L.Links C.Clock links.new clock.new))) }
+    ensures addresses { KeepsAddresses (L.standing links.old) (L.standing links.new) }
 {
     let sends = handle(
         alloc,
@@ -116,10 +128,15 @@ pub fn ask_drive<H: MetadataServer, L: Links, C: Clock, P: Place>(
 ) -> Result<(), StepErr>
     requires goes_on { H.is_over server.old ≡ false }
     requires placer { P.is_placer placer.now }
-    ensures asks { OnOk result ((stands : Bool) → AsksDrive drive message.now
-        (serving (H.server server.old) waiting.old stands (network_at L.Links C.Clock links.old clock.old))
-        (serving (H.server server.new) waiting.new stands (network_at L.Links C.Clock links.new clock.new))) }
-    ensures goes { Goes H.MetadataServer DiskFault server.old server.new result }
+    ensures asks { OnOk result ((stands : Bool) →
+        Does H.MetadataServer server.old server.new (λ had has. AsksDrive drive message.now
+        (serving (H.server server.old) waiting.old stands had (network_at L.Links C.Clock links.old clock.old))
+        (serving (H.server server.new) waiting.new stands has (network_at L.Links C.Clock links.new clock.new)))) }
+    ensures cuts { IfErr result (λ e. (stands : Bool) →
+        Breaks H.MetadataServer (e ≡ DiskFault) server.old server.new (λ had. CutsAsk drive message.now
+        (serving (H.server server.old) waiting.old stands had (network_at L.Links C.Clock links.old clock.old))
+        (network_at L.Links C.Clock links.new clock.new))) }
+    ensures addresses { KeepsAddresses (L.standing links.old) (L.standing links.new) }
 {
     match asked(alloc, links, Node::Drive(drive), message)? {
         Some(reply) => {

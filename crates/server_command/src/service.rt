@@ -1,9 +1,10 @@
 // What a server serves once its files are made, and the lines before and after.
 ghost use Rattle.std.specs.Prelude.{◌≡◌, false, IfErr, OnOk};
+ghost use Rattle.cluster_text.specs.Peers.{KeepsAddresses};
 ghost use Rattle.cluster_text.specs.Outside.{network_at};
 ghost use Rattle.cluster_text.specs.Lines.{served_line};
 ghost use Rattle.server_command.specs.Ends.{Serves, StopsCore};
-ghost use Rattle.server_command.specs.GoesOn.{Goes};
+ghost use Rattle.server_command.specs.GoesOn.{Breaks, Does};
 ghost use Rattle.server_command.specs.declared.server_stop.ServerStop.TheVariants.{DiskFault};
 
 use crate::connections::serve;
@@ -31,13 +32,15 @@ pub fn serve_told<H: MetadataServer, K: Sink, L: Links, C: Clock, P: Place>(
 ) -> Result<(), ServerStop>
     requires goes_on { H.is_over server.old ≡ false }
     requires placer { P.is_placer placer.now }
-    ensures serves { OnOk result (Serves connections (H.server server.old) (H.server server.new)
+    ensures serves { OnOk result (Does H.MetadataServer server.old server.new (λ had has.
+        Serves connections (H.server server.old) (H.server server.new) had has
         (network_at L.Links C.Clock links.old clock.old) (network_at L.Links C.Clock links.new clock.new)
-        (K.taken sink.old) (K.taken sink.new)) }
-    ensures stops { IfErr result (StopsCore connections (H.server server.old) (H.server server.new)
+        (K.taken sink.old) (K.taken sink.new))) }
+    ensures stops { IfErr result (λ stop. Breaks H.MetadataServer (stop ≡ DiskFault) server.old server.new (λ had served unserved.
+        StopsCore connections (H.server server.old) (H.server server.new) had served unserved
         (network_at L.Links C.Clock links.old clock.old) (network_at L.Links C.Clock links.new clock.new)
-        (K.taken sink.old) (K.taken sink.new) (K.faults sink.old) (K.faults sink.new)) }
-    ensures goes { Goes H.MetadataServer DiskFault server.old server.new result }
+        (K.taken sink.old) (K.taken sink.new) (K.faults sink.old) (K.faults sink.new) stop)) }
+    ensures addresses { KeepsAddresses (L.standing links.old) (L.standing links.new) }
 {
     let served = served_line(alloc, connections)?;
     match put_all(sink, b"listening\n") {

@@ -19,7 +19,9 @@ use Rattle.server_command.specs.declared.server_stop.ServerStop.{ServerStop}
 use Rattle.server_command.specs.Files.{LosesFile, RefusesFile, StopsBy}
 use Rattle.server_command.specs.Messages.{InTurn, Serving}
 use Rattle.server_command.proofs.MakingLaws.{stops_at, stops_by}
-use Rattle.stored_server.specs.Lacking.{LacksDrivesFor, LosesLacking, MakesLacking, RefusesLacking, has_file, with_all_lacking, with_lacking}
+use Rattle.server_command.specs.Cuts.{CutsFile}
+use Rattle.server_command.specs.Steps.{ServerStep}
+use Rattle.stored_server.specs.Lacking.{CutsLacking, LacksDrivesFor, LosesLacking, MakesLacking, RefusesLacking, has_file, with_all_lacking, with_lacking}
 
 -- ---- drives
 
@@ -56,16 +58,19 @@ never_wrong s (d ∷ ds) kind sound wrong =
 -- ---- files
 
 pub lacking_stops : (files : List ClusterFile) (i : ℕ) (f : ClusterFile) (s u : Serving) (server : Server) (ends : Ends)
-    (stop : ServerStop)
+    (stop : ServerStop) (served unserved : List ServerStep)
     → slice_get files i ≡ Some f → InTurn MakesLacking (take i files) s u → has_file u.server f ≡ false
-    → StopsBy (LosesFile f u server ends) (RefusesFile f u.server) stop
-    → StopsBy (LosesLacking files s server ends) (RefusesLacking files s) stop
-lacking_stops files i f s u server ends stop e made lacks h =
-    stops_by (LosesFile f u server ends) (LosesLacking files s server ends) (RefusesFile f u.server) (RefusesLacking files s)
-    (λ l. stops_at MakesLacking (λ g v. (has_file v.server g ≡ false) × LosesFile g v server ends) files i f s u e
-    made (lacks, l))
-    (λ r. stops_at MakesLacking (λ g v. (has_file v.server g ≡ false) × RefusesFile g v.server) files i f s u e made
-    (lacks, r)) stop h
+    → StopsBy (λ has. LosesFile f u server has ends) (RefusesFile f u.server) (CutsFile f u ends) stop served unserved
+    → StopsBy (λ has. LosesLacking files s server has ends) (RefusesLacking files s) (CutsLacking files s ends) stop served
+    unserved
+lacking_stops files i f s u server ends stop served unserved e made lacks h =
+    stops_by (λ has. LosesFile f u server has ends) (λ has. LosesLacking files s server has ends) (RefusesFile f u.server)
+    (RefusesLacking files s) (CutsFile f u ends) (CutsLacking files s ends) served unserved
+    (λ l. stops_at MakesLacking (λ g v. (has_file v.server g ≡ false) × LosesFile g v server served ends) files i f s u e made
+    (lacks, l))
+    (λ r. stops_at MakesLacking (λ g v. (has_file v.server g ≡ false) × RefusesFile g v.server) files i f s u e made (lacks, r))
+    (λ x. stops_at MakesLacking (λ g v. (has_file v.server g ≡ false) × CutsFile g v ends served unserved) files i f s u e made
+    (lacks, x)) stop h
 
 none_there : {A : Type 0} (o : Option A) → is_some o ≡ false → o ≡ None
 none_there None there = refl

@@ -1,5 +1,5 @@
 -- What a server does before its first connection, and where it stops.
-use Rattle.std.proofs.Common.{◌≡◌, ◌∙◌, ◌+◌, ℕ, Bool, true, false, List, [], ◌∷◌, ◌++◌, length, take, Option, None, Some, Ok, ap, inl, inr, refl, subst, sym}
+use Rattle.std.proofs.Common.{◌≡◌, ◌∙◌, ◌+◌, ℕ, Bool, true, List, [], ◌∷◌, ◌++◌, length, take, Option, None, Some, Ok, ap, inl, inr, refl, subst, sym}
 use Rattle.std.specs.Prelude.{filter, slice_get}
 use Rattle.std.proofs.lemmas.Bool.{cases_Bool}
 use Rattle.std.proofs.lemmas.List.Elements.{filter-append}
@@ -16,7 +16,9 @@ use Rattle.server_rules.specs.Making.{set_format}
 use Rattle.server_state.specs.declared.step.Step.{Step}
 use Rattle.server_command.proofs.Described.{AreKnowable, AreMakeable}
 use Rattle.server_command.proofs.MakingLaws.{stops_by}
+use Rattle.server_command.specs.Cuts.{CutsMaking, CutsWork}
 use Rattle.server_command.specs.Files.{LosesAll, Makes, StopsBy}
+use Rattle.server_command.specs.Steps.{ServerStep}
 use Rattle.server_command.specs.Messages.{Serving, UntilNone, WorksAll, serving}
 use Rattle.server_requests.specs.declared.outgoing.Sent.{Sent}
 use Rattle.server_command.specs.Notes.{note_texts}
@@ -25,9 +27,9 @@ use Rattle.server_command.specs.declared.metadata_server.StepErr.{StepErr}
 use Rattle.server_command.specs.declared.metadata_server.StepErr.TheVariants as step_err
 use Rattle.server_command.specs.declared.server_stop.ServerStop.{ServerStop}
 use Rattle.server_command.specs.declared.server_stop.ServerStop.TheVariants.{Command, DiskFault}
-use Rattle.stored_server.specs.Lacking.{LosesLacking, MakesAllLacking, RefusesLacking, StopsLacking, with_all_lacking}
+use Rattle.stored_server.specs.Lacking.{CutsLacking, LosesLacking, MakesAllLacking, RefusesLacking, StopsLacking, with_all_lacking}
 use Rattle.stored_server.proofs.LackingLaws.{few_drives, never_wrong}
-use Rattle.stored_server.specs.Preparing.{LosesResuming, Prepares, Resumes, Settles, StopsPreparing, is_new, opened, picked_of, picks}
+use Rattle.stored_server.specs.Preparing.{CutsResuming, LosesResuming, Prepares, Resumes, Settles, StopsPreparing, new_of, opened, picked_of, rest_of}
 
 -- ---- what is picked
 
@@ -50,131 +52,168 @@ picked_more p sends i m old new does got same so_far more =
 -- ---- what the opening gave
 
 -- behind what it noted
-pub opened_at : (begun : Server) (step : Step) (waiting : List Sent) (told now_told : Option Traffic) (faults now_faults : Faults)
-    (times : Option (List ℕ)) → now_told ≡ after_notes (note_texts step.notes) told → now_faults ≡ faults
-    → serving begun waiting true (ends_of now_told now_faults times) ≡ opened begun step waiting (ends_of told faults times)
-opened_at begun step waiting told now_told faults now_faults times tells same =
-    ap (λ (t : Option Traffic). serving begun waiting true (ends_of t now_faults times)) tells
-    ∙ ap (λ (f : Faults). serving begun waiting true (ends_of (after_notes (note_texts step.notes) told) f times)) same
+pub opened_at : (begun : Server) (step : Step) (waiting : List Sent) (had : List ServerStep) (told now_told : Option Traffic)
+    (faults now_faults : Faults) (times : Option (List ℕ)) → now_told ≡ after_notes (note_texts step.notes) told
+    → now_faults ≡ faults
+    → serving begun waiting true had (ends_of now_told now_faults times)
+    ≡ opened begun step waiting had (ends_of told faults times)
+opened_at begun step waiting had told now_told faults now_faults times tells same =
+    ap (λ (t : Option Traffic). serving begun waiting true had (ends_of t now_faults times)) tells
+    ∙ ap (λ (f : Faults). serving begun waiting true had (ends_of (after_notes (note_texts step.notes) told) f times)) same
 
--- the new objects were made, and the rest was worked
-pub resumed : (knows : ℕ → ℕ → Bool) (begun made server : Server) (step : Step) (before first between now : Ends)
-    (still : Bool) (new others : List Sent)
-    → serving begun new true first ≡ opened begun step new before
-    → new ≡ filter (λ m. picks true (is_new knows m)) step.sends
-    → others ≡ filter (λ m. picks false (is_new knows m)) step.sends
-    → UntilNone Makes (serving begun new true first) (serving made [] true between)
-    → WorksAll None (serving made others true between) (serving server [] still now)
-    → Resumes knows begun step before server now
-resumed knows begun made server step before first between now still new others told are rest makes works = record {
-  made = serving made [] true between;
-  makes =
-      subst (λ (ms : List Sent). UntilNone Makes (opened begun step ms before) (serving made [] true between)) are
-      (subst (λ (x : Serving). UntilNone Makes x (serving made [] true between)) told makes);
-  worked = serving server [] still now;
-  works = subst (λ (ms : List Sent). WorksAll None (serving made ms true between) (serving server [] still now)) rest works;
-  is = refl;
-  ends = refl;
-}
+module _ (knows : ℕ → ℕ → Bool) (begun : Server) (step : Step) (had : List ServerStep) (before first : Ends)
+    (new others : List Sent) (told : serving begun new true had first ≡ opened begun step new had before)
+    (are : new ≡ new_of knows step) (rest : others ≡ rest_of knows step) where
+  -- what is so of these is so of the new objects
+  at_new : (P : Serving → Type 0) → P (serving begun new true had first) → P (opened begun step (new_of knows step) had before)
+  at_new P p = subst (λ (ms : List Sent). P (opened begun step ms had before)) are (subst (λ (x : Serving). P x) told p)
 
--- a new object wasn't made
-pub resumed_not : (knows : ℕ → ℕ → Bool) (begun last : Server) (step : Step) (before first now : Ends) (new : List Sent)
-    (stop : ServerStop)
-    → serving begun new true first ≡ opened begun step new before
-    → new ≡ filter (λ m. picks true (is_new knows m)) step.sends
-    → StopsBy (LosesAll (serving begun new true first) last now) ⊥ stop
-    → StopsBy (LosesResuming knows begun step before last now) ⊥ stop
-resumed_not knows begun last step before first now new stop told are stops =
-    stops_by (LosesAll (serving begun new true first) last now) (LosesResuming knows begun step before last now) ⊥ ⊥
-    (λ l. subst (λ (ms : List Sent). LosesAll (opened begun step ms before) last now) are
-    (subst (λ (x : Serving). LosesAll x last now) told l))
-    (λ never. never) stop stops
-
-module _ (knows : ℕ → ℕ → Bool) (cluster : Cluster) (begun : Server) (step : Step) (before : Ends) where
-  -- the cluster's format and drives are known
-  pub settled : (worked raised known : Server) (ds : List ClusterDrive) (now : Ends) → ds ≡ cluster.drives
-      → Resumes knows begun step before worked now
-      → raised ≡ set_format worked cluster.format → with_all_lacking raised ds ≡ Ok known
-      → Settles knows cluster begun step before known now
-  settled worked raised known ds now e r is all = record {
-    server = worked;
-    resumes = r;
-    has_all = subst (λ (xs : List ClusterDrive). with_all_lacking (set_format worked cluster.format) xs ≡ Ok known) e
-        (subst (λ (s : Server). with_all_lacking s ds ≡ Ok known) is all);
+  -- the new objects were made, and the rest was worked
+  pub resumed : (made server : Server) (mids has : List ServerStep) (between now : Ends) (still : Bool)
+      → UntilNone Makes (serving begun new true had first) (serving made [] true mids between)
+      → WorksAll None (serving made others true mids between) (serving server [] still has now)
+      → Resumes knows begun step had before server has now
+  resumed made server mids has between now still makes works = record {
+    made = serving made [] true mids between;
+    makes = at_new (λ x. UntilNone Makes x (serving made [] true mids between)) makes;
+    worked = serving server [] still has now;
+    works =
+        subst (λ (ms : List Sent). WorksAll None (serving made ms true mids between) (serving server [] still has now)) rest
+        works;
+    is = refl;
+    steps = refl;
+    ends = refl;
   }
 
-  pub prepared : (known made : Server) (fs : List ClusterFile) (between now : Ends) → fs ≡ cluster.files
-      → Settles knows cluster begun step before known between
-      → MakesAllLacking fs (serving known [] true between) (serving made [] true now)
-      → Prepares knows cluster begun step before made now
-  prepared known made fs between now e settles makes = record {
+  -- a new object wasn't made
+  pub resumed_not : (last : Server) (now : Ends) (stop : ServerStop) (served unserved : List ServerStep)
+      → StopsBy (λ has. LosesAll (serving begun new true had first) last has now) ⊥
+      (CutsMaking (serving begun new true had first) now) stop served unserved
+      → StopsBy (λ has. LosesResuming knows begun step had before last has now) ⊥
+      (CutsResuming knows begun step had before now) stop served unserved
+  resumed_not last now stop served unserved stops =
+      stops_by (λ has. LosesAll (serving begun new true had first) last has now)
+      (λ has. LosesResuming knows begun step had before last has now) ⊥ ⊥
+      (CutsMaking (serving begun new true had first) now) (CutsResuming knows begun step had before now) served unserved
+      (λ l. at_new (λ x. LosesAll x last served now) l) (λ never. never)
+      (λ c. inr (inl (at_new (λ x. CutsMaking x now served unserved) c))) stop stops
+
+  -- the rest was cut off
+  pub resumed_cut : (made : Server) (mids : List ServerStep) (between now : Ends) (served unserved : List ServerStep)
+      → UntilNone Makes (serving begun new true had first) (serving made [] true mids between)
+      → CutsWork None (serving made others true mids between) now served unserved
+      → CutsResuming knows begun step had before now served unserved
+  resumed_cut made mids between now served unserved makes cuts = inr (inr (
+    serving made [] true mids between,
+    at_new (λ x. UntilNone Makes x (serving made [] true mids between)) makes,
+    subst (λ (ms : List Sent). CutsWork None (serving made ms true mids between) now served unserved) rest cuts,
+  ))
+
+module _ (knows : ℕ → ℕ → Bool) (cluster : Cluster) (begun : Server) (step : Step) (had : List ServerStep) (before : Ends) where
+  -- the cluster's format and drives are known
+  pub settled : (worked raised known : Server) (mids more all : List ServerStep) (ds : List ClusterDrive) (now : Ends)
+      → ds ≡ cluster.drives → all ≡ mids ++ more → Resumes knows begun step had before worked mids now
+      → raised ≡ set_format worked cluster.format → with_all_lacking raised ds ≡ Ok known
+      → Settles knows cluster begun step had before known all now
+  settled worked raised known mids more all ds now e are r is has = record {
+    server = worked;
+    resumed = mids;
+    resumes = r;
+    has_all = subst (λ (xs : List ClusterDrive). with_all_lacking (set_format worked cluster.format) xs ≡ Ok known) e
+        (subst (λ (s : Server). with_all_lacking s ds ≡ Ok known) is has);
+    more = more;
+    steps = are;
+  }
+
+  pub prepared : (known made : Server) (mids has : List ServerStep) (fs : List ClusterFile) (between now : Ends)
+      → fs ≡ cluster.files → Settles knows cluster begun step had before known mids between
+      → MakesAllLacking fs (serving known [] true mids between) (serving made [] true has now)
+      → Prepares knows cluster begun step had before made has now
+  prepared known made mids has fs between now e settles makes = record {
     known = known;
+    steps = mids;
     between = between;
     settles = settles;
     makes =
-        subst (λ (xs : List ClusterFile). MakesAllLacking xs (serving known [] true between) (serving made [] true now)) e makes;
+        subst (λ (xs : List ClusterFile). MakesAllLacking xs (serving known [] true mids between) (serving made [] true has now))
+        e makes;
   }
 
   -- ---- why it stopped
 
-  -- a step wasn't done
-  pub stopped_step : (last : Server) (now : Ends) (e : StepErr)
-      → StopsPreparing knows cluster begun step before last now (stop_of_step e)
-  stopped_step last now step_err.DiskFault = tt
-  stopped_step last now step_err.Memory = tt
+  -- a step of the settling wasn't done
+  pub stopped_step : (last worked : Server) (mids more served unserved : List ServerStep) (now : Ends) (e : StepErr)
+      → Resumes knows begun step had before worked mids now → served ≡ mids ++ more
+      → StopsPreparing knows cluster begun step had before last now (stop_of_step e) served unserved
+  stopped_step last worked mids more served unserved now step_err.DiskFault r are =
+      inr (inl (record { server = worked; resumed = mids; resumes = r; more = more; steps = are }))
+  stopped_step last worked mids more served unserved now step_err.Memory r are =
+      inr (inl (record { server = worked; resumed = mids; resumes = r; more = more; steps = are }))
 
-  -- a new object of the opening wasn't made
-  pub stopped_resuming : (last : Server) (now : Ends) (stop : ServerStop)
-      → StopsBy (LosesResuming knows begun step before last now) ⊥ stop
-      → StopsPreparing knows cluster begun step before last now stop
-  stopped_resuming last now (Command (BadCluster kind)) s = absurd s.1
-  stopped_resuming last now (Command ReadFault) s = absurd s
-  stopped_resuming last now (Command WriteFault) s = absurd s
-  stopped_resuming last now (Command Memory) s = tt
-  stopped_resuming last now (Command Full) s = absurd s
-  stopped_resuming last now (Command LinkFault) s = inl s
-  stopped_resuming last now DiskFault s = tt
+  -- a new object of the opening wasn't made, or the rest was cut off
+  pub stopped_resuming : (last : Server) (now : Ends) (stop : ServerStop) (served unserved : List ServerStep)
+      → StopsBy (λ has. LosesResuming knows begun step had before last has now) ⊥
+      (CutsResuming knows begun step had before now) stop served unserved
+      → StopsPreparing knows cluster begun step had before last now stop served unserved
+  stopped_resuming last now (Command (BadCluster kind)) served unserved s = absurd s.1
+  stopped_resuming last now (Command ReadFault) served unserved s = absurd s
+  stopped_resuming last now (Command WriteFault) served unserved s = absurd s
+  stopped_resuming last now (Command Memory) served unserved s = inl s
+  stopped_resuming last now (Command Full) served unserved s = absurd s
+  stopped_resuming last now (Command LinkFault) served unserved s = (s.1, inl s.0)
+  stopped_resuming last now DiskFault served unserved s = inl s
 
   -- a drive wasn't added, but none of them is wrong
-  pub stopped_adding : (raised last : Server) (ds : List ClusterDrive) (now : Ends) (stop : ServerStop) → ds ≡ cluster.drives
-      → AreKnowable cluster.drives
-      → StopsLacking (with_all_lacking raised ds) stop → StopsPreparing knows cluster begun step before last now stop
-  stopped_adding raised last ds now stop e sound stops =
+  pub stopped_adding : (raised last worked : Server) (mids more served unserved : List ServerStep) (ds : List ClusterDrive)
+      (now : Ends) (stop : ServerStop) → ds ≡ cluster.drives → AreKnowable cluster.drives
+      → Resumes knows begun step had before worked mids now → served ≡ mids ++ more
+      → StopsLacking (with_all_lacking raised ds) stop
+      → StopsPreparing knows cluster begun step had before last now stop served unserved
+  stopped_adding raised last worked mids more served unserved ds now stop e sound r are stops =
       go stop (subst (λ (xs : List ClusterDrive). StopsLacking (with_all_lacking raised xs) stop) e stops)
     where
       go : (x : ServerStop) → StopsLacking (with_all_lacking raised cluster.drives) x
-          → StopsPreparing knows cluster begun step before last now x
+          → StopsPreparing knows cluster begun step had before last now x served unserved
       go (Command (BadCluster kind)) wrong = absurd (never_wrong raised cluster.drives kind sound wrong)
       go (Command ReadFault) x = absurd x
       go (Command WriteFault) x = absurd x
-      go (Command Memory) x = tt
+      go (Command Memory) x =
+          inr (inl (record { server = worked; resumed = mids; resumes = r; more = more; steps = are }))
       go (Command Full) x = absurd x
       go (Command LinkFault) x = absurd x
-      go DiskFault x = tt
+      go DiskFault x = inr (inl (record { server = worked; resumed = mids; resumes = r; more = more; steps = are }))
 
   -- a file wasn't made
-  pub stopped_making : (known last : Server) (fs : List ClusterFile) (between now : Ends) (stop : ServerStop) → fs ≡ cluster.files
-      → Settles knows cluster begun step before known between → AreMakeable (length cluster.drives) cluster.files
-      → StopsBy (LosesLacking fs (serving known [] true between) last now)
-      (RefusesLacking fs (serving known [] true between)) stop
-      → StopsPreparing knows cluster begun step before last now stop
-  stopped_making known last fs between now stop e settles sound stops = go stop
-      (subst (λ (xs : List ClusterFile). StopsBy (LosesLacking xs (serving known [] true between) last now)
-      (RefusesLacking xs (serving known [] true between)) stop) e stops)
+  pub stopped_making : (known last : Server) (mids served unserved : List ServerStep) (fs : List ClusterFile) (between now : Ends)
+      (stop : ServerStop) → fs ≡ cluster.files → Settles knows cluster begun step had before known mids between
+      → AreMakeable (length cluster.drives) cluster.files
+      → StopsBy (λ has. LosesLacking fs (serving known [] true mids between) last has now)
+      (RefusesLacking fs (serving known [] true mids between)) (CutsLacking fs (serving known [] true mids between) now) stop
+      served unserved
+      → StopsPreparing knows cluster begun step had before last now stop served unserved
+  stopped_making known last mids served unserved fs between now stop e settles sound stops = go stop
+      (subst (λ (xs : List ClusterFile). StopsBy (λ has. LosesLacking xs (serving known [] true mids between) last has now)
+      (RefusesLacking xs (serving known [] true mids between)) (CutsLacking xs (serving known [] true mids between) now) stop
+      served unserved) e stops)
     where
-      go : (x : ServerStop) → StopsBy (LosesLacking cluster.files (serving known [] true between) last now)
-          (RefusesLacking cluster.files (serving known [] true between)) x
-          → StopsPreparing knows cluster begun step before last now x
+      go : (x : ServerStop) → StopsBy (λ has. LosesLacking cluster.files (serving known [] true mids between) last has now)
+          (RefusesLacking cluster.files (serving known [] true mids between))
+          (CutsLacking cluster.files (serving known [] true mids between) now) x served unserved
+          → StopsPreparing knows cluster begun step had before last now x served unserved
       go (Command (BadCluster kind)) x = (
         x.0,
-        known,
-        between,
-        settles,
-        few_drives (length cluster.drives) cluster.files (serving known [] true between) sound x.1,
+        x.2,
+        (
+          known,
+          mids,
+          between,
+          settles,
+          few_drives (length cluster.drives) cluster.files (serving known [] true mids between) sound x.1,
+        ),
       )
       go (Command ReadFault) x = absurd x
       go (Command WriteFault) x = absurd x
-      go (Command Memory) x = tt
+      go (Command Memory) x = inr (inr (known, mids, between, settles, x))
       go (Command Full) x = absurd x
-      go (Command LinkFault) x = inr (known, between, settles, x)
-      go DiskFault x = tt
+      go (Command LinkFault) x = (x.1, inr (known, mids, between, settles, x.0))
+      go DiskFault x = inr (inr (known, mids, between, settles, x))

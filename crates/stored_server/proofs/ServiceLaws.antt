@@ -1,5 +1,5 @@
 -- What a server in a journal leaves on its disk, and how its serving ends.
-use Rattle.std.proofs.Common.{◌≡◌, ◌∙◌, ◌⊎◌, ⊎_elim, inl, inr, ℕ, List, [], ◌++◌, Option, ap, append-nil, sym, subst}
+use Rattle.std.proofs.Common.{◌≡◌, ◌∙◌, ◌⊎◌, ⊎_elim, inl, inr, ℕ, List, [], ◌++◌, Option, ap, append-nil, append_assoc, sym, subst}
 use Rattle.std.specs.Prelude.{IsTrue}
 use Rattle.osd_bytes.specs.Asking.{Ends}
 use Rattle.osd_bytes.specs.Causes.{Rose}
@@ -56,24 +56,25 @@ module _ {D : Type 0} (s : DiskGhosts D) where
       → BeginsWith (s.seen disk) (core_of old.journal) (made_of old.journal) step)
       (kept : IsTrue (s.tells disk) → IsKept s old.journal) (opens : IsTrue (s.tells disk)
       → LeavesOpenable s disk (kept_on old)) (done : List ServerStep) (same : left ≡ kept_on new) where
-    pub served_from : (made : Server) (between : Ends)
-        → Prepares (is_among (made_of old.journal)) cluster (core_of old.journal) step before made between
-        → Serves connections made (core_of new.journal) between now taken_before taken
+    pub served_from : (made : Server) (prepared : List ServerStep) (between : Ends)
+        → Prepares (is_among (made_of old.journal)) cluster (core_of old.journal) step [] before made prepared between
+        → Serves connections made (core_of new.journal) prepared done between now taken_before taken
         → core_of new.journal ≡ after_steps (core_of old.journal) done
         → JournalCarries s done [] old new → (IsKept s old.journal → IsKept s new.journal)
         → s.faults (kept_on new) ≡ s.faults (kept_on old) → s.faults (kept_on old) ≡ s.faults disk
         → ServesFrom s connections cluster before now taken_before taken disk left
-    served_from made between prepares serves all x keeps still faults = record {
+    served_from made prepared between prepares serves all x keeps still faults = record {
       begun = core_of old.journal;
       own = made_of old.journal;
       step = step;
       begins = begins;
       made = made;
+      prepared = prepared;
       between = between;
       prepares = prepares;
       last = core_of new.journal;
-      serves = serves;
       done = done;
+      serves = serves;
       all = all;
       any_moment = λ told. subst (λ (xs : List ServerStep). LeavesRun s disk left (core_of old.journal) xs) (append-nil done)
           (leaves_run disk left old new (done ++ []) same (opens told) (x.crash (kept told)));
@@ -85,27 +86,36 @@ module _ {D : Type 0} (s : DiskGhosts D) where
       same = ap (λ (d : D). s.faults d) same ∙ (still ∙ faults);
     }
 
-    pub broke_off : (cut_off : List ServerStep) (failed_before failed : ℕ) (stop : StoredStop) (cause : ServerStop)
-        → stop ≡ stored_stop_of cause
+    pub broke_off : (served unserved handled cut_off : List ServerStep) (failed_before failed : ℕ) (stop : StoredStop)
+        (cause : ServerStop) → served ≡ done → unserved ≡ handled ++ cut_off → stop ≡ stored_stop_of cause
         → StopsBehind connections cluster (core_of old.journal)
-        (made_of old.journal) step before now taken_before taken failed_before failed cause
-        → JournalCarries s done cut_off old new → (cause ≡ DiskFault → Rose (s.faults (kept_on old)) (s.faults (kept_on new)))
+        (made_of old.journal) step before now taken_before taken failed_before failed cause served unserved
+        → JournalCarries s (done ++ handled) cut_off old new
+        → (cause ≡ DiskFault → Rose (s.faults (kept_on old)) (s.faults (kept_on new)))
         → s.faults (kept_on old) ≡ s.faults disk
         → BreaksOff s connections cluster before now taken_before taken failed_before failed disk left stop
-    broke_off cut_off failed_before failed stop cause is why x rose faults = record {
-      begun = core_of old.journal;
-      own = made_of old.journal;
-      step = step;
-      begins = begins;
-      cause = cause;
-      is = is;
-      why = why;
-      rose =
-          λ f. subst (λ (d : D). Rose (s.faults disk) (s.faults d)) (sym same)
-          (subst (λ (n : ℕ). Rose n (s.faults (kept_on new))) faults (rose f));
-      done = done;
-      cut_off = cut_off;
-      few = x.few;
-      any_moment = λ told. leaves_run disk left old new (done ++ cut_off) same (opens told) (x.crash (kept told));
-      stays = λ told. stays_since old new done cut_off left x (kept told) same;
-    }
+    broke_off served unserved handled cut_off failed_before failed stop cause first behind is why x rose faults =
+        let all : (done ++ handled) ++ cut_off ≡ served ++ unserved =
+        append_assoc done handled cut_off ∙ ap (λ (xs : List ServerStep). done ++ xs) (sym behind)
+        ∙ ap (λ (xs : List ServerStep). xs ++ unserved) (sym first) in record {
+          begun = core_of old.journal;
+          own = made_of old.journal;
+          step = step;
+          begins = begins;
+          cause = cause;
+          is = is;
+          served = served;
+          unserved = unserved;
+          why = why;
+          rose =
+              λ f. subst (λ (d : D). Rose (s.faults disk) (s.faults d)) (sym same)
+              (subst (λ (n : ℕ). Rose n (s.faults (kept_on new))) faults (rose f));
+          handled = handled;
+          cut_off = cut_off;
+          are = behind;
+          few = x.few;
+          any_moment = λ told. subst (λ (xs : List ServerStep). LeavesRun s disk left (core_of old.journal) xs) all
+              (leaves_run disk left old new ((done ++ handled) ++ cut_off) same (opens told) (x.crash (kept told)));
+          stays = λ told. subst (λ (xs : List ServerStep). StaysSince s (core_of old.journal) (xs ++ handled) cut_off left)
+              (sym first) (stays_since old new (done ++ handled) cut_off left x (kept told) same);
+        }

@@ -7,9 +7,11 @@ use Rattle.osd_bytes.specs.Asking.{Ends}
 use Rattle.server_rules.specs.declared.server.Server.{Server}
 use Rattle.server_rules.specs.Files.{file_at}
 use Rattle.server_rules.specs.Making.{online}
+use Rattle.server_command.specs.Cuts.{CutsFile}
 use Rattle.server_command.specs.Drives.{Known, and_then, has_number, with_drive}
 use Rattle.server_command.specs.Files.{LosesFile, MakesFile, RefusesFile, StopsAt}
 use Rattle.server_command.specs.Messages.{InTurn, Serving}
+use Rattle.server_command.specs.Steps.{ServerStep}
 use Rattle.server_command.specs.declared.server_stop.ServerStop.{ServerStop}
 use Rattle.server_command.specs.declared.server_stop.ServerStop.TheVariants.{Command, DiskFault}
 
@@ -50,9 +52,14 @@ abbrev pub MakesAllLacking : List ClusterFile → (s t : Serving) → Type 0
 MakesAllLacking fs s t = InTurn MakesLacking fs s t
 
 -- some of these are made or there, and of the next, which the server lacks, a drive gives no record, or holds an object already
-abbrev pub LosesLacking : List ClusterFile → (s : Serving) → Server → Ends → Type 0
-LosesLacking fs s server ends =
-    StopsAt MakesLacking (λ f u. (has_file u.server f ≡ false) × LosesFile f u server ends) fs s
+abbrev pub LosesLacking : List ClusterFile → (s : Serving) → Server → (has : List ServerStep) → Ends → Type 0
+LosesLacking fs s server has ends =
+    StopsAt MakesLacking (λ f u. (has_file u.server f ≡ false) × LosesFile f u server has ends) fs s
+
+-- or the next, which the server lacks, was cut off
+abbrev pub CutsLacking : List ClusterFile → (s : Serving) → (now : Ends) → (served unserved : List ServerStep) → Type 0
+CutsLacking fs s now served unserved =
+    StopsAt MakesLacking (λ f u. (has_file u.server f ≡ false) × CutsFile f u now served unserved) fs s
 
 -- or the server refuses the next, which it lacks
 abbrev pub RefusesLacking : List ClusterFile → (s : Serving) → Type 0

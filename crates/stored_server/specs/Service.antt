@@ -42,8 +42,8 @@ LeavesRun s disk left begun steps =
 
 -- ---- serving from a disk
 
--- The server began from its journal, was prepared and has served all connections. At the end the disk has it as it then is, and a
--- crash leaves that.
+-- The server began from its journal, was prepared and has served all connections with these steps, each of which the disk has
+-- from the step's end on. At the end the disk has the server as it then is, and a crash leaves that.
 pub record ServesFrom {D : Type 0} (s : DiskGhosts D) (connections : ℕ) (cluster : Cluster) (before now : Ends)
     (taken_before taken : Option (List ℕ)) (disk left : D) : Type 0 where
   pub begun : Server
@@ -51,11 +51,12 @@ pub record ServesFrom {D : Type 0} (s : DiskGhosts D) (connections : ℕ) (clust
   pub step : Step
   pub begins : IsTrue (s.tells disk) → BeginsWith (s.seen disk) begun own step
   pub made : Server
+  pub prepared : List ServerStep
   pub between : Ends
-  pub prepares : Prepares (is_among own) cluster begun step before made between
+  pub prepares : Prepares (is_among own) cluster begun step [] before made prepared between
   pub last : Server
-  pub serves : Serves connections made last between now taken_before taken
   pub done : List ServerStep
+  pub serves : Serves connections made last prepared done between now taken_before taken
   pub all : last ≡ after_steps begun done
   pub any_moment : IsTrue (s.tells disk) → LeavesRun s disk left begun done
   pub stays : IsTrue (s.tells disk) → StaysSince s begun done [] left
@@ -71,15 +72,20 @@ abbrev pub stored_stop_of : ServerStop → StoredStop
 stored_stop_of (Command cause) = stored.Command cause
 stored_stop_of DiskFault = stored.DiskFault
 
--- behind its opening: before it told that it listens, or while it served
+-- behind its opening, and behind which steps: before it told that it listens, or while it served
 abbrev pub StopsBehind : (connections : ℕ) → Cluster → (begun : Server) → (own : List MadeObject) → Step → (before now : Ends)
-    → (taken_before taken : Option (List ℕ)) → (failed_before failed : ℕ) → ServerStop → Type 0
-StopsBehind connections cluster begun own step before now taken_before taken failed_before failed cause =
-    ((taken ≡ taken_before) × (last : Server) × StopsPreparing (is_among own) cluster begun step before last now cause)
-    ⊎ ((made : Server) × (between : Ends) × Prepares (is_among own) cluster begun step before made between
-    × (last : Server) × StopsCore connections made last between now taken_before taken failed_before failed cause)
+    → (taken_before taken : Option (List ℕ)) → (failed_before failed : ℕ) → ServerStop → (served unserved : List ServerStep)
+    → Type 0
+StopsBehind connections cluster begun own step before now taken_before taken failed_before failed cause served unserved =
+    ((taken ≡ taken_before)
+    × (last : Server) × StopsPreparing (is_among own) cluster begun step [] before last now cause served unserved)
+    ⊎ ((made : Server) × (prepared : List ServerStep) × (between : Ends)
+    × Prepares (is_among own) cluster begun step [] before made prepared between
+    × (last : Server)
+    × StopsCore connections made last prepared served unserved between now taken_before taken failed_before failed cause)
 
--- the server began from its journal, and stopped; what stays on the disk is all that it did
+-- The server began from its journal, and stopped. The disk has each step that was served, and so each that gave what was put,
+-- from the step's end on; and the one behind them, if it was done to its end.
 pub record BreaksOff {D : Type 0} (s : DiskGhosts D) (connections : ℕ) (cluster : Cluster) (before now : Ends)
     (taken_before taken : Option (List ℕ)) (failed_before failed : ℕ) (disk left : D) (stop : StoredStop) : Type 0 where
   pub begun : Server
@@ -88,13 +94,17 @@ pub record BreaksOff {D : Type 0} (s : DiskGhosts D) (connections : ℕ) (cluste
   pub begins : IsTrue (s.tells disk) → BeginsWith (s.seen disk) begun own step
   pub cause : ServerStop
   pub is : stop ≡ stored_stop_of cause
-  pub why : StopsBehind connections cluster begun own step before now taken_before taken failed_before failed cause
+  pub served : List ServerStep
+  pub unserved : List ServerStep
+  pub why : StopsBehind connections cluster begun own step before now taken_before taken failed_before failed cause served
+      unserved
   pub rose : cause ≡ DiskFault → Rose (s.faults disk) (s.faults left)
-  pub done : List ServerStep
+  pub handled : List ServerStep
   pub cut_off : List ServerStep
+  pub are : unserved ≡ handled ++ cut_off
   pub few : length cut_off ≤ 1
-  pub any_moment : IsTrue (s.tells disk) → LeavesRun s disk left begun (done ++ cut_off)
-  pub stays : IsTrue (s.tells disk) → StaysSince s begun done cut_off left
+  pub any_moment : IsTrue (s.tells disk) → LeavesRun s disk left begun (served ++ unserved)
+  pub stays : IsTrue (s.tells disk) → StaysSince s begun (served ++ handled) cut_off left
 
 -- its journal was neither made nor opened, and nothing else happened
 pub record StaysShut {D : Type 0} (s : DiskGhosts D) (before now : Ends) (taken_before taken : Option (List ℕ)) (disk left : D)

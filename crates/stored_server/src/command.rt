@@ -3,6 +3,8 @@ ghost use Rattle.std.specs.Prelude.{◌≡◌, IfErr, IfOk};
 ghost use Rattle.osd_bytes.specs.Reading.{TakesAtMost};
 ghost use Rattle.osd_bytes.specs.declared.lines.TheConstants.{MAX_READ};
 ghost use Rattle.cluster_text.specs.Outside.{network_at, streams_at};
+ghost use Rattle.cluster_text.specs.Peers.{KeepsAddresses};
+ghost use Rattle.server_command.specs.Ends.{SettlesAsText};
 ghost use Rattle.server_command.proofs.Described.{IsSound};
 ghost use Rattle.stored_server.specs.Ends.{EndsStored, ServesStoredAs, StopsStoredServer};
 ghost use Rattle.stored_server.specs.Service.{ServesFrom, StopsFrom, stored_stop_of};
@@ -47,6 +49,7 @@ fn serve_from<K: Sink, L: Links, C: Clock, D: Disk, P: Place>(
     ensures stops { IfErr result (λ e. StopsFrom D.Disk connections cluster.now
         (network_at L.Links C.Clock links.old clock.old) (network_at L.Links C.Clock links.new clock.new)
         (K.taken sink.old) (K.taken sink.new) (K.faults sink.old) (K.faults sink.new) disk e.1 e.0) }
+    ensures addresses { KeepsAddresses (L.standing links.old) (L.standing links.new) }
 {
     let (mut server, step) = match journal_on(alloc, disk, name) {
         Ok(opened) => opened,
@@ -77,10 +80,13 @@ fn serve_stored_cluster<S: Source, K: Sink, L: Links, C: Clock, D: Disk, P: Plac
     requires placer { P.is_placer placer.now }
     ensures serves { IfOk result (λ left. ServesStoredAs D.Disk connections
         (streams_at S.Source K.Sink source.old sink.old) (streams_at S.Source K.Sink source.new sink.new)
-        (network_at L.Links C.Clock links.old clock.old) (network_at L.Links C.Clock links.new clock.new) disk left) }
+        (network_at L.Links C.Clock links.old clock.old) (network_at L.Links C.Clock links.new clock.new)
+        (L.standing links.new) disk left) }
     ensures stops { IfErr result (λ e. StopsStoredServer D.Disk connections
         (streams_at S.Source K.Sink source.old sink.old) (streams_at S.Source K.Sink source.new sink.new)
-        (network_at L.Links C.Clock links.old clock.old) (network_at L.Links C.Clock links.new clock.new) disk e.1 e.0) }
+        (network_at L.Links C.Clock links.old clock.old) (network_at L.Links C.Clock links.new clock.new)
+        (L.standing links.new) disk e.1 e.0) }
+    ensures addresses { SettlesAsText (S.left source.old) (S.left source.new) (L.standing links.old) (L.standing links.new) }
     ensures input { TakesAtMost MAX_READ (S.left source.old) (S.left source.new) }
 {
     let cluster = match cluster_from(alloc, Reader::Server, source) {
@@ -133,10 +139,13 @@ pub fn stored_server_command<S: Source, K: Sink, L: Links, C: Clock, D: Disk, P:
     requires placer { P.is_placer placer.now }
     ensures serves { IfOk result (λ left. ServesStoredAs D.Disk connections
         (streams_at S.Source K.Sink source.old sink.old) (streams_at S.Source K.Sink source.new sink.new)
-        (network_at L.Links C.Clock links.old clock.old) (network_at L.Links C.Clock links.new clock.new) disk left) }
+        (network_at L.Links C.Clock links.old clock.old) (network_at L.Links C.Clock links.new clock.new)
+        (L.standing links.new) disk left) }
     ensures stops { IfErr result (λ e. EndsStored D.Disk connections
         (streams_at S.Source K.Sink source.old sink.old) (streams_at S.Source K.Sink source.new sink.new)
-        (network_at L.Links C.Clock links.old clock.old) (network_at L.Links C.Clock links.new clock.new) disk e.1 e.0) }
+        (network_at L.Links C.Clock links.old clock.old) (network_at L.Links C.Clock links.new clock.new)
+        (L.standing links.new) disk e.1 e.0) }
+    ensures addresses { SettlesAsText (S.left source.old) (S.left source.new) (L.standing links.old) (L.standing links.new) }
     ensures input { TakesAtMost MAX_READ (S.left source.old) (S.left source.new) }
 {
     match serve_stored_cluster(

@@ -1,12 +1,14 @@
 // The drives and files of a cluster that its server lacks.
 ghost use Rattle.std.specs.Prelude.{◌≡◌, [], true, false, Ok, IfErr, OnOk};
+ghost use Rattle.cluster_text.specs.Peers.{KeepsAddresses};
 ghost use Rattle.cluster_text.specs.Outside.{network_at};
+ghost use Rattle.server_command.specs.Cuts.{CutsFile};
 ghost use Rattle.server_command.specs.Drives.{has_number};
 ghost use Rattle.server_command.specs.Files.{LosesFile, RefusesFile, StopsBy};
-ghost use Rattle.server_command.specs.GoesOn.{Goes};
+ghost use Rattle.server_command.specs.GoesOn.{Breaks, Does, Goes};
 ghost use Rattle.server_command.specs.Messages.{serving};
 ghost use Rattle.server_command.specs.declared.server_stop.ServerStop.TheVariants.{DiskFault};
-ghost use Rattle.stored_server.specs.Lacking.{LosesLacking, MakesAllLacking, MakesLacking, RefusesLacking, StopsLacking};
+ghost use Rattle.stored_server.specs.Lacking.{CutsLacking, LosesLacking, MakesAllLacking, MakesLacking, RefusesLacking, StopsLacking};
 ghost use Rattle.stored_server.specs.Lacking.{has_file, with_all_lacking, with_lacking};
 
 use cluster_text::{ClusterDrive, ClusterFile, ClusterKind, CommandStop};
@@ -92,16 +94,19 @@ fn make_lacking_one<H: MetadataServer, L: Links, C: Clock, P: Place>(
 ) -> Result<(), ServerStop>
     requires goes_on { H.is_over server.old ≡ false }
     requires placer { P.is_placer placer.now }
-    ensures makes { OnOk result (MakesLacking file.now
-        (serving (H.server server.old) [] true (network_at L.Links C.Clock links.old clock.old))
-        (serving (H.server server.new) [] true (network_at L.Links C.Clock links.new clock.new))) }
+    ensures makes { OnOk result (Does H.MetadataServer server.old server.new (λ had has. MakesLacking file.now
+        (serving (H.server server.old) [] true had (network_at L.Links C.Clock links.old clock.old))
+        (serving (H.server server.new) [] true has (network_at L.Links C.Clock links.new clock.new)))) }
     ensures lacks { IfErr result (λ stop. has_file (H.server server.old) file.now ≡ false) }
-    ensures stops { IfErr result (StopsBy
-        (LosesFile file.now
-        (serving (H.server server.old) [] true (network_at L.Links C.Clock links.old clock.old))
-        (H.server server.new) (network_at L.Links C.Clock links.new clock.new))
-        (RefusesFile file.now (H.server server.old))) }
-    ensures goes { Goes H.MetadataServer DiskFault server.old server.new result }
+    ensures stops { IfErr result (λ stop. Breaks H.MetadataServer (stop ≡ DiskFault) server.old server.new (λ had. StopsBy
+        (λ has. LosesFile file.now
+        (serving (H.server server.old) [] true had (network_at L.Links C.Clock links.old clock.old))
+        (H.server server.new) has (network_at L.Links C.Clock links.new clock.new))
+        (RefusesFile file.now (H.server server.old))
+        (CutsFile file.now
+        (serving (H.server server.old) [] true had (network_at L.Links C.Clock links.old clock.old))
+        (network_at L.Links C.Clock links.new clock.new)) stop)) }
+    ensures addresses { KeepsAddresses (L.standing links.old) (L.standing links.new) }
 {
     if server.has_file(file.number) {
         return Ok(());
@@ -127,16 +132,19 @@ pub fn make_lacking<H: MetadataServer, L: Links, C: Clock, P: Place>(
 ) -> Result<(), ServerStop>
     requires goes_on { H.is_over server.old ≡ false }
     requires placer { P.is_placer placer.now }
-    ensures makes { OnOk result (MakesAllLacking files.now
-        (serving (H.server server.old) [] true (network_at L.Links C.Clock links.old clock.old))
-        (serving (H.server server.new) [] true (network_at L.Links C.Clock links.new clock.new))) }
-    ensures stops { IfErr result (StopsBy
-        (LosesLacking files.now
-        (serving (H.server server.old) [] true (network_at L.Links C.Clock links.old clock.old))
-        (H.server server.new) (network_at L.Links C.Clock links.new clock.new))
+    ensures makes { OnOk result (Does H.MetadataServer server.old server.new (λ had has. MakesAllLacking files.now
+        (serving (H.server server.old) [] true had (network_at L.Links C.Clock links.old clock.old))
+        (serving (H.server server.new) [] true has (network_at L.Links C.Clock links.new clock.new)))) }
+    ensures stops { IfErr result (λ stop. Breaks H.MetadataServer (stop ≡ DiskFault) server.old server.new (λ had. StopsBy
+        (λ has. LosesLacking files.now
+        (serving (H.server server.old) [] true had (network_at L.Links C.Clock links.old clock.old))
+        (H.server server.new) has (network_at L.Links C.Clock links.new clock.new))
         (RefusesLacking files.now
-        (serving (H.server server.old) [] true (network_at L.Links C.Clock links.old clock.old)))) }
-    ensures goes { Goes H.MetadataServer DiskFault server.old server.new result }
+        (serving (H.server server.old) [] true had (network_at L.Links C.Clock links.old clock.old)))
+        (CutsLacking files.now
+        (serving (H.server server.old) [] true had (network_at L.Links C.Clock links.old clock.old))
+        (network_at L.Links C.Clock links.new clock.new)) stop)) }
+    ensures addresses { KeepsAddresses (L.standing links.old) (L.standing links.new) }
 {
     for i in 0..files.len() {
         match make_lacking_one(alloc, server, links, clock, placer, &files[i]) {

@@ -1,11 +1,13 @@
 // What a server does between its opening and its first connection.
 ghost use Rattle.std.specs.Prelude.{◌≡◌, ◌++◌, false, filter, IfErr, IfOk, OnOk};
 ghost use Rattle.cluster_text.specs.Outside.{network_at};
+ghost use Rattle.cluster_text.specs.Peers.{KeepsAddresses};
 ghost use Rattle.server_command.proofs.Described.{IsSound};
-ghost use Rattle.server_command.specs.GoesOn.{Goes};
+ghost use Rattle.server_command.specs.GoesOn.{Breaks, Does};
 ghost use Rattle.server_command.specs.Files.{StopsBy};
 ghost use Rattle.server_command.specs.declared.server_stop.ServerStop.TheVariants.{DiskFault};
-ghost use Rattle.stored_server.specs.Preparing.{LosesResuming, Prepares, Resumes, StopsPreparing, is_new, picked_of, picks};
+ghost use Rattle.stored_server.specs.Preparing.{CutsResuming, LosesResuming, Prepares, Resumes, StopsPreparing};
+ghost use Rattle.stored_server.specs.Preparing.{is_new, picked_of, picks};
 
 use crate::lacking::{add_lacking, make_lacking};
 use cluster_text::Cluster;
@@ -75,13 +77,18 @@ fn resume<H: MetadataServer, L: Links, C: Clock, P: Place>(
 ) -> Result<(), ServerStop>
     requires goes_on { H.is_over server.old ≡ false }
     requires placer { P.is_placer placer.now }
-    ensures resumes { OnOk result (Resumes (H.knows server.old) (H.server server.old) step
-        (network_at L.Links C.Clock links.old clock.old) (H.server server.new)
-        (network_at L.Links C.Clock links.new clock.new)) }
-    ensures stops { IfErr result (StopsBy (LosesResuming (H.knows server.old) (H.server server.old) step
-        (network_at L.Links C.Clock links.old clock.old) (H.server server.new)
-        (network_at L.Links C.Clock links.new clock.new)) ⊥) }
-    ensures goes { Goes H.MetadataServer DiskFault server.old server.new result }
+    ensures resumes { OnOk result (Does H.MetadataServer server.old server.new (λ had has.
+        Resumes (H.knows server.old) (H.server server.old) step had
+        (network_at L.Links C.Clock links.old clock.old) (H.server server.new) has
+        (network_at L.Links C.Clock links.new clock.new))) }
+    ensures stops { IfErr result (λ stop. Breaks H.MetadataServer (stop ≡ DiskFault) server.old server.new (λ had. StopsBy
+        (λ has. LosesResuming (H.knows server.old) (H.server server.old) step had
+        (network_at L.Links C.Clock links.old clock.old) (H.server server.new) has
+        (network_at L.Links C.Clock links.new clock.new))
+        ⊥
+        (CutsResuming (H.knows server.old) (H.server server.old) step had
+        (network_at L.Links C.Clock links.old clock.old) (network_at L.Links C.Clock links.new clock.new)) stop)) }
+    ensures addresses { KeepsAddresses (L.standing links.old) (L.standing links.new) }
 {
     let Step { sends, notes, .. } = step;
     let new = pick(alloc, server, &sends, true)?;
@@ -113,13 +120,15 @@ pub(crate) fn prepare<H: MetadataServer, L: Links, C: Clock, P: Place>(
     requires goes_on { H.is_over server.old ≡ false }
     requires placer { P.is_placer placer.now }
     requires sound { IsSound cluster.now }
-    ensures prepares { OnOk result (Prepares (H.knows server.old) cluster.now (H.server server.old) step
+    ensures prepares { OnOk result (Does H.MetadataServer server.old server.new (λ had has.
+        Prepares (H.knows server.old) cluster.now (H.server server.old) step had
+        (network_at L.Links C.Clock links.old clock.old) (H.server server.new) has
+        (network_at L.Links C.Clock links.new clock.new))) }
+    ensures stops { IfErr result (λ stop. Breaks H.MetadataServer (stop ≡ DiskFault) server.old server.new (λ had.
+        StopsPreparing (H.knows server.old) cluster.now (H.server server.old) step had
         (network_at L.Links C.Clock links.old clock.old) (H.server server.new)
-        (network_at L.Links C.Clock links.new clock.new)) }
-    ensures stops { IfErr result (StopsPreparing (H.knows server.old) cluster.now (H.server server.old) step
-        (network_at L.Links C.Clock links.old clock.old) (H.server server.new)
-        (network_at L.Links C.Clock links.new clock.new)) }
-    ensures goes { Goes H.MetadataServer DiskFault server.old server.new result }
+        (network_at L.Links C.Clock links.new clock.new) stop)) }
+    ensures addresses { KeepsAddresses (L.standing links.old) (L.standing links.new) }
 {
     match resume(alloc, server, step, links, clock, placer) {
         Ok(()) => {}

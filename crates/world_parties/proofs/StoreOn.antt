@@ -1,53 +1,77 @@
 -- The drive that is read off a disk is the one for which its contents stand.
-use Rattle.std.proofs.Common.{◌≡◌, ℕ, zero, suc, ◌+◌, ◌<◌, ◌≤◌, ◌^◌, List, [], ◌∷◌, ◌++◌, length, take, drop, nat_eq, Option, Some, false, refl, sym, ap, ◌∙◌, arith, append_assoc, length-append}
+use Rattle.std.proofs.Common.{◌≡◌, ℕ, zero, suc, ◌+◌, ◌<◌, ◌≤◌, ◌^◌, List, [], ◌∷◌, ◌++◌, length, take, drop, nat_eq, nat_le, Option, Some, true, false, refl, sym, ap, ◌∙◌, arith, append_assoc, length-append}
 use Rattle.std.proofs.lemmas.List.{take_at, drop_at}
 use Rattle.std.proofs.lemmas.Nat.{from_be_bytes-to_be_bytes_4}
 use Rattle.std.proofs.lemmas.Bool.Decides.{nat_tests}
 use Rattle.std.specs.Int.{w32, to_be_bytes, from_be_bytes}
+use Rattle.gate_log.specs.declared.entry.TheConstants.{MAX_BODY}
+use Rattle.gate_log.specs.declared.form.Form.{Form}
+use Rattle.gate_log.specs.declared.form.Form.TheVariants.{Plain, Checked}
 use Rattle.gate_log.specs.declared.header.TheConstants.{HEADER_SIZE}
-use Rattle.gate_log.specs.Logs.{Gated, records_of, AreRecords, bodies_of, IsFront}
+use Rattle.gate_log.specs.Forms.{IsBody, complement, head_of, head_size, record_of, size_of, tail_of}
+use Rattle.gate_log.specs.Logs.{Gated, records_of, IsRecord, AreRecords, bodies_of, IsFront}
+use Rattle.gate_log.proofs.OneLog.{length_head, length_record, three}
 use Rattle.osd_drive.specs.declared.keys.DriveKey.{DriveKey}
 use Rattle.osd_drive.specs.State.{DriveState, new_drive}
 use Rattle.drive_store.specs.Records.{replayed}
 use Rattle.drive_store.specs.Stores.{IsStoreOf, emptied, header_for}
 use Rattle.world_parties.specs.declared.backing.DriveMake.{DriveMake}
-use Rattle.world_parties.specs.Backing.{bodies_in, drive_on, drive_or, made_core}
+use Rattle.world_parties.specs.Backing.{behind_in, bodies_in, body_in, form_in, length_in, number_in, drive_on, drive_or, made_core}
 use Rattle.world_parties.specs.Drive.{IsMadeOf}
 
--- behind an open gate stand a length and a body
-opened : (g most len : ℕ) (c : List ℕ) → nat_eq g 0 ≡ false → from_be_bytes w32 (take 4 c) ≡ len
-    → bodies_in (suc most) (g ∷ c) ≡ take len (drop 4 c) ∷ bodies_in most (drop (4 + len) c)
-opened g most len c lifted is = rw (lifted, is) refl
+-- ---- a record with which the bytes begin
 
-one_body : (g most : ℕ) (b x : List ℕ) → 0 < g → length b < 2 ^ 32
-    → bodies_in (suc most) (g ∷ (to_be_bytes w32 (length b) ++ (b ++ x))) ≡ b ∷ bodies_in most x
-one_body g most b x lifted few =
-    opened g most (length b) (number ++ (b ++ x)) (grind (arith, nat_tests, lifted)) len
-    ∙ ap (λ (l : List ℕ). l ∷ bodies_in most (drop (4 + length b) (number ++ (b ++ x)))) body
-    ∙ ap (λ (l : List ℕ). b ∷ bodies_in most l) behind
-  where
-    number : List ℕ
-    number = to_be_bytes w32 (length b)
+plain_number : (n : ℕ) → n ≤ MAX_BODY → from_be_bytes w32 (to_be_bytes w32 n) ≡ n
+plain_number n fits = from_be_bytes-to_be_bytes_4 n (omega (arith, fits))
 
-    four : length number ≡ 4
-    four = refl
+form_is : (form : Form) (body x : List ℕ) → IsBody body → form_in (record_of form body ++ x) ≡ form
+form_is Plain body x is =
+    let short : nat_le (number_in (record_of Plain body ++ x)) MAX_BODY ≡ true =
+    grind (arith, nat_tests, is.fits, plain_number (length body) is.fits) in
+    rw short refl
+form_is Checked body x is =
+    let great : nat_le (number_in (record_of Checked body ++ x)) MAX_BODY ≡ false =
+    grind (arith, nat_tests, is.fits, from_be_bytes-to_be_bytes_4 (complement (length body)) (omega arith)) in
+    rw great refl
 
-    len : from_be_bytes w32 (take 4 (number ++ (b ++ x))) ≡ length b
-    len = ap (λ (l : List ℕ). from_be_bytes w32 l) (take_at number (b ++ x) 4 refl) ∙ from_be_bytes-to_be_bytes_4 (length b) few
+length_is : (form : Form) (body x : List ℕ) → IsBody body → length_in form (record_of form body ++ x) ≡ length body
+length_is Plain body x is = plain_number (length body) is.fits
+length_is Checked body x is = plain_number (length body) is.fits
 
-    body : take (length b) (drop 4 (number ++ (b ++ x))) ≡ b
-    body = ap (λ (l : List ℕ). take (length b) l) (drop_at number (b ++ x) 4 refl) ∙ take_at b x (length b) refl
+body_is : (form : Form) (body x : List ℕ) → IsBody body → body_in form (record_of form body ++ x) ≡ body
+body_is form body x is =
+    ap (λ (n : ℕ). take n (drop (head_size form) (record_of form body ++ x))) (length_is form body x is)
+    ∙ ap (λ (l : List ℕ). take (length body) (drop (head_size form) l)) (three form body x)
+    ∙ ap (λ (l : List ℕ). take (length body) l)
+    (drop_at (head_of form (length body)) (body ++ (tail_of form body ++ x)) (head_size form) (length_head form (length body)))
+    ∙ take_at body (tail_of form body ++ x) (length body) refl
 
-    behind : drop (4 + length b) (number ++ (b ++ x)) ≡ x
-    behind = ap (λ (l : List ℕ). drop (4 + length b) l) (sym (append_assoc number b x))
-        ∙ drop_at (number ++ b) x (4 + length b) (omega (arith, four, length-append number b))
+behind_is : (form : Form) (body x : List ℕ) → IsBody body → behind_in form (record_of form body ++ x) ≡ x
+behind_is form body x is =
+    ap (λ (n : ℕ). drop (size_of form n) (record_of form body ++ x)) (length_is form body x is)
+    ∙ drop_at (record_of form body) x (size_of form (length body)) (length_record form body)
+
+-- ---- all records
+
+-- behind an open gate stands a record
+opened : (g most : ℕ) (c : List ℕ) → nat_eq g 0 ≡ false
+    → bodies_in (suc most) (g ∷ c) ≡ body_in (form_in c) c ∷ bodies_in most (behind_in (form_in c) c)
+opened g most c lifted = rw lifted refl
+
+one_body : (r : Gated) (most : ℕ) (x : List ℕ) → IsRecord r
+    → bodies_in (suc most) (r.gate ∷ (record_of r.form r.body ++ x)) ≡ r.body ∷ bodies_in most x
+one_body r most x is =
+    let c = record_of r.form r.body ++ x in
+    let form = form_is r.form r.body x is.is_body in
+    opened r.gate most c (grind (arith, nat_tests, is.open_gate))
+    ∙ ap (λ (f : Form). body_in f c ∷ bodies_in most (behind_in f c)) form
+    ∙ ap (λ (l : List ℕ). l ∷ bodies_in most (behind_in r.form c)) (body_is r.form r.body x is.is_body)
+    ∙ ap (λ (l : List ℕ). r.body ∷ bodies_in most l) (behind_is r.form r.body x is.is_body)
 
 -- the bytes of a record and of those behind it
 apart : (r : Gated) (rs : List Gated) (x : List ℕ) →
-    records_of (r ∷ rs) ++ x ≡ r.0 ∷ (to_be_bytes w32 (length r.1) ++ (r.1 ++ (records_of rs ++ x)))
-apart r rs x = ap (λ (l : List ℕ). r.0 ∷ l) (
-    append_assoc (to_be_bytes w32 (length r.1)) (r.1 ++ records_of rs) x
-    ∙ ap (λ (l : List ℕ). to_be_bytes w32 (length r.1) ++ l) (append_assoc r.1 (records_of rs) x))
+    records_of (r ∷ rs) ++ x ≡ r.gate ∷ (record_of r.form r.body ++ (records_of rs ++ x))
+apart r rs x = ap (λ (l : List ℕ). r.gate ∷ l) (append_assoc (record_of r.form r.body) (records_of rs) x)
 
 all_bodies : (rs : List Gated) (most : ℕ) (rest : List ℕ) → AreRecords rs → length rs < most →
     bodies_in most (records_of rs ++ 0 ∷ rest) ≡ bodies_of rs
@@ -56,18 +80,12 @@ all_bodies [] (suc most) rest are few = refl
 all_bodies (r ∷ rs) zero rest are few = absurd (omega (arith, few))
 all_bodies (r ∷ rs) (suc most) rest are few =
     ap (λ (l : List ℕ). bodies_in (suc most) l) (apart r rs (0 ∷ rest))
-    ∙ one_body r.0 most r.1 (records_of rs ++ 0 ∷ rest) are.0.open_gate (omega (arith, are.0.fits))
-    ∙ ap (λ (l : List (List ℕ)). r.1 ∷ l) (all_bodies rs most rest are.1 (omega (arith, few)))
+    ∙ one_body r most (records_of rs ++ 0 ∷ rest) are.0
+    ∙ ap (λ (l : List (List ℕ)). r.body ∷ l) (all_bodies rs most rest are.1 (omega (arith, few)))
 
 fewer : (rs : List Gated) → length rs ≤ length (records_of rs)
 fewer [] = omega arith
-fewer (r ∷ rs) =
-    omega (
-      arith,
-      fewer rs,
-      length-append (to_be_bytes w32 (length r.1)) (r.1 ++ records_of rs),
-      length-append r.1 (records_of rs),
-    )
+fewer (r ∷ rs) = omega (arith, fewer rs, length-append (record_of r.form r.body) (records_of rs))
 
 -- it was made so
 made_alike : (made : DriveMake) (d : DriveState) → IsMadeOf made d → made_core made ≡ emptied d

@@ -1,8 +1,12 @@
 -- What has the objects of a drive: memory alone, a store, or the disk that a crash left.
-use Rattle.std.specs.Prelude.{◌≡◌, ◌⊎◌, ℕ, zero, suc, ◌+◌, List, [], ◌∷◌, length, take, drop, Bool, true, false, nat_eq, if◌then◌else◌, Option, Some, None}
+use Rattle.std.specs.Prelude.{◌≡◌, ◌⊎◌, ℕ, zero, suc, ◌-◌, List, [], ◌∷◌, length, take, drop, Bool, true, false, nat_eq, nat_le, if◌then◌else◌, Option, Some, None}
 use Rattle.std.specs.Int.{w32, from_be_bytes}
 use Rattle.osd_disk.specs.Medium.{Medium, bytes_of, may_hold}
+use Rattle.gate_log.specs.declared.entry.TheConstants.{MAX_BODY}
+use Rattle.gate_log.specs.declared.form.Form.{Form}
+use Rattle.gate_log.specs.declared.form.Form.TheVariants.{Plain, Checked}
 use Rattle.gate_log.specs.declared.header.TheConstants.{HEADER_SIZE}
+use Rattle.gate_log.specs.Forms.{head_size, size_of}
 use Rattle.osd_objects.specs.Store.{empty_store}
 use Rattle.osd_drive.specs.State.{DriveState, new_drive}
 use Rattle.drive_store.specs.declared.store.StoredDrive.{StoredDrive}
@@ -16,16 +20,31 @@ use Rattle.world_parties.specs.declared.backing.Backing.TheVariants.{Volatile, S
 
 -- ---- the drive that contents stand for
 
--- the length that stands behind a gate
-abbrev length_in : List ℕ → ℕ
-length_in c = from_be_bytes w32 (take 4 c)
+-- the number with which the bytes begin
+abbrev pub number_in : List ℕ → ℕ
+number_in c = from_be_bytes w32 (take 4 c)
+
+-- the form of the record with which they begin: no body is as long as the complement of a length says
+abbrev pub form_in : List ℕ → Form
+form_in c = if nat_le (number_in c) MAX_BODY then Plain else Checked
+
+-- how long its body is
+abbrev pub length_in : Form → List ℕ → ℕ
+length_in form c = number_in (drop (head_size form - 4) c)
+
+-- the body, and what stands behind the record
+abbrev pub body_in : Form → List ℕ → List ℕ
+body_in form c = take (length_in form c) (drop (head_size form) c)
+
+abbrev pub behind_in : Form → List ℕ → List ℕ
+behind_in form c = drop (size_of form (length_in form c)) c
 
 -- the bodies behind open gates, up to the first closed one, and so many at most
 abbrev pub bodies_in : (most : ℕ) → List ℕ → List (List ℕ)
 bodies_in zero c = []
 bodies_in (suc most) [] = []
 bodies_in (suc most) (gate ∷ c) =
-    if nat_eq gate 0 then [] else take (length_in c) (drop 4 c) ∷ bodies_in most (drop (4 + length_in c) c)
+    if nat_eq gate 0 then [] else body_in (form_in c) c ∷ bodies_in most (behind_in (form_in c) c)
 
 abbrev pub drive_or : DriveState → Option DriveState → DriveState
 drive_or d None = d

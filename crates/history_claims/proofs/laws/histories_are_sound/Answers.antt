@@ -26,6 +26,7 @@ returns c =
     c.recalls_are_caused.ensures c.replies_carry_bytes.ensures
     c.notes_have_causes.ensures c.stages_have_ends.ensures c.refusals_are_told.ensures c.reaches_have_causes.ensures
     c.ended_have_causes.ensures
-    c.founds_have_causes.ensures c.heard_have_causes.ensures
+    c.founds_have_causes.ensures c.heard_have_causes.ensures c.formats_have_causes.ensures
+    c.jobs_wait.ensures
     c.repairs_leave_counted_short.ensures
     c.within_the_limit_are_few.ensures

@@ -18,6 +18,7 @@ returns-in-Ok g c = λ left reads.
 
 pub returns : goal.returns
 returns g c = λ left reads. rw c.stopped.ensures.status
-    (not_made c.none_is_refused.ensures c.args.seed c.args.calls (ends left reads (g.K.Sink.taken c.args.sink.now) (g.K.Sink.faults c.args.sink.now))
+    (not_made c.none_is_refused.ensures c.scenario_goes_well.ensures.full c.args.seed c.args.calls c.requires.few
+    (ends left reads (g.K.Sink.taken c.args.sink.now) (g.K.Sink.faults c.args.sink.now))
     (ends left reads (g.K.Sink.taken c.stopped.new.sink) (g.K.Sink.faults c.stopped.new.sink))
     c.in-Err.stop c.stopped.ensures.puts.0 c.in-Err.ensures.err c.stopped.ensures.puts.1)

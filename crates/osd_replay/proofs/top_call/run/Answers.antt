@@ -8,6 +8,7 @@ use Rattle.osd_replay.specs.Errors.{words_error}
 use Rattle.osd_replay.specs.Generate.{Promises as GeneratePromises}
 use Rattle.osd_replay.specs.declared.command.Command.TheVariants.{Replay, Generate}
 use Rattle.osd_replay.specs.declared.status.Status.{Status}
+use Rattle.osd_replay.proofs.Asked.{asks_few}
 use Rattle.osd_replay.proofs.SoFar.{appends_none}
 use Rattle.osd_replay.proofs.Promised.{tells}
 use Rattle.osd_replay.proofs.top_call.run.Goals as goal
@@ -32,6 +33,12 @@ returns-in-Some-Generate-clause-promise g c =
       record { left = refl; reads = refl },
       c.generate.ensures (g.S.Source.left c.args.source.now) (g.S.Source.faults c.args.source.now),
     )
+
+pub generate-requires-clause-few : goal.generate-requires-clause-few
+generate-requires-clause-few g c =
+    let is : command_of (map string_bytes c.args.words.now) ≡ Some (Generate c.in-Some-Generate.seed c.in-Some-Generate.calls) =
+    search rules in
+    asks_few c.in-Some-Generate.seed c.in-Some-Generate.calls (map string_bytes c.args.words.now) is
 
 pub returns-in-Some-Generate-clause-words : goal.returns-in-Some-Generate-clause-words
 returns-in-Some-Generate-clause-words g c =

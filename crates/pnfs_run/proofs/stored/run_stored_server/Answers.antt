@@ -11,8 +11,17 @@ use Rattle.pnfs_run.proofs.stored.run_stored_server.Goals as goal
 
 pub returns-in-Ok-stored_server_command-clause-promise :
     goal.returns-in-Ok-stored_server_command-clause-promise
-returns-in-Ok-stored_server_command-clause-promise g c =
-    (c.in-Ok.asked, c.in-Ok.ensures.asks, inl (refl, c.in-Ok-stored_server_command.ensures.serves))
+returns-in-Ok-stored_server_command-clause-promise g c = (
+  c.in-Ok.asked,
+  c.in-Ok.ensures.asks,
+  (
+    c.stored_server_command.ensures.addresses,
+    inl (
+      refl,
+      c.in-Ok-stored_server_command.ensures.serves,
+    ),
+  ),
+)
 
 pub returns-in-Ok-stored_server_command-clause-words :
     goal.returns-in-Ok-stored_server_command-clause-words
@@ -27,8 +36,14 @@ returns-clause-promise g c =
     (ends_at g.S.Source g.K.Sink g.L.Links g.C.Clock c.args.source.now c.args.sink.now c.args.links.now c.args.clock.now)
     (ends_at g.S.Source g.K.Sink g.L.Links g.C.Clock c.stored_server_command.new.source c.stored_server_command.new.sink
     c.stored_server_command.new.links c.stored_server_command.new.clock)
-    c.in-Ok.asked c.in-Err-stored_server_command.refusal.0 c.from.result c.from.ensures c.in-Ok.ensures.asks
-    (inr (c.in-Err-stored_server_command.refusal.0, refl, c.in-Err-stored_server_command.ensures.stops))
+    c.in-Ok.asked c.in-Err-stored_server_command.refusal.0 c.from.result c.from.ensures c.in-Ok.ensures.asks (
+      c.stored_server_command.ensures.addresses,
+      inr (
+        c.in-Err-stored_server_command.refusal.0,
+        refl,
+        c.in-Err-stored_server_command.ensures.stops,
+      ),
+    )
 
 pub returns-in-Err-clause-input : goal.returns-in-Err-clause-input
 returns-in-Err-clause-input g c = takes-none MAX_READ (g.S.Source.left c.args.source.now)

@@ -12,4 +12,5 @@ returns-clause-stops g c =
     (g.K.Sink.taken c.serve_in.new.sink) (g.K.Sink.faults c.serve_in.new.sink))
     (ends_of (g.L.Links.told c.args.links.now) (g.L.Links.faults c.args.links.now) (g.C.Clock.times c.args.clock.now))
     (ends_of (g.L.Links.told c.serve_in.new.links) (g.L.Links.faults c.serve_in.new.links) (g.C.Clock.times c.serve_in.new.clock))
-    c.in-Err-serve_in.stop c.in-Ok.cluster c.in-Ok.ensures.cluster c.in-Err-serve_in.ensures.stops
+    (g.L.Links.standing c.serve_in.new.links) c.in-Err-serve_in.stop c.in-Ok.cluster c.in-Ok.ensures.cluster
+    c.in-Err-serve_in.ensures.stops

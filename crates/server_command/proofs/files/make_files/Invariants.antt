@@ -1,15 +1,16 @@
 use Rattle.std.proofs.Common.{[], true, take}
+use Rattle.cluster_text.specs.Peers.{KeepsAddresses}
 use Rattle.osd_bytes.specs.Asking.{ends_of}
-use Rattle.server_command.specs.GoesOn.{Went}
+use Rattle.server_command.specs.GoesOn.{Does}
 use Rattle.server_command.specs.Messages.{InTurn, serving}
 use Rattle.server_command.specs.Files.{MakesFile}
 use Rattle.server_command.proofs.files.make_files.Given as goal
 
 abbrev pub invariant-loop-i : goal.invariant-loop-i
 invariant-loop-i g l =
-    InTurn MakesFile (take l.i l.files)
-    (serving (g.H.MetadataServer.server l.initial.server) [] true
+    Does g.H.MetadataServer l.initial.server l.server (λ had has. InTurn MakesFile (take l.i l.files)
+    (serving (g.H.MetadataServer.server l.initial.server) [] true had
     (ends_of (g.L.Links.told l.initial.links) (g.L.Links.faults l.initial.links) (g.C.Clock.times l.initial.clock)))
-    (serving (g.H.MetadataServer.server l.server) [] true
-    (ends_of (g.L.Links.told l.links) (g.L.Links.faults l.links) (g.C.Clock.times l.clock)))
-    × Went g.H.MetadataServer l.initial.server l.server
+    (serving (g.H.MetadataServer.server l.server) [] true has
+    (ends_of (g.L.Links.told l.links) (g.L.Links.faults l.links) (g.C.Clock.times l.clock))))
+    × KeepsAddresses (g.L.Links.standing l.initial.links) (g.L.Links.standing l.links)

@@ -8,7 +8,8 @@ pub returns-in-Err-clause-stops : goal.returns-in-Err-clause-stops
 returns-in-Err-clause-stops g c = record {
   told = streams (g.S.Source.left c.serve_stored_cluster.new.source) (g.S.Source.faults c.serve_stored_cluster.new.source)
       (g.K.Sink.taken c.serve_stored_cluster.new.sink) (g.K.Sink.faults c.serve_stored_cluster.new.sink);
-  stops = told_as g.D.Disk c.args.connections c.args.disk c.in-Err.refusal.1
+  stops = told_as g.D.Disk c.args.connections (g.L.Links.standing c.serve_stored_cluster.new.links) c.args.disk
+      c.in-Err.refusal.1
       (streams (g.S.Source.left c.args.source.now) (g.S.Source.faults c.args.source.now) (g.K.Sink.taken c.args.sink.now)
       (g.K.Sink.faults c.args.sink.now))
       (streams (g.S.Source.left c.serve_stored_cluster.new.source) (g.S.Source.faults c.serve_stored_cluster.new.source)

@@ -1,4 +1,6 @@
-use Rattle.std.proofs.Common.{rules, ℕ, ◌+◌, List, length, sym, ◌∙◌, ap}
+use Rattle.std.proofs.Common.{rules, ℕ, ◌+◌, List, length, refl, sym, ◌∙◌, ap}
+use Rattle.gate_log.specs.Forms.{size_of}
+use Rattle.gate_log.proofs.OneLog.{length_record}
 use Rattle.gate_log.proofs.Reading.{steps_on, refused_there}
 use Rattle.gate_log.proofs.reader.LogReader.next.Goals as goal
 
@@ -9,10 +11,11 @@ returns-clause-body g c header bodies h =
     let found = c.in-Ok.ensures.bytes h.stands.told in
     record {
       stands = steps_on g.D.Disk.tells g.D.Disk.seen g.D.Disk.may_leave g.D.Disk.moment g.D.Disk.left_since header bodies
-          self.disk c.read_record.new.disk self.at self.gate h.stands
-          c.in-Ok.ensures.disk kept.body found.0 kept.next_gate _
-          (record { open_gate = search rules; some = c.in-Ok.ensures.size.0; fits = c.in-Ok.ensures.size.1 }) found.1
-          (ap (λ (n : ℕ). self.at + (5 + n)) c.len.ensures);
+          self.disk c.read_record.new.disk self.at self.gate h.stands c.in-Ok.ensures.disk
+          (record { gate = self.gate; form = kept.form; body = kept.body }) found.0 kept.next_gate _ refl
+          (record { open_gate = search rules; is_body = c.in-Ok.ensures.size }) found.1
+          (ap (λ (n : ℕ). self.at + (1 + n))
+          (c.record_size.ensures ∙ ap (size_of kept.form) c.len.ensures ∙ sym (length_record kept.form kept.body)));
       sized = h.sized ∙ ap (λ (l : List ℕ). length l) (sym c.in-Ok.ensures.disk.seen_same);
     }
 

@@ -14,7 +14,8 @@ returns-in-Err-clause-err g c =
 
 pub returns-clause-ok : goal.returns-clause-ok
 returns-clause-ok g c =
-    comes_to c.histories_are_sound.ensures c.args.seed c.args.calls c.in_ok-events.events.items c.carry_out_all.new.self
+    comes_to c.histories_are_sound.ensures c.summary_is_plain.ensures c.scenario_goes_well.ensures.well c.args.seed
+    c.args.calls c.requires.few c.in_ok-events.events.items c.carry_out_all.new.self
     c.in_ok-text.text c.in_ok-events.ensures
     (c.in-Ok.ensures.ok c.requires.begins (subst (λ (es : List Event). EventsFit es) (sym c.in_ok-events.ensures)
     (scenario_fits c.args.seed c.args.calls)))

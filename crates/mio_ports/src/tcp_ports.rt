@@ -1,0 +1,330 @@
+ghost use Rattle.std.specs.Prelude.{◌≡◌, ◌≤◌, ℕ, List};
+ghost use Rattle.osd_bytes.specs.Causes.{Rose};
+
+use crate::limits::PortLimits;
+use crate::poller::Poller;
+use crate::table::{LISTENER, Table};
+use mio::Token;
+use mio::net::{TcpListener, TcpStream};
+use osd_bytes::Fault;
+use osd_links::Cause;
+use port_loop::{Arrival, Ports};
+use std::alloc::Global;
+use std::io::{self, ErrorKind};
+use std::marker::Model;
+use std::net::{Net, SocketAddr, ToSocketAddrs};
+use std::str;
+use std::time::{Clock, Duration};
+
+// How long `next` waits at most, and how often it looks for peers that are late.
+const WAIT_MILLIS: u64 = 1_000;
+
+// How many connections that their peers gave up are passed over at once.
+const MOST_GIVEN_UP: u32 = 16;
+
+/// Connections over TCP that were accepted, as far as [`PortLimits`] allow.
+///
+/// They have their turns one after the other: a connection brings one piece, then each other that has something. A full one
+/// isn't read until there is room on it again. A peer that is silent too long, or takes too long over a record or a reply, is
+/// hung up on; the time of a record begins with the connection, or with its first byte after a reply. If the
+/// table is full and one more comes, the connection that was silent longest goes.
+///
+/// The bytes are the system's: no contract says that they are those of the socket, or that something comes at all.
+#[derive(Drop)]
+pub struct TcpPorts<R: Net + Clock> {
+    runtime: R,
+    alloc: Global,
+    table: Table,
+    poller: Option<Poller>,
+    listener: Option<TcpListener>,
+    // A connection that was accepted when the table was full.
+    newcomer: Option<TcpStream>,
+    // The time of a clock that doesn't go back, as it was read last.
+    now: Duration,
+    // When no peer was late.
+    looked: Duration,
+    opened: u64,
+    faults: u64,
+}
+
+impl<R: Net + Clock> Model for TcpPorts<R> {
+    ghost use Rattle.mio_ports.specs.Counted.{Counted};
+
+    ghost Value = { Counted };
+
+    ghost view = { λ p. record { opened = p.opened; faults = p.faults } };
+}
+
+// Whether a call of accept tells of the connection that it was to give alone, and not of the listener.
+fn is_given_up(kind: ErrorKind) -> bool {
+    matches!(
+        kind,
+        ErrorKind::ConnectionAborted | ErrorKind::ConnectionReset | ErrorKind::Interrupted
+    )
+}
+
+// The next connection, or why there is none. Those that their peers gave up are passed over.
+fn next_stream(listener: &TcpListener) -> io::Result<TcpStream> {
+    for _ in 0..MOST_GIVEN_UP {
+        match listener.accept() {
+            Ok((stream, _)) => return Ok(stream),
+            Err(e) if is_given_up(e.kind()) => {}
+            Err(e) => return Err(e),
+        }
+    }
+    Err(io::Error::from(ErrorKind::Interrupted))
+}
+
+impl<R: Net + Clock + Drop> TcpPorts<R> {
+    ghost use Rattle.mio_ports.specs.Counted.{Arrived, nothing_counted};
+
+    /// No connections, which nobody listens for yet, by a handle of the runtime.
+    pub fn new(runtime: R, alloc: Global, limits: PortLimits) -> Self
+        ensures { result ≡ nothing_counted }
+    {
+        TcpPorts {
+            runtime,
+            alloc,
+            table: Table::new(alloc, limits),
+            poller: None,
+            listener: None,
+            newcomer: None,
+            now: Duration::ZERO,
+            looked: Duration::ZERO,
+            opened: 0,
+            faults: 0,
+        }
+    }
+
+    /// Listens at an address, a host and a port as in `127.0.0.1:7000`, in place of the one before.
+    ///
+    /// # Errors
+    ///
+    /// A [`Cause`] if the address isn't one, or the system doesn't let it listen there. It listens where it did, then.
+    pub fn listen(&mut self, address: &[u8]) -> Result<(), Cause>
+        ensures { self.new ≡ self.old }
+    {
+        let mut listener = self.listener_at(address)?;
+        match self.watch(&mut listener) {
+            Ok(()) => self.listener = Some(listener),
+            Err(e) => return Err(Cause::of(e)),
+        }
+        self.table.queue_listener();
+        Ok(())
+    }
+
+    /// The address at which it listens.
+    pub fn local_addr(&self) -> Option<SocketAddr> {
+        self.listener.as_ref()?.local_addr().ok()
+    }
+
+    // A listener at the address.
+    fn listener_at(&self, address: &[u8]) -> Result<TcpListener, Cause> {
+        let Ok(address) = str::from_utf8(address) else {
+            return Err(Cause::Malformed);
+        };
+        let places = match address.to_socket_addrs(&self.runtime) {
+            Ok(places) => places,
+            Err(e) => return Err(Cause::of_address(e)),
+        };
+        let mut cause = Cause::NoHost;
+        for place in places {
+            match TcpListener::bind(&self.runtime, place) {
+                Ok(listener) => return Ok(listener),
+                Err(e) => cause = Cause::of(e),
+            }
+        }
+        Err(cause)
+    }
+
+    // Has the waits tell of the listener.
+    fn watch(&mut self, listener: &mut TcpListener) -> io::Result<()>
+        ensures { self.new ≡ self.old }
+    {
+        if self.poller.is_none() {
+            self.poller = Some(Poller::new(&self.runtime, self.alloc)?);
+        }
+        match &self.poller {
+            Some(poller) => poller.add(listener, LISTENER),
+            None => Ok(()),
+        }
+    }
+
+    fn fault(&mut self) -> Fault
+        ensures opened { self.new.opened ≡ self.old.opened }
+        ensures rose { Rose self.old.faults self.new.faults }
+        ensures later { self.old.faults ≤ self.new.faults }
+    {
+        self.faults = self.faults.saturating_add(1);
+        Fault
+    }
+
+    // Reads the clock. One that can't be read stands still.
+    fn tick(&mut self)
+        ensures { self.new ≡ self.old }
+    {
+        if let Ok(now) = self.runtime.monotonic() {
+            self.now = now;
+        }
+    }
+
+    // A connection that waits to be taken.
+    fn arriving(&mut self) -> Option<TcpStream>
+        ensures { self.new ≡ self.old }
+    {
+        if let Some(stream) = self.newcomer.take() {
+            self.table.queue_listener_first();
+            return Some(stream);
+        }
+        match next_stream(self.listener.as_ref()?) {
+            Ok(stream) => {
+                self.table.queue_listener_first();
+                Some(stream)
+            }
+            Err(e) => {
+                if is_given_up(e.kind()) {
+                    self.table.queue_listener();
+                }
+                None
+            }
+        }
+    }
+
+    // Keeps a stream under the next number. Where that fails the stream is dropped.
+    fn keep(&mut self, mut stream: TcpStream) -> bool
+        ensures { self.new ≡ self.old }
+    {
+        let port = self.opened;
+        let _ = stream.set_nodelay(true);
+        let is_watched = match &self.poller {
+            Some(poller) => poller.add(&mut stream, Token(port as usize)).is_ok(),
+            None => false,
+        };
+        is_watched && self.table.keep(port, stream, self.now)
+    }
+
+    // What comes of the listener's turn: a new connection, or the end of one that makes room for it.
+    fn admit(&mut self) -> Option<Arrival>
+        ensures { (buf : List ℕ) → Arrived self.old self.new result buf }
+    {
+        let stream = self.arriving()?;
+        if self.table.is_full() {
+            let port = self.table.longest_silent()?;
+            self.newcomer = Some(stream);
+            self.table.queue_listener_first();
+            self.table.remove(port);
+            return Some(Arrival::Closes { port });
+        }
+        if self.opened == u64::MAX || !self.keep(stream) {
+            return None;
+        }
+        let port = self.opened;
+        self.opened += 1;
+        Some(Arrival::Opens { port })
+    }
+
+    // What comes of the next turn.
+    fn turn(&mut self, buf: &mut [u8]) -> Option<Arrival>
+        ensures { Arrived self.old self.new result buf.new }
+    {
+        let token = self.table.next_turn()?;
+        if token == LISTENER {
+            return self.admit();
+        }
+        let port = token.0 as u64;
+        if port >= self.opened {
+            return None;
+        }
+        self.table.turn(port, buf, self.now)
+    }
+
+    // What comes of the turns that are left in this round.
+    fn round(&mut self, buf: &mut [u8]) -> Option<Arrival>
+        ensures { Arrived self.old self.new result buf.new }
+    {
+        for _ in 0..self.table.left() {
+            if let Some(arrival) = self.turn(buf) {
+                return Some(arrival);
+            }
+        }
+        None
+    }
+
+    // Asks what is ready, and waits for that if nobody waits for a turn.
+    fn wait(&mut self) -> Result<(), Fault>
+        ensures { self.new ≡ self.old }
+    {
+        let millis = if self.table.is_calm() { WAIT_MILLIS } else { 0 };
+        let Some(poller) = &mut self.poller else {
+            return Err(Fault);
+        };
+        if poller.wait(Duration::from_millis(millis)).is_err() {
+            return Err(Fault);
+        }
+        self.table.note(poller);
+        self.table.begin_round();
+        self.tick();
+        Ok(())
+    }
+
+    // A connection whose peer is late, by what the last wait told. If there is none, the listener has a turn: connections may
+    // wait that the system had no descriptors for.
+    fn late(&mut self) -> Option<u64>
+        ensures { self.new ≡ self.old }
+    {
+        if self.now.saturating_sub(self.looked) < Duration::from_millis(WAIT_MILLIS) {
+            return None;
+        }
+        match &self.poller {
+            Some(poller) if !poller.may_have_more() => {}
+            _ => return None,
+        }
+        let late = self.table.late(self.now);
+        if late.is_none() {
+            self.looked = self.now;
+            self.table.queue_listener();
+        }
+        late
+    }
+}
+
+impl<R: Net + Clock + Drop> Ports for TcpPorts<R> {
+    ghost use Rattle.std.specs.Prelude.{None};
+
+    ghost opened = { λ p. p.opened };
+
+    ghost faults = { λ p. p.faults };
+
+    ghost told = { λ _. None };
+
+    // Where it doesn't listen it fails.
+    fn next(&mut self, buf: &mut [u8]) -> Result<Arrival, Fault> {
+        self.tick();
+        if let Some(arrival) = self.round(buf) {
+            return Ok(arrival);
+        }
+        if self.wait().is_err() {
+            return Err(self.fault());
+        }
+        if let Some(port) = self.late() {
+            self.table.remove(port);
+            return Ok(Arrival::Closes { port });
+        }
+        match self.round(buf) {
+            Some(arrival) => Ok(arrival),
+            None => Ok(Arrival::Quiet),
+        }
+    }
+
+    fn put(&mut self, port: u64, bytes: &[u8]) -> Result<usize, Fault> {
+        self.tick();
+        match self.table.put(port, bytes, self.now) {
+            Ok(count) => Ok(count),
+            Err(_) => Err(self.fault()),
+        }
+    }
+
+    fn close(&mut self, port: u64) {
+        self.table.remove(port);
+    }
+}
