@@ -169,22 +169,26 @@ fn a_log_cut_short_is_refused_at_its_place(rt: HostRuntime) {
     }
 }
 
-// A log's bytes with one bit of them turned.
-fn turned(alloc: Global, at: usize, bit: u32) -> Bytes {
-    let mut changed = copied(alloc, WHOLE);
-    if at < changed.len() && bit < 8 {
-        *changed.get_mut(at) = WHOLE[at] ^ (1u8 << bit);
+// How a log of these bytes is opened if one bit of this byte turned.
+fn opened_turned(alloc: Global, log: &[u8], at: usize, bit: u32) -> OpenedLog {
+    let mut bytes = copied(alloc, log);
+    if at < bytes.len() && bit < 8 {
+        let byte = *bytes.get(at);
+        *bytes.get_mut(at) = byte ^ (1u8 << bit);
     }
-    changed
+    opened_bytes(alloc, bytes, &[])
 }
 
 // How the log is opened if a bit of this byte turned. The header isn't the log's to judge, and a gate stays open.
 fn opened_where_turned(at: usize) -> OpenedLog {
-    match at {
-        0..24 | FIRST_GATE | SECOND_GATE => OpenedLog::Records(2),
-        LAST_GATE => OpenedLog::Refused(58),
-        _ if at < SECOND_GATE => OpenedLog::Refused(24),
-        _ => OpenedLog::Refused(40),
+    if at <= FIRST_GATE || at == SECOND_GATE {
+        OpenedLog::Records(2)
+    } else if at == LAST_GATE {
+        OpenedLog::Refused(58)
+    } else if at < SECOND_GATE {
+        OpenedLog::Refused(24)
+    } else {
+        OpenedLog::Refused(40)
     }
 }
 
@@ -193,9 +197,7 @@ fn a_turned_bit_shows_where_it_says(rt: HostRuntime) {
     let alloc = rt.alloc();
     for at in 0..WHOLE.len() {
         for bit in 0..8u32 {
-            assert!(rt;
-                opened_bytes(alloc, turned(alloc, at, bit), &[]) == opened_where_turned(at)
-            );
+            assert!(rt; opened_turned(alloc, WHOLE, at, bit) == opened_where_turned(at));
         }
     }
 }
@@ -207,25 +209,17 @@ const RECORDS: u32 = 14;
 
 const RECORD: usize = 313;
 
+const LONG_BODY: &[u8] = &[5; 300];
+
 // The bytes of a log whose records have bodies of 300 bytes.
 fn long_log(alloc: Global) -> Bytes {
     let Ok(mut log) = GateLog::create(MemDisk::new(alloc, numbers(alloc, &[])), HEADER) else {
         return Bytes::new(alloc);
     };
     for _ in 0..RECORDS {
-        add_all(alloc, &mut log, &[&[5; 300]]);
+        add_all(alloc, &mut log, &[LONG_BODY]);
     }
     copied(alloc, log.into_disk().bytes())
-}
-
-// How that log is opened if one bit of this byte turned.
-fn opened_turned(alloc: Global, log: &Bytes, at: usize, bit: u32) -> OpenedLog {
-    let mut bytes = copied(alloc, log.as_slice());
-    if at < bytes.len() && bit < 8 {
-        let byte = *bytes.get(at);
-        *bytes.get_mut(at) = byte ^ (1u8 << bit);
-    }
-    opened_bytes(alloc, bytes, &[])
 }
 
 #[test]
@@ -240,7 +234,7 @@ fn each_bit_that_turns_in_a_long_log_shows(rt: HostRuntime) {
             OpenedLog::Refused(gate as u64)
         };
         for bit in 0..8u32 {
-            assert!(rt; opened_turned(alloc, &log, at, bit) == how);
+            assert!(rt; opened_turned(alloc, log.as_slice(), at, bit) == how);
         }
     }
 }

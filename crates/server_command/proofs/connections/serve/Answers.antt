@@ -62,7 +62,7 @@ returns-in-Err-serve_connection-clause-ends g c =
       x.0,
       x.1,
       cut_all c.args.connections c.loop-served.served _ (g.H.MetadataServer.server c.loop-served.server) had first.0 _ _
-      accepted _
+          accepted _
           x.0 x.1 (search rules) first.1
           (record { told = c.in-Ok.ensures.told; faults = search rules; times = refl }) x.2,
       cuts_as g.H.MetadataServer _ _ had x.0 x.1 c.args.server.now c.serve_connection.new.server (serve_fault e)

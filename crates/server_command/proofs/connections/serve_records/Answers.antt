@@ -30,7 +30,7 @@ loop-i-preserved g c = (
         rw (take_more c.args.records.now c.loop-i.i c.as_slice.result.now (search rules))
             (turn_more ServesRecord _ c.as_slice.result.now _ _ _ first.1 more.1),
         from_then g.H.MetadataServer had first.0 more.0 c.args.server.now c.loop-i.server c.serve_record.new.server first.2
-        more.2,
+            more.2,
       ),
   search rules,
 )

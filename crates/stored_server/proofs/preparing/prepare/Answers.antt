@@ -17,7 +17,7 @@ returns-in-Err-clause-stops g c = λ had.
       x.0,
       x.1,
       stopped_resuming (g.H.MetadataServer.knows c.args.server.now) c.args.cluster.now
-      (g.H.MetadataServer.server c.args.server.now) c.args.step had
+          (g.H.MetadataServer.server c.args.server.now) c.args.step had
           (ends_of (g.L.Links.told c.args.links.now) (g.L.Links.faults c.args.links.now) (g.C.Clock.times c.args.clock.now))
           _ _ c.in-Err.stop x.0 x.1 x.2,
       x.3,
@@ -31,7 +31,7 @@ returns-in-Err-set_format-clause-stops g c =
       first.0,
       raises,
       stopped_step (g.H.MetadataServer.knows c.args.server.now) c.args.cluster.now
-      (g.H.MetadataServer.server c.args.server.now) c.args.step had
+          (g.H.MetadataServer.server c.args.server.now) c.args.step had
           (ends_of (g.L.Links.told c.args.links.now) (g.L.Links.faults c.args.links.now) (g.C.Clock.times c.args.clock.now))
           _ (g.H.MetadataServer.server c.resume.new.server) first.0 [] first.0 raises _ c.in-Err-set_format.e first.1
           (sym (append-nil first.0)),
@@ -56,7 +56,7 @@ returns-in-Err-add_lacking-clause-stops g c = λ had.
       served,
       b.cut_off,
       stopped_adding (g.H.MetadataServer.knows c.args.server.now) c.args.cluster.now
-      (g.H.MetadataServer.server c.args.server.now) c.args.step had
+          (g.H.MetadataServer.server c.args.server.now) c.args.step had
           (ends_of (g.L.Links.told c.args.links.now) (g.L.Links.faults c.args.links.now) (g.C.Clock.times c.args.clock.now))
           (g.H.MetadataServer.server c.set_format.new.self) _ (g.H.MetadataServer.server c.resume.new.server) first.0
           (raises ++ b.done) served b.cut_off c.as_slice.result.now _ c.in-Err-add_lacking.stop
@@ -92,7 +92,7 @@ returns-in-Ok-make_lacking-clause-prepares g c = λ had.
     let x = c.in-Ok-make_lacking.ensures.makes known in (
       x.0,
       prepared (g.H.MetadataServer.knows c.args.server.now) c.args.cluster.now (g.H.MetadataServer.server c.args.server.now)
-      c.args.step had
+          c.args.step had
           (ends_of (g.L.Links.told c.args.links.now) (g.L.Links.faults c.args.links.now) (g.C.Clock.times c.args.clock.now))
           (g.H.MetadataServer.server c.add_lacking.new.server) _ known x.0 c.as_slice-2.result.now _ _ c.as_slice-2.ensures
           settles x.1,
@@ -125,7 +125,7 @@ returns-in-Err-make_lacking-clause-stops g c = λ had.
       x.0,
       x.1,
       stopped_making (g.H.MetadataServer.knows c.args.server.now) c.args.cluster.now
-      (g.H.MetadataServer.server c.args.server.now) c.args.step had
+          (g.H.MetadataServer.server c.args.server.now) c.args.step had
           (ends_of (g.L.Links.told c.args.links.now) (g.L.Links.faults c.args.links.now) (g.C.Clock.times c.args.clock.now))
           (g.H.MetadataServer.server c.add_lacking.new.server) _ known x.0 x.1 c.as_slice-2.result.now _ _
           c.in-Err-make_lacking.stop c.as_slice-2.ensures settles c.requires.sound.maps x.2,

@@ -98,7 +98,7 @@ returns-in-Ok-work_all-clause-resumes g c = λ had.
           (g.H.MetadataServer.server c.make_all.new.server) (g.H.MetadataServer.server c.work_all.new.server) first.0 more.0
           _ _ _ first.1 more.1,
       from_then g.H.MetadataServer had first.0 more.0 c.args.server.now c.make_all.new.server c.work_all.new.server first.2
-      more.2,
+          more.2,
     )
 
 pub returns-clause-stops : goal.returns-clause-stops
