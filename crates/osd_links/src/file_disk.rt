@@ -122,7 +122,8 @@ fn open_locked<R: Files<File = File>>(runtime: &R, name: &str) -> Result<File, F
     }
 }
 
-// Leaves a file that others may read or write to its owner alone: a store has what clients wrote, and a journal has the drives' keys.
+// Leaves a file that others may read or write to its owner alone: a store has what clients wrote, and a journal has the drives'
+// keys.
 fn keep_private(file: &File) -> Result<(), FileCause> {
     let permissions = file.metadata().map_err(FileCause::of)?.permissions();
     if permissions.mode() & OF_OTHERS == 0 {
