@@ -61,7 +61,14 @@ one_front header bodies others front other rest behind c f g one two =
     let parts = one_split header header _ _ refl (sym first ∙ second) in
     let rests = (one_list f.records g.records rest behind f.are_records g.are_records parts.1).1 in
     let long : length front ≡ length other =
-    omega (arith, ap length one, ap length two, ap length rests, length-append front (0 ∷ rest), length-append other (0 ∷ behind)) in
+    omega (
+      arith,
+      ap length one,
+      ap length two,
+      ap length rests,
+      length-append front (0 ∷ rest),
+      length-append other (0 ∷ behind),
+    ) in
     (one_split front other (0 ∷ rest) (0 ∷ behind) long (sym one ∙ two)).0
 
 -- ---- one record more

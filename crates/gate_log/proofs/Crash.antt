@@ -91,7 +91,8 @@ module _ (header : List ℕ) (bodies : List (List ℕ)) (front : List ℕ) (f : 
   written_gate body rest c holds =
       let tail = piece_of body ++ rest in
       holds
-      ∙ ap (λ (l : List ℕ). l ++ (OPEN_GATE ∷ []) ++ drop (end + 1) (front ++ 0 ∷ tail)) (take_at front (0 ∷ tail) end (sym place))
+      ∙ ap (λ (l : List ℕ). l ++ (OPEN_GATE ∷ []) ++ drop (end + 1) (front ++ 0 ∷ tail))
+      (take_at front (0 ∷ tail) end (sym place))
       ∙ append_assoc front (OPEN_GATE ∷ []) (drop (end + 1) (front ++ 0 ∷ tail))
       ∙ ap (λ (l : List ℕ). front ++ OPEN_GATE ∷ l)
       (ap (λ (l : List ℕ). drop (end + 1) l) (split tail) ∙ drop_at (front ++ 0 ∷ []) tail (end + 1) long)

@@ -1,18 +1,13 @@
 -- What is read behind a gate.
-use Rattle.std.proofs.Common.{◌≡◌, ◌⊎◌, inl, inr, ℕ, ◌+◌, ◌-◌, ◌<◌, ◌≤◌, ◌^◌, List, [], ◌∷◌, ◌++◌, length, take, drop, replicate, get_or, refl, sym, ◌∙◌, ap, subst, arith, append_assoc, length-append, take-append-drop}
+use Rattle.std.proofs.Common.{◌≡◌, ℕ, ◌+◌, ◌-◌, ◌<◌, ◌≤◌, List, [], ◌∷◌, ◌++◌, length, take, drop, replicate, get_or, sym, ◌∙◌, ap, subst, arith, append_assoc, length-append, take-append-drop}
 use Rattle.std.proofs.lemmas.List.{take_at, drop_at, drop_more, drop_all, length-replicate, take_all}
-use Rattle.std.proofs.lemmas.Nat.{from_be_bytes-to_be_bytes_4}
-use Rattle.std.proofs.Math.Seq.{take-add}
-use Rattle.std.specs.Int.{w32, to_be_bytes, from_be_bytes}
-use Rattle.std.specs.List.{refill}
 use Rattle.gate_log.specs.declared.entry.TheConstants.{MAX_BODY}
 use Rattle.gate_log.specs.declared.errors.LogErr.{LogErr}
 use Rattle.gate_log.specs.declared.errors.LogErr.TheVariants.{NotEmpty, NotALog, DiskFault, Memory}
 use Rattle.gate_log.specs.declared.form.Form.{Form}
-use Rattle.gate_log.specs.declared.form.Form.TheVariants.{Plain, Checked}
 use Rattle.gate_log.specs.Broken.{IsNoRecord}
 use Rattle.gate_log.specs.Errors.{NotALogSays}
-use Rattle.gate_log.specs.Forms.{IsBody, block_size, complement, head_of, head_size, record_of, size_of, tail_of}
+use Rattle.gate_log.specs.Forms.{IsBody, block_size, head_of, head_size, record_of, size_of, tail_of}
 use Rattle.gate_log.proofs.OneLog.{length_record, length_tail, same_head, three}
 
 -- behind the gate at a place stand the bytes that follow it
@@ -67,20 +62,6 @@ room_long empty room len none is =
       length-replicate {A = ℕ} (len - length empty) 0,
     )
 
--- what a whole list is after other members, as many, were put into it
-pub refilled : (old new : List ℕ) → length new ≡ length old → refill (length old) old new ≡ new
-refilled old new same = take_at new (drop (length new) old) (length old) same
-
--- a block that a read filled
-pub block_read : (whole buf bytes : List ℕ) (n k : ℕ) → whole ≡ buf → length buf ≡ k → k ≤ n → n ≤ length buf
-    → take n buf ≡ take n bytes → whole ≡ take k bytes
-block_read whole buf bytes n k same long all within front = same ∙ whole_read buf bytes n k long all within front
-
--- two numbers, one behind the other
-pub two_numbers : (a b rest : List ℕ) → a ≡ take 4 rest → b ≡ take 4 (drop 4 rest) → a ++ b ≡ take 8 rest
-two_numbers a b rest first second =
-    ap (λ (l : List ℕ). l ++ b) first ∙ ap (λ (l : List ℕ). take 4 rest ++ l) second ∙ sym (take-add 4 4 rest)
-
 -- what was read of a record, one part behind the other
 pub record_parts : (form : Form) (body rest block : List ℕ) (next len : ℕ) → length body ≡ len
     → head_of form len ≡ take (head_size form) rest
@@ -106,36 +87,10 @@ pub head_tells : (form other : Form) (body rest behind : List ℕ) (next len : �
     → head_of form len ≡ take (head_size form) rest → rest ≡ record_of other body ++ next ∷ behind
     → (form ≡ other) × (len ≡ length body) × (drop (head_size form) rest ≡ body ++ (tail_of other body ++ next ∷ behind))
 head_tells form other body rest behind next len is fits head e =
-    same_head form other len (length body) (drop (head_size form) rest) (body ++ (tail_of other body ++ next ∷ behind)) fits is.fits
+    same_head form other len (length body) (drop (head_size form) rest) (body ++ (tail_of other body ++ next ∷ behind)) fits
+    is.fits
     (ap (λ (l : List ℕ). l ++ drop (head_size form) rest) head ∙ take-append-drop (head_size form) rest ∙ e
     ∙ three other body (next ∷ behind))
-
--- the first number of a record
-abbrev pub first_of : Form → ℕ → ℕ
-first_of Plain len = len
-first_of Checked len = complement len
-
-first_low : (form : Form) (len : ℕ) → len ≤ MAX_BODY → first_of form len < 2 ^ 32
-first_low Plain len fits = omega (arith, fits)
-first_low Checked len fits = omega arith
-
-first_there : (form : Form) (body x : List ℕ) → take 4 (record_of form body ++ x) ≡ to_be_bytes w32 (first_of form (length body))
-first_there Plain body x = refl
-first_there Checked body x = refl
-
-second_there : (body x : List ℕ) → take 4 (drop 4 (record_of Checked body ++ x)) ≡ to_be_bytes w32 (length body)
-second_there body x = refl
-
-number_of : (m n : ℕ) → m < 2 ^ 32 → n < 2 ^ 32 → to_be_bytes w32 m ≡ to_be_bytes w32 n → m ≡ n
-number_of m n low below e =
-    sym (from_be_bytes-to_be_bytes_4 m low) ∙ ap (λ (l : List ℕ). from_be_bytes w32 l) e ∙ from_be_bytes-to_be_bytes_4 n below
-
--- the first number of what is a record there
-first_is : (form : Form) (body rest behind : List ℕ) (next first : ℕ) → IsBody body → first < 2 ^ 32
-    → to_be_bytes w32 first ≡ take 4 rest → rest ≡ record_of form body ++ next ∷ behind → first ≡ first_of form (length body)
-first_is form body rest behind next first is low there e =
-    number_of first (first_of form (length body)) low (first_low form (length body) is.fits)
-    (there ∙ ap (λ (l : List ℕ). take 4 l) e ∙ first_there form body (next ∷ behind))
 
 longer : (form : Form) (body rest behind : List ℕ) (next : ℕ) → rest ≡ record_of form body ++ next ∷ behind
     → size_of form (length body) + 1 ≤ length rest
@@ -148,50 +103,6 @@ says_more P Q more (NotEmpty n) says = says
 says_more P Q more (NotALog place) says = more place says
 says_more P Q more DiskFault says = says
 says_more P Q more Memory says = says
-
--- the bytes end before the first number does
-pub no_first : (rest : List ℕ) → length rest < 4 → IsNoRecord rest
-no_first rest short Plain body next behind is e = omega (arith, short, longer Plain body rest behind next e)
-no_first rest short Checked body next behind is e = omega (arith, short, longer Checked body rest behind next e)
-
-module _ (rest : List ℕ) (first : ℕ) (low : first < 2 ^ 32) (there : to_be_bytes w32 first ≡ take 4 rest) where
-  -- no body is empty
-  pub none_empty : first ≡ 0 → IsNoRecord rest
-  none_empty none Plain body next behind is e =
-      omega (arith, none, is.some, first_is Plain body rest behind next first is low there e)
-  none_empty none Checked body next behind is e =
-      omega (arith, none, is.fits, first_is Checked body rest behind next first is low there e)
-
-  module _ (great : MAX_BODY < first) where
-    -- the bytes end before the second number does
-    pub no_second : length rest < 8 → IsNoRecord rest
-    no_second short Plain body next behind is e =
-        omega (arith, great, is.fits, first_is Plain body rest behind next first is low there e)
-    no_second short Checked body next behind is e = omega (arith, short, longer Checked body rest behind next e)
-
-    module _ (len : ℕ) (below : len < 2 ^ 32) (second : to_be_bytes w32 len ≡ take 4 (drop 4 rest)) where
-      length_is : (body behind : List ℕ) (next : ℕ) → IsBody body → rest ≡ record_of Checked body ++ next ∷ behind
-          → len ≡ length body
-      length_is body behind next is e =
-          number_of len (length body) below (omega (arith, is.fits))
-          (second ∙ ap (λ (l : List ℕ). take 4 (drop 4 l)) e ∙ second_there body (next ∷ behind))
-
-      -- the numbers aren't complements
-      pub no_complement : (first ≡ complement len → ⊥) → IsNoRecord rest
-      no_complement other Plain body next behind is e =
-          omega (arith, great, is.fits, first_is Plain body rest behind next first is low there e)
-      no_complement other Checked body next behind is e =
-          other (first_is Checked body rest behind next first is low there e
-          ∙ ap complement (sym (length_is body behind next is e)))
-
-      -- no body has this length
-      pub no_length : (len ≡ 0) ⊎ (MAX_BODY < len) → IsNoRecord rest
-      no_length none Plain body next behind is e =
-          omega (arith, great, is.fits, first_is Plain body rest behind next first is low there e)
-      no_length (inl none) Checked body next behind is e =
-          omega (arith, none, is.some, length_is body behind next is e)
-      no_length (inr more) Checked body next behind is e =
-          omega (arith, more, is.fits, length_is body behind next is e)
 
 module _ (rest : List ℕ) (form : Form) (len : ℕ) (fits : len ≤ MAX_BODY) (head : head_of form len ≡ take (head_size form) rest)
   where
@@ -209,7 +120,8 @@ module _ (rest : List ℕ) (form : Form) (len : ℕ) (fits : len ≤ MAX_BODY) (
 
     -- what stands behind the head is no body with what belongs to it
     pub no_block : (block : List ℕ) → block ≡ take (block_size form len) (drop (head_size form) rest)
-        → ((body : List ℕ) (next : ℕ) → length body ≡ len → block ≡ body ++ (tail_of form body ++ next ∷ []) → ⊥) → IsNoRecord rest
+        → ((body : List ℕ) (next : ℕ) → length body ≡ len → block ≡ body ++ (tail_of form body ++ next ∷ []) → ⊥)
+        → IsNoRecord rest
     no_block block there none other body next behind is e =
         let tells = head_tells form other body rest behind next len is fits head e in
         let tail : drop (head_size form) rest ≡ body ++ (tail_of form body ++ next ∷ behind) =
@@ -227,7 +139,8 @@ module _ (rest : List ℕ) (form : Form) (len : ℕ) (fits : len ≤ MAX_BODY) (
           length-append (tail_of form body) (next ∷ []),
         ) in
         none body next (sym tells.1)
-        (there ∙ ap (λ (l : List ℕ). take (block_size form len) l) (tail ∙ joined) ∙ take_at block_is behind (block_size form len) long)
+        (there ∙ ap (λ (l : List ℕ). take (block_size form len) l) (tail ∙ joined)
+        ∙ take_at block_is behind (block_size form len) long)
 
 -- the same of a disk that was only read meanwhile
 pub taken_same : (form : Form) (len at : ℕ) (bytes seen block : List ℕ) → seen ≡ bytes

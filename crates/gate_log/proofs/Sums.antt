@@ -38,7 +38,9 @@ low_bit : (r : ℕ) → r < 2 ^ 32 → after_bit r < 2 ^ 32
 low_bit r low =
     elim (parity r) [
       | inl e ↦ omega (arith, low, even_bit r e)
-      | inr o ↦ subst (λ (n : ℕ). n < 2 ^ 32) (sym (odd_bit r o)) (xor_lt 32 (r / 2) POLYNOMIAL (omega (arith, low)) (omega arith))
+      | inr o ↦
+          subst (λ (n : ℕ). n < 2 ^ 32) (sym (odd_bit r o))
+          (xor_lt 32 (r / 2) POLYNOMIAL (omega (arith, low)) (omega arith))
     ]
 
 -- a register that took the polynomial is none that didn't

@@ -204,7 +204,8 @@ module _ (body other X Y behind : List ℕ) (byte new : ℕ) (is : IsBody body) 
           let long = (same_number (length body) (length other) _ _ short brief i.same).0 in
           absurd (differ (same_there V _ W _ before byte new i (ap (λ (n : ℕ). to_be_bytes w32 (complement n)) long)))
       by (inr o) =
-          let turned = (same_number (complement (length body)) (complement (length other)) o.more o.more (omega arith) (omega arith)
+          let turned = (same_number (complement (length body)) (complement (length other)) o.more o.more (omega arith)
+          (omega arith)
           (ap (λ (l : List ℕ). l ++ o.more) o.same)).0 in
           let long : length body ≡ length other = omega (arith, turned, is.fits, also.fits) in
           omega (arith, ap length o.before_is, length-append V o.more, four, second o.more long o.was o.now)
@@ -271,7 +272,8 @@ module _ (byte new : ℕ) (behind : List ℕ) (few : new < 256) (differ : new �
   split body bodies x = append_assoc (record_of Checked body) (appended bodies) x
 
   -- the records of the appended ones with one byte in another state
-  pub same_bodies : (bodies : List (List ℕ)) (ss : List Gated) (x y before : List ℕ) → AreBodies bodies → IsBytes (appended bodies)
+  pub same_bodies : (bodies : List (List ℕ)) (ss : List Gated) (x y before : List ℕ) → AreBodies bodies
+      → IsBytes (appended bodies)
       → AreRecords ss → length before < length (appended bodies) → appended bodies ++ 0 ∷ x ≡ before ++ byte ∷ behind
       → before ++ new ∷ behind ≡ records_of ss ++ 0 ∷ y → bodies_of ss ≡ bodies
   same_bodies [] ss x y before are bytes others inside was now = absurd (omega (arith, inside))
@@ -297,7 +299,8 @@ module _ (byte new : ℕ) (behind : List ℕ) (few : new < 256) (differ : new �
       (bytes_right (to_be_bytes w32 (complement (length body)) ++ to_be_bytes w32 (length body)) _
       (subst IsBytes (append_assoc (to_be_bytes w32 (complement (length body)) ++ to_be_bytes w32 (length body))
       (body ++ to_be_bytes w32 (crc_32 body)) (appended bodies)) after))) in
-      let far = behind_record body s.body (appended bodies ++ 0 ∷ x) (records_of ss ++ 0 ∷ y) behind byte new are.0 others.0.is_body
+      let far = behind_record body s.body (appended bodies ++ 0 ∷ x) (records_of ss ++ 0 ∷ y) behind byte new are.0
+      others.0.is_body
       body_bytes few differ before s.form e f in
       let more = past (record_of Checked body) (appended bodies ++ 0 ∷ x) before behind byte far e in
       let g = ap (λ (l : List ℕ). l ++ new ∷ behind) (sym more.1) ∙ f in
@@ -313,7 +316,8 @@ module _ (byte new : ℕ) (behind : List ℕ) (few : new < 256) (differ : new �
       ) in
       ap (λ (l : List ℕ). l ∷ bodies_of ss) (sym same.1)
       ∙ ap (λ (l : List (List ℕ)). body ∷ l)
-      (same_bodies bodies ss x y more.0 are.1 (bytes_right (record_of Checked body) (appended bodies) after) others.1 shorter more.2
+      (same_bodies bodies ss x y more.0 are.1 (bytes_right (record_of Checked body) (appended bodies) after) others.1 shorter
+      more.2
       same.2)
 
 -- ---- one bit
@@ -366,7 +370,8 @@ turned_bit_shows header bodies c d at a are low high t other others log =
     let few : new < 256 = xor_of_8 t.byte (2 ^ t.bit) (omega (arith, byte_is)) (omega (arith, (power t.bit t.is_bit).1)) in (
       sym parts.0,
       sym f.bodies_are
-          ∙ same_bodies t.byte new t.behind few (other_byte t.byte t.bit t.is_bit) (still_open t.byte t.bit t.is_bit) bodies f.records
+          ∙ same_bodies t.byte new t.behind few (other_byte t.byte t.bit t.is_bit) (still_open t.byte t.bit t.is_bit) bodies
+          f.records
           a.rest log.rest in_c.0 a.are_bodies bytes f.are_records
           (omega (arith, high, t.place, a.whole, ap length in_c.1, length-append header in_c.0)) in_c.2 parts.1,
     )
