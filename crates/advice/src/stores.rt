@@ -95,6 +95,6 @@ pub fn refused_store(
         return format!(in alloc; "pnfs_osd: the file {file} {fault}. It is left as it is\n");
     }
     format!(in alloc;
-        "pnfs_osd: the file {file}: the record at byte {at} was cut short or changed (docs/STORES.md). It is left as it is\n"
+        "pnfs_osd: the file {file}: the record at byte {at} was cut short or changed (docs/use/STORES.md). It is left as it is\n"
     )
 }

@@ -83,7 +83,7 @@ fn deal_call<L: Links>(
         core.new notices.new (L.told links.new) (L.faults links.new)) }
     ensures addresses { KeepsAddresses (L.standing links.old) (L.standing links.new) }
 {
-    // Here and below, arms in place of `?` or of the bare call are for the prover (docs/PROVER_FORMS.md).
+    // Here and below, arms in place of `?` or of the bare call are for the prover (docs/dev/PROVER_FORMS.md).
     let CStep { sends, outcome } = match begin(core, op) {
         Ok(step) => step,
         Err(stop) => return Err(stop),

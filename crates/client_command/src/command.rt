@@ -49,7 +49,7 @@ fn work_in<K: Sink, L: Links>(
         (links_at L.Links links.old) (links_at L.Links links.new) (L.standing links.new)
         (K.taken sink.old) (K.taken sink.new) (K.faults sink.old) (K.faults sink.new)) }
 {
-    // Here and below, arms in place of `?` or of the bare call are for the prover (docs/PROVER_FORMS.md).
+    // Here and below, arms in place of `?` or of the bare call are for the prover (docs/dev/PROVER_FORMS.md).
     match settle_at(alloc, links, cluster, &[]) {
         Ok(()) => {}
         Err(stop) => return Err(stop),

@@ -63,7 +63,7 @@ fn work<L: Links>(
             }
         }
         Node::Server => {
-            // Here and below, arms in place of `?` or of the bare call are for the prover (docs/PROVER_FORMS.md).
+            // Here and below, arms in place of `?` or of the bare call are for the prover (docs/dev/PROVER_FORMS.md).
             match exchange_with_server(alloc, core, links, message, waiting, notices) {
                 Ok(()) => Ok(()),
                 Err(e) => Err(e),

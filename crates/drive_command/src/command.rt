@@ -35,7 +35,7 @@ fn serve_in<K: Sink, L: Links, C: Clock>(
     let Some(key) = drive.key else {
         return Err(CommandStop::BadCluster(ClusterKind::Missing));
     };
-    // Here and below, arms in place of `?` or of the bare call are for the prover (docs/PROVER_FORMS.md).
+    // Here and below, arms in place of `?` or of the bare call are for the prover (docs/dev/PROVER_FORMS.md).
     match settle_at(alloc, links, cluster, drive.address.as_slice()) {
         Ok(()) => {}
         Err(stop) => return Err(stop),

@@ -150,7 +150,7 @@ pub fn serve<H: DeviceServer, L: Links, C: Clock>(
     let mut last = None;
     let mut served = 0;
     while served < connections {
-        // Arms in place of `?` are for the prover (docs/PROVER_FORMS.md).
+        // Arms in place of `?` are for the prover (docs/dev/PROVER_FORMS.md).
         match links.accept() {
             Ok(()) => {}
             Err(_) => return Err(DriveServeErr::LinkFault),

@@ -85,7 +85,7 @@ pub(crate) fn store_on<D: Disk>(
         Err(e) => return Err((StoredStop::from(e), disk)),
     };
     if size > 0 {
-        // Arms in place of the bare call are for the prover (docs/PROVER_FORMS.md).
+        // Arms in place of the bare call are for the prover (docs/dev/PROVER_FORMS.md).
         return match opened_store(alloc, disk, own.number, keys) {
             Ok(store) => Ok(store),
             Err(refusal) => Err(refusal),

@@ -58,7 +58,7 @@ pub(crate) fn serve_core<K: Sink, L: Links, C: Clock>(
         Ok(()) => {}
         Err(_) => return Err(CommandStop::WriteFault),
     }
-    // Here and below, arms in place of `?` or of the bare call are for the prover (docs/PROVER_FORMS.md).
+    // Here and below, arms in place of `?` or of the bare call are for the prover (docs/dev/PROVER_FORMS.md).
     match serve_all(alloc, core, connections, links, clock) {
         Ok(()) => {}
         Err(stop) => return Err(stop),

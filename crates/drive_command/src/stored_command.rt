@@ -85,7 +85,7 @@ fn serve_stored_in<K: Sink, L: Links, C: Clock, D: Disk>(
             disk,
         ));
     };
-    // Here and below, arms in place of `?` or of the bare call are for the prover (docs/PROVER_FORMS.md).
+    // Here and below, arms in place of `?` or of the bare call are for the prover (docs/dev/PROVER_FORMS.md).
     match settle_at(alloc, links, cluster, drive.address.as_slice()) {
         Ok(()) => {}
         Err(stop) => return Err((StoredStop::Command(stop), disk)),

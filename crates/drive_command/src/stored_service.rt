@@ -39,7 +39,7 @@ pub(crate) fn serve_told<H: DeviceServer, K: Sink, L: Links, C: Clock>(
         Ok(()) => {}
         Err(_) => return Err(StoredStop::Command(CommandStop::WriteFault)),
     }
-    // Here and below, arms in place of `?` or of the bare call are for the prover (docs/PROVER_FORMS.md).
+    // Here and below, arms in place of `?` or of the bare call are for the prover (docs/dev/PROVER_FORMS.md).
     match serve(alloc, server, links, clock, connections) {
         Ok(()) => {}
         Err(e) => return Err(stop_of_serving(e)),

@@ -142,7 +142,7 @@ pub fn check_len(format: u8) -> usize
     }
 }
 
-// The block before the capability, with each field at its place in the table of [`Command`], which `docs/DRIVE.md`
+// The block before the capability, with each field at its place in the table of [`Command`], which `docs/rules/DRIVE.md`
 // ("The bytes of commands and replies") has too.
 #[tactic(auto, unfolding(crate::specs::Commands::fields))]
 fn fields_of(c: &Command) -> [u8; FIELDS]

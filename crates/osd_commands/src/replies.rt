@@ -55,7 +55,7 @@ pub struct Reply {
     pub payload: Bytes,
 }
 
-// The block before the payload, with each field at its place in the table of [`Reply`], which `docs/DRIVE.md`
+// The block before the payload, with each field at its place in the table of [`Reply`], which `docs/rules/DRIVE.md`
 // ("The bytes of commands and replies") has too.
 #[tactic(auto, unfolding(crate::specs::Replies::fields))]
 fn fields_of(r: &Reply) -> [u8; BLOCK]

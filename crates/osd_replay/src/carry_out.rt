@@ -58,7 +58,7 @@ pub fn carry_out_event<P: Place>(
     ensures err { IfErr result (StopsEvent event world.old) }
 {
     let mut lines = Lines::new(alloc);
-    // Here and below, arms in place of `?` or of the bare call are for the prover (docs/PROVER_FORMS.md).
+    // Here and below, arms in place of `?` or of the bare call are for the prover (docs/dev/PROVER_FORMS.md).
     let is_full = match is_cut(world.step(event, placer, &mut lines)) {
         Ok(is_full) => is_full,
         Err(stop) => return Err(stop),

@@ -77,7 +77,7 @@ impl Digested {
         ensures ok { OnOk result (MakesMore event self.old self.new) }
         ensures err { IfErr result (StopsMaking event self.old) }
     {
-        // Here and below, arms in place of `?` or of the bare call are for the prover (docs/PROVER_FORMS.md).
+        // Here and below, arms in place of `?` or of the bare call are for the prover (docs/dev/PROVER_FORMS.md).
         let carried = match carry_out_event(alloc, &mut self.world, event, placer, room) {
             Ok(carried) => carried,
             Err(stop) => return Err(stop),

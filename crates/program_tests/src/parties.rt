@@ -333,7 +333,7 @@ const MAKERS: &[Case] = &[
         asked: &[EXISTS],
         sent: &[CREATE],
         notes: &[
-            "d0 holds object 65536 already: is this the right journal, and are these the right drives? (docs/OPERATIONS.md)",
+            "d0 holds object 65536 already: is this the right journal, and are these the right drives? (docs/use/OPERATIONS.md)",
         ],
         exit_code: 8,
         output: "error link\n",

@@ -14,7 +14,7 @@ silent_line drive = codes "d" ++ (decimal drive ++ codes " gave no answer while 
 abbrev pub held_line : (drive object : ℕ) → List ℕ
 held_line drive object =
     codes "d" ++ (decimal drive ++ (codes " holds object " ++ (decimal object
-    ++ codes " already: is this the right journal, and are these the right drives? (docs/OPERATIONS.md)")))
+    ++ codes " already: is this the right journal, and are these the right drives? (docs/use/OPERATIONS.md)")))
 
 abbrev pub refused_line : (drive object : ℕ) → List ℕ
 refused_line drive object =

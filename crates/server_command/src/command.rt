@@ -33,7 +33,7 @@ fn serve_in<K: Sink, L: Links, C: Clock, P: Place>(
         (L.standing links.new) (K.taken sink.old) (K.taken sink.new) (K.faults sink.old) (K.faults sink.new)) }
     ensures addresses { SettlesAs cluster.now (L.standing links.old) (L.standing links.new) }
 {
-    // Here and below, arms in place of `?` or of the bare call are for the prover (docs/PROVER_FORMS.md).
+    // Here and below, arms in place of `?` or of the bare call are for the prover (docs/dev/PROVER_FORMS.md).
     match settle_at(alloc, links, cluster, cluster.server.as_slice()) {
         Ok(()) => {}
         Err(stop) => return Err(stop),

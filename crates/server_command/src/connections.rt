@@ -178,7 +178,7 @@ pub fn serve<H: MetadataServer, L: Links, C: Clock, P: Place>(
 {
     let mut served = 0;
     while served < connections {
-        // Arms in place of `?` are for the prover (docs/PROVER_FORMS.md).
+        // Arms in place of `?` are for the prover (docs/dev/PROVER_FORMS.md).
         match links.accept() {
             Ok(()) => {}
             Err(_) => return Err(ServerServeErr::LinkFault),

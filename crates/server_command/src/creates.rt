@@ -195,7 +195,7 @@ fn make_round<H: MetadataServer, L: Links, C: Clock, P: Place>(
     ensures addresses { KeepsAddresses (L.standing links.old) (L.standing links.new) }
 {
     for i in 0..round.len() {
-        // Here and below, arms in place of `?` or of the bare call are for the prover (docs/PROVER_FORMS.md).
+        // Here and below, arms in place of `?` or of the bare call are for the prover (docs/dev/PROVER_FORMS.md).
         match make_one(alloc, server, links, clock, placer, round.get(i), waiting) {
             Ok(()) => {}
             Err(stop) => return Err(stop),

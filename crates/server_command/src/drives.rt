@@ -42,7 +42,7 @@ fn add_drives(core: &mut ServerCore, drives: &[ClusterDrive]) -> Result<(), Comm
     ensures stops { IfErr result (StopsKnowing (with_drives core.old drives.now)) }
 {
     for drive in drives {
-        // Here and below, arms in place of `?` or of the bare call are for the prover (docs/PROVER_FORMS.md).
+        // Here and below, arms in place of `?` or of the bare call are for the prover (docs/dev/PROVER_FORMS.md).
         match add_drive(core, drive) {
             Ok(()) => {}
             Err(stop) => return Err(stop),

@@ -17,7 +17,7 @@ pub fn held_line(alloc: Global, drive: u32, object: u64) -> Result<String, Memor
     ensures { IfOk result (λ line. string_bytes line ≡ held_line drive object) }
 {
     Ok(format!(in alloc;
-        "d{drive} holds object {object} already: is this the right journal, and are these the right drives? (docs/OPERATIONS.md)"
+        "d{drive} holds object {object} already: is this the right journal, and are these the right drives? (docs/use/OPERATIONS.md)"
     )?)
 }
 

@@ -71,7 +71,7 @@ pub fn make_file<H: MetadataServer, L: Links, C: Clock, P: Place>(
     match server.create_file(file.number, map, FIRST_TAG, placer) {
         Ok(Step { sends, notes, .. }) => {
             tell_notes(alloc, links, notes)?;
-            // Here and below, arms in place of `?` or of the bare call are for the prover (docs/PROVER_FORMS.md).
+            // Here and below, arms in place of `?` or of the bare call are for the prover (docs/dev/PROVER_FORMS.md).
             match make_all(alloc, server, links, clock, placer, sends) {
                 Ok(()) => Ok(()),
                 Err(stop) => Err(stop),

@@ -50,7 +50,7 @@ fn add_lacking_one<H: MetadataServer>(
         key,
         capacity: drive.capacity,
     };
-    // Here and below, arms in place of `?` or of the bare call are for the prover (docs/PROVER_FORMS.md).
+    // Here and below, arms in place of `?` or of the bare call are for the prover (docs/dev/PROVER_FORMS.md).
     match server.add_drive(info) {
         Ok(()) => Ok(()),
         Err(e) => Err(ServerStop::from(e)),
