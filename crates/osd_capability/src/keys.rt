@@ -1,10 +1,12 @@
-ghost use Rattle.std.specs.Prelude.{◌≡◌, ◌++◌, ◌-◌, replicate, IsTrue};
-ghost use Rattle.osd_capability.specs.Layout.{is_format};
+ghost use Rattle.std.specs.Prelude.{◌≡◌, ◌++◌, ◌-◌, ◌↔◌, ℕ, List, replicate, IsTrue};
+ghost use Rattle.hmac_tags.specs.InTheMaking.{IsKeyed, IsKeyed256};
+ghost use Rattle.hmac_tags.specs.Mac.{hmac_sha1, hmac_sha256};
+ghost use Rattle.osd_capability.specs.Layout.{is_format, spelling};
 ghost use Rattle.osd_capability.specs.Keys.{key_of, check_of, format_of};
 ghost use Rattle.osd_capability.specs.Sealing.{IsReadyFor};
 
 use crate::layout::{Capability, FORMAT_SHA256};
-use hmac_tags::{Hmac, Hmac256, HmacKey, HmacKey256};
+use hmac_tags::{HmacKey, HmacKey256};
 use std::marker::Model;
 
 /// The bytes of a drive's key.
@@ -25,6 +27,24 @@ pub enum CapKey {
     Two([u8; CHECK_BYTES]),
 }
 
+// The tag of a capability's bytes over SHA-1.
+fn sha1_tag(key: &HmacKey, c: &Capability) -> [u8; SHA1_TAG_BYTES]
+    ensures { (bytes : List ℕ) → IsKeyed key.now bytes → result ≡ hmac_sha1 bytes (spelling c.now) }
+{
+    let mut tag = key.begin();
+    tag.update(&c.to_bytes());
+    tag.finish()
+}
+
+// The same over SHA-256.
+fn sha256_tag(key: &HmacKey256, c: &Capability) -> [u8; CHECK_BYTES]
+    ensures { (bytes : List ℕ) → IsKeyed256 key.now bytes → result ≡ hmac_sha256 bytes (spelling c.now) }
+{
+    let mut tag = key.begin();
+    tag.update(&c.to_bytes());
+    tag.finish()
+}
+
 /// The key of a capability under a drive's key, of the variant of the capability's format: an
 /// HMAC (RFC 2104) of its 96 bytes.
 pub fn capability_key(key: &[u8; DRIVE_KEY_BYTES], c: &Capability) -> CapKey
@@ -32,13 +52,61 @@ pub fn capability_key(key: &[u8; DRIVE_KEY_BYTES], c: &Capability) -> CapKey
     ensures format { IsTrue (is_format c.now.format) → format_of result ≡ c.now.format }
 {
     if c.format == FORMAT_SHA256 {
-        let mut tag = Hmac256::new(key);
-        tag.update(&c.to_bytes());
-        CapKey::Two(tag.finish())
+        CapKey::Two(sha256_tag(&HmacKey256::new(key), c))
     } else {
-        let mut tag = Hmac::new(key);
-        tag.update(&c.to_bytes());
-        CapKey::One(tag.finish())
+        CapKey::One(sha1_tag(&HmacKey::new(key), c))
+    }
+}
+
+/// A drive's key, made ready once for the keys of many capabilities: each then takes two steps of the
+/// hash less than by [`capability_key`].
+#[derive(Drop)]
+pub struct IssuingKey {
+    key: [u8; DRIVE_KEY_BYTES],
+    sha1: HmacKey,
+    sha256: HmacKey256,
+}
+
+impl Model for IssuingKey {
+    ghost use Rattle.std.specs.Prelude.{ℕ, List};
+    ghost use Rattle.hmac_tags.specs.InTheMaking.{IsKeyed, IsKeyed256};
+
+    ghost Value = { List ℕ };
+
+    ghost view = { λ s. s.key };
+
+    ghost invariant = { λ s. IsKeyed s.sha1 s.key × IsKeyed256 s.sha256 s.key };
+}
+
+impl IssuingKey {
+    /// Makes a drive's key ready.
+    pub fn new(key: &[u8; DRIVE_KEY_BYTES]) -> Self
+        ensures { result ≡ key.now }
+    {
+        IssuingKey {
+            key: *key,
+            sha1: HmacKey::new(key),
+            sha256: HmacKey256::new(key),
+        }
+    }
+
+    /// Whether it was made of this key.
+    pub fn is_of(&self, key: &[u8; DRIVE_KEY_BYTES]) -> bool
+        ensures { IsTrue result ↔ (self.now ≡ key.now) }
+    {
+        self.key == *key
+    }
+
+    /// The key that [`capability_key`] gives under the drive's key.
+    pub fn capability_key(&self, c: &Capability) -> CapKey
+        ensures key { result ≡ key_of self.now c.now }
+        ensures format { IsTrue (is_format c.now.format) → format_of result ≡ c.now.format }
+    {
+        if c.format == FORMAT_SHA256 {
+            CapKey::Two(sha256_tag(&self.sha256, c))
+        } else {
+            CapKey::One(sha1_tag(&self.sha1, c))
+        }
     }
 }
 

@@ -15,7 +15,8 @@ mod layout;
 mod rights;
 
 pub use keys::{
-    CHECK_BYTES, CapKey, DRIVE_KEY_BYTES, SHA1_TAG_BYTES, SealingKey, capability_key, check_value,
+    CHECK_BYTES, CapKey, DRIVE_KEY_BYTES, IssuingKey, SHA1_TAG_BYTES, SealingKey, capability_key,
+    check_value,
 };
 pub use layout::{CAPABILITY_BYTES, CapErr, Capability, FORMAT_SHA1, FORMAT_SHA256};
 pub use rights::{

@@ -136,7 +136,10 @@ impl DriveCore {
             return;
         };
         if !is_known(&self.last, &key, &c.capability) {
-            self.last = Some(KnownCapability::new(&key, &c.capability));
+            self.last = Some(match self.last.take() {
+                Some(last) => last.followed_by(&key, &c.capability),
+                None => KnownCapability::new(&key, &c.capability),
+            });
         }
     }
 

@@ -4,15 +4,16 @@ ghost use Rattle.osd_drive.specs.Known.{known};
 ghost use Rattle.osd_drive.specs.Table.{is_checked};
 
 use crate::keys::DriveKey;
-use osd_capability::{Capability, DRIVE_KEY_BYTES, SealingKey, capability_key};
+use osd_capability::{Capability, IssuingKey, SealingKey};
 use osd_commands::{Command, holds, holds_with};
 use std::marker::Model;
 
 /// A capability whose key, under a key of the drive, was made and made ready for check values. A holder
-/// sends many commands with one capability, so the drive keeps the last one so.
+/// sends many commands with one capability, so the drive keeps the last one so; and it keeps its own key ready
+/// for the next one.
 #[derive(Drop)]
 pub struct KnownCapability {
-    drive_key: [u8; DRIVE_KEY_BYTES],
+    drive_key: IssuingKey,
     capability: Capability,
     sealing: SealingKey,
 }
@@ -34,10 +35,31 @@ impl KnownCapability {
     pub fn new(key: &DriveKey, capability: &Capability) -> Self
         ensures { result ≡ known key.now capability.now }
     {
+        KnownCapability::under(IssuingKey::new(&key.key), capability)
+    }
+
+    // Makes a capability's key under a drive's key that is ready.
+    fn under(drive_key: IssuingKey, capability: &Capability) -> Self
+        ensures key { result.key ≡ drive_key }
+        ensures capability { result.capability ≡ capability.now }
+    {
+        let sealing = SealingKey::new(&drive_key.capability_key(capability));
         KnownCapability {
-            drive_key: key.key,
+            drive_key,
             capability: *capability,
-            sealing: SealingKey::new(&capability_key(&key.key, capability)),
+            sealing,
+        }
+    }
+
+    /// The same of another capability. If that is under the same key of the drive, the drive's key stays ready.
+    pub fn followed_by(self, key: &DriveKey, capability: &Capability) -> Self
+        ensures { result ≡ known key.now capability.now }
+    {
+        let KnownCapability { drive_key, .. } = self;
+        if drive_key.is_of(&key.key) {
+            KnownCapability::under(drive_key, capability)
+        } else {
+            KnownCapability::new(key, capability)
         }
     }
 
@@ -45,7 +67,7 @@ impl KnownCapability {
     fn is_of(&self, key: &DriveKey, capability: &Capability) -> bool
         ensures { IsTrue result ↔ (self.now ≡ known key.now capability.now) }
     {
-        self.drive_key == key.key && self.capability == *capability
+        self.drive_key.is_of(&key.key) && self.capability == *capability
     }
 
     // Whether the check value of a command with this capability is right.

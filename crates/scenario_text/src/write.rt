@@ -1,5 +1,5 @@
-ghost use Rattle.std.specs.Prelude.{◌≡◌, ◌≤◌, ◌++◌, ◌∷◌, OnOk, decimal, length, map};
-ghost use Rattle.hex.specs.Hex.{encode_lower};
+ghost use Rattle.std.specs.Prelude.{◌≡◌, ◌*◌, ◌<◌, ◌≤◌, ◌++◌, ◌∷◌, OnOk, decimal, length, map, slice_index};
+ghost use Rattle.hex.specs.Hex.{encode_lower, lower_digits};
 ghost use Rattle.scenario_text.specs.Words.{behind};
 ghost use Rattle.scenario_text.specs.Parts.{hex_word, positions_word};
 ghost use Rattle.scenario_text.specs.Written.{written};
@@ -34,6 +34,26 @@ pub(crate) fn named<'a, const LETTER: u8, const COUNT: u32>(name: &Name<LETTER, 
 // The bytes whose digits are made at a time.
 const BLOCK: usize = 256;
 
+// The digit of a number below 16. It is computed and not looked up: so the compiler makes sixteen at a time.
+#[inline(always)]
+fn digit(n: u8) -> u8
+    requires { n < 16 }
+    ensures { result ≡ slice_index lower_digits n }
+{
+    if n < 10 { b'0' + n } else { b'a' + (n - 10) }
+}
+
+// Writes the digits of bytes over a text, which has twice as many.
+fn spell(bytes: &[u8], text: &mut [u8])
+    requires { length text.old ≡ 2 * length bytes.now }
+    ensures { text.new ≡ encode_lower bytes.now }
+{
+    for i in 0..bytes.len() {
+        text[2 * i] = digit(bytes[i] >> 4);
+        text[2 * i + 1] = digit(bytes[i] & 15);
+    }
+}
+
 // Adds the digits of some of a word's bytes.
 fn put_block(out: &mut Bytes, block: &[u8]) -> Result<(), Memory>
     requires { length block.now ≤ BLOCK }
@@ -41,10 +61,8 @@ fn put_block(out: &mut Bytes, block: &[u8]) -> Result<(), Memory>
 {
     let mut digits = [0u8; 2 * BLOCK];
     let text = &mut digits[..2 * block.len()];
-    match hex::encode_to_slice(block, text) {
-        Ok(()) => out.extend_from_slice(text),
-        Err(_) => unreachable!(),
-    }
+    spell(block, text);
+    out.extend_from_slice(text)
 }
 
 // Adds the digits of bytes, a block at a time: nothing is filled by zeros that would be written over.
