@@ -1,6 +1,6 @@
 ghost use Rattle.std.specs.Prelude.{◌≡◌, IfOk};
 ghost use Rattle.layout_types.specs.Grammar.{GivesOrMemory};
-ghost use Rattle.layout_types.specs.Again.{spelled_again, written_of};
+ghost use Rattle.layout_types.specs.Again.{written_of};
 
 use crate::cred::ObjectCred;
 use crate::device_addr::DeviceAddr;
@@ -15,17 +15,6 @@ use data_map::RawMap;
 use osd_lists::Bytes;
 use std::alloc::Global;
 
-// Reads a structure, and writes it.
-fn again<T: Structure>(alloc: Global, bytes: &[u8]) -> Result<Bytes, LayoutErr>
-    requires { (v : T) → T.fits v → T.writable v }
-    ensures exact { GivesOrMemory (spelled_again T.reading T.spelling bytes.now) result }
-    ensures same { IfOk result (λ written. written ≡ bytes.now) }
-{
-    let value = T::read(alloc, bytes)?;
-    let written = value.write(alloc)?;
-    Ok(written)
-}
-
 /// The structure that the bytes spell, written again. Since a value has one spelling, these are the
 /// bytes themselves.
 ///
@@ -38,13 +27,14 @@ pub fn written_again(alloc: Global, kind: Kind, bytes: &[u8]) -> Result<Bytes, L
     // The bytes that are written are those that were read.
     ensures same { IfOk result (λ written. written ≡ bytes.now) }
 {
-    match kind {
-        Kind::Map => again::<RawMap>(alloc, bytes),
-        Kind::Cred => again::<ObjectCred>(alloc, bytes),
-        Kind::Layout => again::<Layout>(alloc, bytes),
-        Kind::DeviceAddr => again::<DeviceAddr>(alloc, bytes),
-        Kind::Update => again::<LayoutUpdate>(alloc, bytes),
-        Kind::IoErrs => again::<IoErrs>(alloc, bytes),
-        Kind::Hint => again::<LayoutHint>(alloc, bytes),
-    }
+    let written = match kind {
+        Kind::Map => RawMap::read(alloc, bytes)?.write(alloc)?,
+        Kind::Cred => ObjectCred::read(alloc, bytes)?.write(alloc)?,
+        Kind::Layout => Layout::read(alloc, bytes)?.write(alloc)?,
+        Kind::DeviceAddr => DeviceAddr::read(alloc, bytes)?.write(alloc)?,
+        Kind::Update => LayoutUpdate::read(alloc, bytes)?.write(alloc)?,
+        Kind::IoErrs => IoErrs::read(alloc, bytes)?.write(alloc)?,
+        Kind::Hint => LayoutHint::read(alloc, bytes)?.write(alloc)?,
+    };
+    Ok(written)
 }
