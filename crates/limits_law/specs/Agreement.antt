@@ -1,11 +1,11 @@
 -- Numbers that are in more than one crate.
-use Rattle.std.specs.Prelude.{◌≡◌, ◌+◌, ℕ}
+use Rattle.std.specs.Prelude.{◌≡◌, ◌+◌, ℕ, true, false}
 use Rattle.client_rules.specs.declared.limits.TheConstants as client
 use Rattle.server_rules.specs.declared.limits.TheConstants as server
 use Rattle.osd_drive.specs.declared.limits.TheConstants as drive
 use Rattle.osd_drive.specs.declared.verdict.Verdict.TheVariants as verdict
 use Rattle.osd_drive.specs.Effects.{verdict_number}
-use Rattle.osd_commands.specs.declared.replies.TheConstants as replies
+use Rattle.osd_commands.specs.Replies.{is_verdict}
 use Rattle.layout_ops.specs.declared.parts.TheConstants as messages
 use Rattle.server_entries.specs.declared.fields.TheConstants as entries
 use Rattle.server_entries.specs.declared.applied.TheConstants as journal
@@ -53,4 +53,5 @@ pub record VerdictsAgree : Type 0 where
   pub space : (free : ℕ) → (client.NO_SPACE ≡ verdict_number (verdict.NoSpace free)) × (server.NO_SPACE ≡ verdict_number (verdict.NoSpace free))
   pub lanes : client.LANE_FULL ≡ verdict_number verdict.LaneFull
   pub old_format : server.OLD_FORMAT ≡ verdict_number verdict.OldFormat
-  pub last : replies.LAST_VERDICT ≡ verdict_number verdict.OldFormat
+  pub last : is_verdict (verdict_number verdict.OldFormat) ≡ true
+  pub none_after : is_verdict (verdict_number verdict.OldFormat + 1) ≡ false

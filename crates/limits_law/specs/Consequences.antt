@@ -4,13 +4,12 @@ use Rattle.client_rules.specs.declared.limits.TheConstants as client
 use Rattle.server_rules.specs.declared.limits.TheConstants as server
 use Rattle.osd_drive.specs.declared.limits.TheConstants as drive
 use Rattle.osd_objects.specs.declared.lanes.TheConstants as objects
-use Rattle.osd_commands.specs.declared.commands.TheConstants as commands
-use Rattle.osd_commands.specs.declared.replies.TheConstants as replies
+use Rattle.osd_commands.specs.declared.commands.TheConstants as command
 use Rattle.data_map.specs.declared.ranges.TheConstants as file
 use Rattle.data_map.specs.declared.check.TheConstants as map
 use Rattle.layout_types.specs.declared.parts.TheConstants as structures
-use Rattle.osd_bytes.specs.declared.records.TheConstants as records
-use Rattle.osd_bytes.specs.declared.lines.TheConstants as lines
+use Rattle.osd_bytes.specs.declared.records.TheConstants as wire
+use Rattle.osd_bytes.specs.declared.lines.TheConstants as text
 use Rattle.gate_log.specs.declared.entry.TheConstants as log
 use Rattle.scenario_text.specs.declared.names.TheConstants as names
 use Rattle.world_history.specs.declared.limits.TheConstants as world
@@ -31,13 +30,12 @@ pub record FilesFit : Type 0 where
   -- the bytes of a call go to a drive in one command
   pub calls : client.MAX_CALL ≤ drive.MAX_LENGTH
 
--- what a drive takes, it can answer and keep, and a scenario can say
+-- what a drive takes fits a record of a connection and of its store, and a scenario can say it
 pub record MessagesFit : Type 0 where
-  pub commands : commands.BLOCK + drive.MAX_LENGTH ≤ records.MAX_RECORD
-  pub replies : replies.BLOCK + drive.MAX_LENGTH ≤ records.MAX_RECORD
-  pub kept : commands.BLOCK + drive.MAX_LENGTH ≤ log.MAX_BODY
+  pub commands : command.BLOCK + drive.MAX_LENGTH ≤ wire.MAX_RECORD
+  pub kept : command.BLOCK + drive.MAX_LENGTH ≤ log.MAX_BODY
   -- a write is a line of two digits a byte
-  pub lines : 2 * client.MAX_CALL + WORDS ≤ lines.MAX_LINE
+  pub lines : 2 * client.MAX_CALL + WORDS ≤ text.MAX_LINE
 
 -- no number is used up before what it counts
 pub record NumbersSuffice : Type 0 where
