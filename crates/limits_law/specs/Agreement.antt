@@ -37,9 +37,13 @@ pub record CapacitiesAgree : Type 0 where
   pub clients : names.CLIENTS ≡ server.MAX_CLIENT + 1
   pub files : names.FILES ≡ journal.MAX_FILES
 
+-- both are this number
+abbrev pub AreBoth : ℕ → ℕ → ℕ → Type 0
+AreBoth a b n = (a ≡ n) × (b ≡ n)
+
 -- the numbers by which clients and the server know a drive's verdicts, and the greatest that a reply may have
 pub record VerdictsAgree : Type 0 where
-  pub performed : (client.PERFORMED ≡ verdict_number verdict.Perform) × (server.PERFORMED ≡ verdict_number verdict.Perform)
+  pub performed : AreBoth client.PERFORMED server.PERFORMED (verdict_number verdict.Perform)
   pub no_key : client.NO_KEY ≡ verdict_number verdict.NoKey
   pub check : client.BAD_CHECK_VALUE ≡ verdict_number verdict.CheckValue
   pub expired : client.EXPIRED ≡ verdict_number verdict.Expired
@@ -48,9 +52,9 @@ pub record VerdictsAgree : Type 0 where
   pub range : client.OUT_OF_RANGE ≡ verdict_number verdict.Range
   pub no_object : client.NO_OBJECT ≡ verdict_number verdict.NoObject
   pub exists : server.EXISTS ≡ verdict_number verdict.Exists
-  pub tag : (now : ℕ) → (client.OTHER_TAG ≡ verdict_number (verdict.Tag now)) × (server.OTHER_TAG ≡ verdict_number (verdict.Tag now))
+  pub tag : (now : ℕ) → AreBoth client.OTHER_TAG server.OTHER_TAG (verdict_number (verdict.Tag now))
   pub limit : client.OVER_LIMIT ≡ verdict_number verdict.Limit
-  pub space : (free : ℕ) → (client.NO_SPACE ≡ verdict_number (verdict.NoSpace free)) × (server.NO_SPACE ≡ verdict_number (verdict.NoSpace free))
+  pub space : (free : ℕ) → AreBoth client.NO_SPACE server.NO_SPACE (verdict_number (verdict.NoSpace free))
   pub lanes : client.LANE_FULL ≡ verdict_number verdict.LaneFull
   pub old_format : server.OLD_FORMAT ≡ verdict_number verdict.OldFormat
   pub last : is_verdict (verdict_number verdict.OldFormat) ≡ true

@@ -2,8 +2,8 @@
 ghost use Rattle.limits_law.specs.Agreement.{CapacitiesAgree, DrivesAgree, PartiesAgree, VerdictsAgree};
 ghost use Rattle.limits_law.specs.Consequences.{FilesFit, MessagesFit, NumbersSuffice};
 
-/// Each number that two crates have is one number: clients and the server mean the same by it, the server knows what a drive
-/// takes, a scenario can name what the rules have, and whoever reads a reply knows each verdict by the number that a drive gives it.
+/// Each number that two crates have is one number: clients and the server mean the same by it, the server knows what a
+/// drive takes, a scenario can name what the rules have, and who reads a reply knows each verdict by the drive's number.
 pub fn numbers_agree()
     ensures parties { PartiesAgree }
     ensures drives { DrivesAgree }
