@@ -22,7 +22,3 @@ mod many_ports;
 mod stored_drives;
 #[cfg(test)]
 mod stores;
-#[cfg(test)]
-mod xdr;
-#[cfg(test)]
-mod zones;

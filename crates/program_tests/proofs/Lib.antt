@@ -1,2 +1,1 @@
 mod Ranking
-mod Swapping

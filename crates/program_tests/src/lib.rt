@@ -20,5 +20,3 @@ mod runs;
 mod scripts;
 #[cfg(test)]
 mod streams;
-#[cfg(test)]
-mod zoning;
