@@ -22,3 +22,7 @@ mod many_ports;
 mod stored_drives;
 #[cfg(test)]
 mod stores;
+#[cfg(test)]
+mod xdr;
+#[cfg(test)]
+mod zones;

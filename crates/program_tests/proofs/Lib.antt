@@ -1,1 +1,2 @@
 mod Ranking
+mod Swapping

@@ -20,3 +20,5 @@ mod runs;
 mod scripts;
 #[cfg(test)]
 mod streams;
+#[cfg(test)]
+mod zoning;

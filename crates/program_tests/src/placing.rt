@@ -113,9 +113,9 @@ fn may_be_left(line: &[u8]) -> bool {
     line.is_empty() || line.starts_with(b"= ") || line.starts_with(b"m ") || line.starts_with(b"d ")
 }
 
-// Whether a transcript shows these lines and no others, in order. Lines of events, messages and deliveries
-// count only where they are among those that are wanted; of a message's line its bytes aren't wanted.
-fn shows(transcript: &[u8], shown: &[u8]) -> bool {
+/// Whether a transcript shows these lines and no others, in order. Lines of events, messages and deliveries
+/// count only where they are among those that are wanted; of a message's line its bytes aren't wanted.
+pub fn shows(transcript: &[u8], shown: &[u8]) -> bool {
     let mut wanted = shown.split(|byte| *byte == b'\n');
     let mut next = wanted.next();
     for line in transcript.split(|byte| *byte == b'\n') {
