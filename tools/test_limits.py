@@ -19,8 +19,6 @@ CONSTANT = re.compile(r"^\s*(?:pub )?const (?P<name>[A-Z][A-Z0-9_]*): [a-z0-9]+ 
 BOUND = re.compile(r"MAX_[A-Z_]+|GREATEST_[A-Z_]+")
 #: Bounds that are the range of a type, or of a system call, and so no limits of this project.
 OF_A_TYPE = {"MAX_U32", "MAX_U64", "MAX_SIZE"}
-#: Bytes of a command before its payload, and of a reply; and of a line beside the bytes that it spells.
-BLOCK, REPLY, WORDS = 256, 40, 1000
 
 
 class Limit(NamedTuple):
@@ -98,18 +96,8 @@ class Limits(unittest.TestCase):
     def test_the_page_is_read(self):
         self.assertGreater(len(list(limits())), 40)
 
-    def test_relations(self):
+    def test_seconds(self):
         values = {limit.name: limit.value for limit in limits()}
-        command = values["bytes of a command"] + BLOCK + REPLY
-        self.assertEqual(values["end of a range of an object"], values["bytes of a file"] + values["bytes of a stripe unit"])
-        self.assertLessEqual(command, values["bytes of a record of a connection"])
-        self.assertLessEqual(command, values["bytes of a record of a store"])
-        self.assertLessEqual(2 * values["bytes of a call"] + WORDS, values["bytes of a line"])
-        self.assertLessEqual(values["clients"] + 1, values["holders of an object that changed it (lanes)"])
-        self.assertLess(values["commands under a grant"], values["nonces of a grant"])
-        for many in ("drives", "components of a map", "members of a list"):
-            self.assertLessEqual(values["components of a file"], values[many])
-        self.assertLess(values["bytes that a replay keeps"], 1 << 31)
         self.assertLess(4 * values["silence of a drive, for a client"], values["seconds of a grant"])
         waits = ["silence of a drive, for the server", "silence of who connected to a drive or the server", "a whole record of it",
                  "silence of a drive, for a client", "silence of the server, for a client"]

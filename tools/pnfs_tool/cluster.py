@@ -10,6 +10,9 @@ from typing import Container, Dict, List, NamedTuple, Tuple, Union
 
 from .ends import CLUSTER, End
 
+#: How many drives, clients and files a cluster has at most.
+MOST_DRIVES, MOST_CLIENTS, MOST_FILES = 64, 16, 64
+
 Value = Union[int, str]
 Table = Dict[str, Tuple[int, Value]]   # of each key its line and its value
 
@@ -127,8 +130,9 @@ def map_of(table: Table, line: int) -> FileMap:
 def numbered(table: Table, line: int, name: str, seen: Container[int]) -> int:
     """The number of a drive or a file, which none before it has."""
     at, value = value_of(table, line, name, "number")
-    if int(value) > 63:
-        raise refused(at, f"a {name} has a number up to 63")
+    most = {"drive": MOST_DRIVES, "file": MOST_FILES}[name] - 1
+    if int(value) > most:
+        raise refused(at, f"a {name} has a number up to {most}")
     if value in seen:
         raise refused(at, f"a {name} before it has number {value} too")
     return int(value)

@@ -7,7 +7,7 @@ import time
 from typing import Callable, Iterator, List
 
 from .calls import Caller
-from .cluster import Cluster, FileMap, read_cluster
+from .cluster import MOST_FILES, Cluster, FileMap, read_cluster
 from .copying import MAX_FILE, Progress, put, put_out, read_all, refuse_end, resume, write_all
 from .drives import ask_drive
 from .ends import DONE, INPUT, NOT_ASKED, NOT_WELL, OUTPUT, SHORT, STOPPED, End
@@ -20,7 +20,7 @@ from .waiting import is_up, rebuilt, wait_for_end, wait_for_parties
 from .words import DRIVES, SERVER, words_of
 
 MAX_TEXT = 67_108_864   # of a cluster text, as the program takes it
-ALL_FILES = range(64)
+ALL_FILES = range(MOST_FILES)
 
 
 def say(line: str) -> None:

@@ -3,6 +3,8 @@ import argparse
 import re
 from typing import List
 
+from .cluster import MOST_CLIENTS, MOST_DRIVES, MOST_FILES
+
 #: The server among parties, and all drives.
 SERVER, DRIVES = "server", "drives"
 
@@ -68,15 +70,15 @@ docs/use/OPERATIONS.md goes through a cluster's first hour.
 
 def file_name(word: str) -> int:
     """A file as f0."""
-    if not re.fullmatch(r"f(0|[1-9][0-9]?)", word) or int(word[1:]) > 63:
-        raise argparse.ArgumentTypeError(f"'{word}' is no file: f0 to f63")
+    if not re.fullmatch(r"f(0|[1-9][0-9]{0,17})", word) or int(word[1:]) >= MOST_FILES:
+        raise argparse.ArgumentTypeError(f"'{word}' is no file: f0 to f{MOST_FILES - 1}")
     return int(word[1:])
 
 
 def drive_name(word: str) -> int:
     """A drive as d0."""
-    if not re.fullmatch(r"d(0|[1-9][0-9]?)", word) or int(word[1:]) > 63:
-        raise argparse.ArgumentTypeError(f"'{word}' is no drive: d0 to d63")
+    if not re.fullmatch(r"d(0|[1-9][0-9]{0,17})", word) or int(word[1:]) >= MOST_DRIVES:
+        raise argparse.ArgumentTypeError(f"'{word}' is no drive: d0 to d{MOST_DRIVES - 1}")
     return int(word[1:])
 
 
@@ -96,8 +98,8 @@ def number(word: str) -> int:
 
 def client_number(word: str) -> int:
     """A client's number."""
-    if number(word) > 15:
-        raise argparse.ArgumentTypeError(f"'{word}' is no client: 0 to 15")
+    if number(word) >= MOST_CLIENTS:
+        raise argparse.ArgumentTypeError(f"'{word}' is no client: 0 to {MOST_CLIENTS - 1}")
     return int(word)
 
 

@@ -155,7 +155,7 @@ class Weather:
         living = self.guide.living()
         idle = [n for n in living if self.guide.clients[n].call is None]
         client = self.pick(idle if idle and r.random() < 0.9 else living)
-        file = r.choice(sorted(self.files) + [63] * (r.random() < 0.02))
+        file = r.choice(sorted(self.files) + [MOST_FILES - 1] * (r.random() < 0.02))
         shape = self.files.get(file, Shape(1, 4, 0, 0, 0, 1))
         reach = shape.unit * max(shape.components, 2) * 3
         offset = r.randrange(reach)

@@ -5,8 +5,9 @@ from typing import Dict, Iterable, Iterator, List, NamedTuple, Tuple, Union
 from .commands import VERDICTS
 from .spelling import U32, U64, Unreadable, decimal, hexadecimal
 
-NAME = re.compile(r'([dcf])(0|[1-9][0-9]?)\Z', re.ASCII)
-NAME_BOUNDS = {'d': 64, 'c': 16, 'f': 64}
+NAME = re.compile(r'([dcf])(0|[1-9][0-9]*)\Z', re.ASCII)
+DRIVES, CLIENTS, FILES = 64, 16, 64
+NAME_BOUNDS = {'d': DRIVES, 'c': CLIENTS, 'f': FILES}
 SERVER = 's'
 
 # the verdicts behind which a number stands

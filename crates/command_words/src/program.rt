@@ -83,18 +83,36 @@ fn client<'a>(alloc: Global) -> Result<Command<'a>, AllocError> {
         .arg(option(alloc, "call").value_name("TEXT"))
 }
 
-// All commands of the program.
-fn program<'a>(alloc: Global) -> Result<Command<'a>, AllocError> {
-    Command::new(alloc, "pnfs_osd")
+// The commands over scenarios and structures. Each subcommand more in one function costs what those before it cost together,
+// so the three kinds of commands are added apart.
+fn with_replays<'a>(alloc: Global, program: Command<'a>) -> Result<Command<'a>, AllocError> {
+    program
         .subcommand(Command::new(alloc, "replay"))?
         .subcommand(generate(alloc)?)?
         .subcommand(inspection(alloc, "show")?)?
-        .subcommand(inspection(alloc, "check")?)?
+        .subcommand(inspection(alloc, "check")?)
+}
+
+// The commands of a drive.
+fn with_drives<'a>(alloc: Global, program: Command<'a>) -> Result<Command<'a>, AllocError> {
+    program
         .subcommand(drive(alloc)?)?
-        .subcommand(stored_drive(alloc)?)?
+        .subcommand(stored_drive(alloc)?)
+}
+
+// The commands of a server and of a client.
+fn with_servers<'a>(alloc: Global, program: Command<'a>) -> Result<Command<'a>, AllocError> {
+    program
         .subcommand(server(alloc)?)?
         .subcommand(stored_server(alloc)?)?
         .subcommand(client(alloc)?)
+}
+
+// All commands of the program.
+fn program<'a>(alloc: Global) -> Result<Command<'a>, AllocError> {
+    let replays = with_replays(alloc, Command::new(alloc, "pnfs_osd"))?;
+    let drives = with_drives(alloc, replays)?;
+    with_servers(alloc, drives)
 }
 
 // How a command is used.
