@@ -1,6 +1,12 @@
 """What the benchmarks measure: figures with a name and a unit, and the file that keeps those of a former state."""
+import importlib.machinery
+import importlib.util
 import pathlib
+from types import ModuleType
 from typing import Dict, Iterable, NamedTuple
+
+HERE = pathlib.Path(__file__).resolve().parent
+BASELINE = HERE / "baseline"
 
 # Units of which more is better; of all others less is.
 RATES = "MB/s", "/s"
@@ -20,6 +26,14 @@ class Figure(NamedTuple):
         return former.value / self.value
 
 
+def script(name: str) -> ModuleType:
+    """A benchmark beside this file, as a module."""
+    loader = importlib.machinery.SourceFileLoader(name, str(HERE / name))
+    module = importlib.util.module_from_spec(importlib.util.spec_from_loader(name, loader))
+    loader.exec_module(module)
+    return module
+
+
 def kept(path: pathlib.Path) -> Dict[str, Figure]:
     """The figures of a file by name: a line is NAME, a tab, the figure, a space and its unit."""
     found = {}
@@ -31,5 +45,7 @@ def kept(path: pathlib.Path) -> Dict[str, Figure]:
 
 
 def keep(path: pathlib.Path, figures: Iterable[Figure]) -> None:
-    """Writes such a file."""
-    path.write_text("".join(f"{figure.name}\t{figure.value:.4g} {figure.unit}\n" for figure in figures))
+    """Writes such a file. A figure of a former one that wasn't measured now stays in it."""
+    all_kept = kept(path) if path.exists() else {}
+    all_kept.update((figure.name, figure) for figure in figures)
+    path.write_text("".join(f"{figure.name}\t{figure.value:.4g} {figure.unit}\n" for figure in all_kept.values()))
