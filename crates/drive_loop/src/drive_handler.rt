@@ -14,10 +14,10 @@ use std::alloc::Global;
 /// A drive that answers records, and tells whoever watches it of the commands that it refuses.
 #[derive(Drop)]
 pub struct DriveHandler<H, N> {
-    server: H,
-    notes: N,
+    pub(crate) server: H,
+    pub(crate) notes: N,
     // The second of the newest line.
-    last: Option<u64>,
+    pub(crate) last: Option<u64>,
 }
 
 impl<H, N> DriveHandler<H, N> {
@@ -76,7 +76,7 @@ impl<H: DeviceServer, N: Notes> Handler for DriveHandler<H, N> {
     ghost use Rattle.std.specs.Prelude.{false};
     ghost use Rattle.osd_drive.specs.State.{DriveState};
     ghost use Rattle.osd_drive.specs.Effects.{drive_after};
-    ghost use Rattle.drive_command.specs.Connections.{reply_bytes};
+    ghost use Rattle.drive_command.specs.Records.{reply_bytes};
     ghost use Rattle.drive_loop.specs.Handling.{AnswersOne, BreaksOne};
 
     ghost State = { DriveState };
