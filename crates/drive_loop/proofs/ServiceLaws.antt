@@ -1,12 +1,11 @@
 -- Why serving stopped, and what was told till then.
-use Rattle.std.proofs.Common.{◌≡◌, ℕ, List, [], ◌++◌, Option, None, Err, ap, inl, inr, refl, subst, sym, ◌∙◌}
+use Rattle.std.proofs.Common.{◌≡◌, ℕ, List, [], Option, None, Err, ap, inl, inr, refl, subst, sym, ◌∙◌}
 use Rattle.std.proofs.lemmas.List.{append-nil}
 use Rattle.std.specs.Io.KnownBytes.{Appends}
 use Rattle.osd_bytes.specs.Causes.{Rose}
 use Rattle.cluster_text.specs.Lines.{listening_line}
-use Rattle.osd_drive.specs.State.{DriveState}
-use Rattle.drive_command.specs.Records.{Handled, after_all}
-use Rattle.drive_command.specs.GoesOn.{HasHandled, WentOn}
+use Rattle.drive_command.specs.Connections.{Handled, after_all}
+use Rattle.drive_command.specs.GoesOn.{WentOn}
 use Rattle.drive_command.specs.StoredStops.{stop_of_serving}
 use Rattle.drive_command.specs.declared.device_server.DeviceServer.{Ghosts}
 use Rattle.drive_command.specs.declared.serve_err.DriveServeErr.{DriveServeErr}

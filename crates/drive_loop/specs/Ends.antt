@@ -78,11 +78,11 @@ StopsAs number in_before in_now before now listens Alone So stop =
     (ForCause (IsDeaf before now) stop × Alone) ⊎ OfDrive number c listens So)
 
 -- and then the line that tells why
-pub record TellsStop (Stops : (told : Streams) → Type 0) (in_now : Streams) (line : List ℕ) : Type 0 where
+pub record TellsStop (Stops : (told : Streams) → Type 0) (in_now : Streams) (text : List ℕ) : Type 0 where
   pub told : Streams
   pub stops : Stops told
   pub input : (in_now.left ≡ told.left) × (in_now.reads_failed ≡ told.reads_failed)
-  pub line : PutsLine told.taken in_now.taken told.writes_failed in_now.writes_failed line
+  pub line : PutsLine told.taken in_now.taken told.writes_failed in_now.writes_failed text
 
 -- ---- of a drive in memory alone
 

@@ -85,7 +85,7 @@ fn serve_in<N: Notes, K: Sink, P: Ports, C: Clock>(
     }
     let core = match new_core(alloc, number, key, drive.capacity) {
         Ok(core) => core,
-        Err(e) => return Err((CommandStop::from(e), notes)),
+        Err(_) => return Err((CommandStop::Memory, notes)),
     };
     match serve_core(alloc, core, connections, sink, ports, notes, clock) {
         Ok(notes) => Ok(notes),

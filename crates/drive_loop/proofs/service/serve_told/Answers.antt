@@ -5,7 +5,9 @@ use Rattle.osd_bytes.specs.Causes.{Rose}
 use Rattle.osd_bytes.specs.Put.{written_of}
 use Rattle.osd_bytes.proofs.Known.{Appends-then}
 use Rattle.cluster_text.specs.Lines.{listening_line, served_line}
+use Rattle.cluster_text.specs.declared.stop.CommandStop.TheVariants.{WriteFault}
 use Rattle.drive_command.specs.StoredStops.{no_memory}
+use Rattle.drive_command.specs.declared.stored_stop.StoredStop.TheVariants.{Command}
 use Rattle.drive_command.proofs.KeptLaws.{went-none}
 use Rattle.drive_loop.specs.Service.{network_at}
 use Rattle.drive_loop.proofs.ServiceLaws.{served-by, stopped-after, stopped-serving}
@@ -39,7 +41,7 @@ returns-in_err-served-clause-stops g c =
 
 pub returns-in-Err-clause-stops : goal.returns-in-Err-clause-stops
 returns-in-Err-clause-stops g c =
-    stopped-after g.H.DeviceServer c.args.handler.now.server c.args.handler.now.server _ _ _ _ _ _ _ [] _
+    stopped-after g.H.DeviceServer c.args.handler.now.server c.args.handler.now.server _ _ _ _ _ _ _ [] (Command WriteFault)
     (went-none g.H.DeviceServer c.args.handler.now.server (g.met.H.DeviceServer.kept_stays c.args.handler.now.server)
     c.requires.goes_on)
     (inl (refl, refl, refl, written_of c.in-Err.field-0, c.in-Err.ensures.err), c.in-Err.ensures.cause.failed)
@@ -59,7 +61,7 @@ returns-in-Err-serve_drive-clause-stops g c =
 pub returns-clause-stops : goal.returns-clause-stops
 returns-clause-stops g c =
     let ends = c.in-Ok-serve_drive.ensures.ends in
-    stopped-after g.H.DeviceServer c.args.handler.now.server c.serve_drive.new.handler.server _ _ _ _ _ _ _ ends.0 _ ends.1.1 (
+    stopped-after g.H.DeviceServer c.args.handler.now.server c.serve_drive.new.handler.server _ _ _ _ _ _ _ ends.0 (Command WriteFault) ends.1.1 (
       inr (
         served-by g.H.DeviceServer c.args.handler.now.server c.serve_drive.new.handler.server
             (network_at g.P.Ports g.N.Notes g.C.Clock c.args.ports.now c.args.handler.now.notes c.args.clock.now)

@@ -21,11 +21,11 @@ returns-in-Err-serve_told-clause-stops g c =
     (network_at g.P.Ports g.N.Notes g.C.Clock c.args.ports.now c.args.lent.notes c.args.clock.now)
     (network_at g.P.Ports g.N.Notes g.C.Clock c.serve_told.new.ports c.serve_told.new.handler.notes c.serve_told.new.clock)
     (g.K.Sink.taken c.args.sink.now) (g.K.Sink.taken c.serve_told.new.sink) c.args.lent.disk
-    c.into_disk-in-Err-serve_told.result
+    c.into_disk-disk.result
     c.in-Ok.store c.serve_told.new.handler.server x.steps x.handled x.cut_off (g.K.Sink.faults c.args.sink.now)
     (g.K.Sink.faults c.serve_told.new.sink) c.in-Err-serve_told.stop
     c.in-Ok.ensures.begins c.in-Ok.ensures.kept c.in-Ok.ensures.no_fault x.records x.carries x.why
-    c.into_disk-in-Err-serve_told.ensures c.in-Ok.ensures.leaves
+    c.into_disk-disk.ensures c.in-Ok.ensures.leaves
 
 pub returns-in-Err-clause-stops : goal.returns-in-Err-clause-stops
 returns-in-Err-clause-stops g c =

@@ -1,13 +1,20 @@
-use Rattle.std.proofs.Common.{rules, ◌≡◌, ◌∙◌, ℕ, List, Option, Some, None, ap, inl, inr, refl}
+use Rattle.std.proofs.Common.{rules, ◌≡◌, ◌∙◌, ℕ, List, Option, Some, None, ap, inl, inr, nat_eq, refl}
+use Rattle.std.specs.List.{find}
+use Rattle.cluster_text.specs.declared.cluster.ClusterDrive.{ClusterDrive}
 use Rattle.drive_command.specs.Opened.{first_of}
 use Rattle.drive_command.specs.Own.{core_in}
 use Rattle.drive_command.specs.declared.opened.OwnStore.{OwnStore}
 use Rattle.drive_loop.specs.Ends.{ListensAs}
 use Rattle.drive_loop.specs.Service.{Ends, ends_of, network_at}
 use Rattle.drive_loop.specs.StoredService.{ServesFrom, StopsFrom}
-use Rattle.drive_loop.proofs.StoppingLaws.{of-drive}
+use Rattle.drive_loop.proofs.StoppingLaws.{listens-as, of-drive}
 use Rattle.port_loop.specs.declared.ports.Happening.{Happening}
 use Rattle.drive_loop.proofs.stored_command.serve_stored_in.Goals as goal
+
+pub returns-in_default-clause-stops : goal.returns-in_default-clause-stops
+returns-in_default-clause-stops g c =
+    let none : core_in c.args.number c.args.cluster.now ≡ None = search rules in
+    inl ((refl, none), (refl, refl))
 
 pub returns-in_default-key-clause-stops : goal.returns-in_default-key-clause-stops
 returns-in_default-key-clause-stops g c =
@@ -26,7 +33,12 @@ returns-in-Ok-serve_from-clause-serves g c =
     let mine : OwnStore =
     record { number = c.args.number; key = c.in-Some-key.key; capacity = c.in-Some.drive.now.capacity } in
     let own : core_in c.args.number c.args.cluster.now ≡ Some (first_of mine) = search rules in
-    let at : ListensAs c.args.number c.args.cluster.now (g.P.Ports.listens c.serve_from.new.ports) = search rules in
+    let found : find (λ (d : ClusterDrive). nat_eq d.number c.args.number) c.args.cluster.now.drives ≡ Some c.in-Some.drive.now =
+    search rules in
+    let address : c.as_slice-2.result.now ≡ c.in-Some.drive.now.address = search rules in
+    let at : ListensAs c.args.number c.args.cluster.now (g.P.Ports.listens c.serve_from.new.ports) = listens-as c.args.number
+    c.args.cluster.now c.in-Some.drive.now c.as_slice-2.result.now (g.P.Ports.listens c.listen.new.self)
+    (g.P.Ports.listens c.serve_from.new.ports) found address c.in-Ok.ensures.ok c.serve_from.ensures.listens in
     of-drive c.args.number c.args.cluster.now (g.P.Ports.listens c.serve_from.new.ports) (first_of mine) before settled
     (λ (e : Ends). ServesFrom g.D.Disk c.args.connections e
     (network_at g.P.Ports g.N.Notes g.C.Clock c.serve_from.new.ports c.in-Ok-serve_from.lent.notes c.serve_from.new.clock)
@@ -45,7 +57,12 @@ returns-in-Err-serve_from-clause-stops g c =
     let mine : OwnStore =
     record { number = c.args.number; key = c.in-Some-key.key; capacity = c.in-Some.drive.now.capacity } in
     let own : core_in c.args.number c.args.cluster.now ≡ Some (first_of mine) = search rules in
-    let at : ListensAs c.args.number c.args.cluster.now (g.P.Ports.listens c.serve_from.new.ports) = search rules in
+    let found : find (λ (d : ClusterDrive). nat_eq d.number c.args.number) c.args.cluster.now.drives ≡ Some c.in-Some.drive.now =
+    search rules in
+    let address : c.as_slice-2.result.now ≡ c.in-Some.drive.now.address = search rules in
+    let at : ListensAs c.args.number c.args.cluster.now (g.P.Ports.listens c.serve_from.new.ports) = listens-as c.args.number
+    c.args.cluster.now c.in-Some.drive.now c.as_slice-2.result.now (g.P.Ports.listens c.listen.new.self)
+    (g.P.Ports.listens c.serve_from.new.ports) found address c.in-Ok.ensures.ok c.serve_from.ensures.listens in
     inr (inr (of-drive c.args.number c.args.cluster.now (g.P.Ports.listens c.serve_from.new.ports) (first_of mine) before settled
     (λ (e : Ends). StopsFrom g.D.Disk c.args.connections e
     (network_at g.P.Ports g.N.Notes g.C.Clock c.serve_from.new.ports c.in-Err-serve_from.refusal.1.notes
