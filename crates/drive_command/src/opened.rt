@@ -17,13 +17,13 @@ const NUMBER_PLACE: u64 = 8;
 
 /// Which drive a store is of.
 #[derive(Clone, Copy)]
-pub(crate) struct OwnStore {
+pub struct OwnStore {
     /// The drive's number.
-    pub(crate) number: u32,
+    pub number: u32,
     /// The key that it has in common with the server.
-    pub(crate) key: [u8; 20],
+    pub key: [u8; 20],
     /// How many bytes it may have, if the store is made.
-    pub(crate) capacity: u64,
+    pub capacity: u64,
 }
 
 // The store of the drive of this number on a disk that has bytes.
@@ -56,8 +56,14 @@ fn opened_store<D: Disk>(
 }
 
 /// The drive's own store on a disk, which is the file of this name if it is one: a new store if the disk has no bytes, else
-/// the one that stands there.
-pub(crate) fn store_on<D: Disk>(
+/// the one that stands there. The disk comes back if there is none.
+///
+/// # Errors
+///
+/// [`StoredStop::DiskFault`] only if the disk's count of faults rose; [`StoredStop::BadStore`] exactly if what the disk has
+/// isn't in the form of a store from this byte on, or is the store of another number, with 8; [`StoredStop::Command`] for
+/// want of memory.
+pub fn store_on<D: Disk>(
     alloc: Global,
     disk: D,
     name: &str,

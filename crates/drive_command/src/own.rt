@@ -13,8 +13,8 @@ use std::alloc::Global;
 /// The version of the key that a cluster text gives a drive.
 pub const KEY_VERSION: u16 = 1;
 
-// The drive of this number.
-pub(crate) fn own_drive(drives: &[ClusterDrive], number: u32) -> Option<&ClusterDrive>
+/// The drive of this number, `None` if there is none.
+pub fn own_drive(drives: &[ClusterDrive], number: u32) -> Option<&ClusterDrive>
     ensures { option_map (λ d. d.now) result ≡ find (λ d. nat_eq d.number number) drives.now }
 {
     drives.iter().find(|drive| drive.number == number)
@@ -32,8 +32,8 @@ pub(crate) fn keys_with(alloc: Global, key: [u8; 20]) -> Result<KeyTable, Memory
     Ok(keys)
 }
 
-// A drive without objects that has this one key.
-pub(crate) fn new_core(
+/// A drive without objects that has this one key, under [`KEY_VERSION`], and room for so many bytes.
+pub fn new_core(
     alloc: Global,
     number: u32,
     key: [u8; 20],

@@ -59,7 +59,7 @@ impl From<StoreErr> for StoredStop {
 }
 
 /// Why a drive with a store stops if serving stops for this reason.
-pub(crate) fn stop_of_serving(e: DriveServeErr) -> StoredStop
+pub fn stop_of_serving(e: DriveServeErr) -> StoredStop
     ensures { result ≡ stop_of_serving e }
 {
     match e {

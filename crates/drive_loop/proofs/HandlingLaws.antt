@@ -12,7 +12,7 @@ use Rattle.drive_command.proofs.KeptLaws.{joined, went-none, went-then}
 use Rattle.drive_loop.specs.declared.drive_handler.DriveHandler.{DriveHandler}
 use Rattle.drive_loop.specs.Handling.{AnswersOne, BreaksOne}
 use Rattle.drive_loop.specs.declared.serving.TheConstants.{MOST_TURNS}
-use Rattle.drive_loop.specs.Serving.{CutsMany, EndsMany, GoesBy, Seen, ServesMany, Tells, record_of, records_in, seen_at, serve_err_of}
+use Rattle.drive_loop.specs.Serving.{CutsMany, EndsInRecord, EndsMany, GoesBy, Seen, ServesMany, Tells, record_of, records_in, seen_at, serve_err_of}
 use Rattle.port_loop.specs.Ports.{after_notes}
 use Rattle.port_loop.specs.Serving.{AddsAll, BreaksOff, Desk, HandlesAll, Serves}
 use Rattle.port_loop.specs.Steps.{Follows, Handled as Taking, Lawful, Settled, Step, handled_in, happened}
@@ -84,7 +84,7 @@ module _ {H N : Type 0} (s : DriveGhosts H) (n : NotesGhosts N) (v : Ghosts (Dri
       → ServesMany s a.handler.server b.handler.server (of_desk n a x) (of_desk n b z) steps
   serves-many a b x z steps on goes settled desk =
       let all = handled-all a b x z (handled_in steps) on desk in
-      record { goes = goes; settled = settled; tells = all.1; went = all.0 }
+      (record { goes = goes; settled = settled; tells = all.1 }, all.0)
 
   -- how serving ends when its time comes
   pub ends-well : (a b : Desk (DriveHandler H N)) (x z : Option (List Happening)) (connections : ℕ)
@@ -113,6 +113,14 @@ module _ {H N : Type 0} (s : DriveGhosts H) (n : NotesGhosts N) (v : Ghosts (Dri
       sym (append-nil (records_in older)) ∙ ap (λ (l : List Handled). records_in older ++ l) (sym are)
       ∙ sym (append_assoc (records_in older) handled cut_off)
 
+  -- nothing was put since the last one, if it was cut off
+  unput-then : (is_handled : Bool) (next : Taking) (older : List Step) (handled cut_off : List Handled)
+      → handled ++ cut_off ≡ (if is_handled then record_of next ∷ [] else [])
+      → (cut_off ≡ []) ⊎ EndsInRecord (if is_handled then Handles next ∷ older else older)
+  unput-then true next older handled cut_off are = inr (next, older, refl)
+  unput-then false next older [] cut_off are = inl are
+  unput-then false next older (h ∷ handled) cut_off are = absurd (cc are)
+
   module _ (fails : (time : ℕ) (message : List ℕ) (is_handled : Bool) (old new : DriveHandler H N) →
       v.fails time message is_handled old new → BreaksOne s n time message is_handled old new) where
     cuts-off : (first : v.State) (a b : Desk (DriveHandler H N)) (x z : Option (List Happening)) (steps : List Step)
@@ -127,23 +135,29 @@ module _ {H N : Type 0} (s : DriveGhosts H) (n : NotesGhosts N) (v : Ghosts (Dri
         let drive : s.drive o.mid.handler.server ≡ after_all (s.drive a.handler.server) (records_in o.older) =
         all.0.carries.state
         ∙ ap (λ (l : List Handled). after_all (s.drive a.handler.server) l) (append-nil (records_in o.older)) in record {
-          goes = goes;
-          tells = inr (record {
-            older = o.older;
-            mid = of_desk n o.mid None;
-            tells = all.1;
-            next = o.next;
-            follows = follows o.next o.older o.follows;
-            time = o.tells;
-            is_handled = o.is_handled;
-            are = o.are;
-            noted = subst (λ (d : DriveState). (n.noted b.handler.notes ≡ n.noted o.mid.handler.notes)
-                ⊎ ((o.is_handled ≡ true) × (n.noted b.handler.notes
-                ≡ after_notes (lines_of d o.mid.handler.last (record_of o.next)) (n.noted o.mid.handler.notes)))) drive f.noted;
-          });
+          cuts = record {
+            goes = goes;
+            tells = inr (record {
+              older = o.older;
+              mid = of_desk n o.mid None;
+              tells = all.1;
+              next = o.next;
+              follows = follows o.next o.older o.follows;
+              time = o.tells;
+              is_handled = o.is_handled;
+              are = o.are;
+              noted = subst (λ (d : DriveState). (n.noted b.handler.notes ≡ n.noted o.mid.handler.notes)
+                  ⊎ ((o.is_handled ≡ true) × (n.noted b.handler.notes
+                  ≡ after_notes (lines_of d o.mid.handler.last (record_of o.next)) (n.noted o.mid.handler.notes)))) drive f.noted;
+            });
+          };
           handled = records_in o.older ++ f.handled;
           cut_off = f.cut_off;
-          are = ap records_in o.are ∙ records-then o.is_handled o.next o.older f.handled f.cut_off f.are;
+          records = record {
+            are = ap records_in o.are ∙ records-then o.is_handled o.next o.older f.handled f.cut_off f.are;
+            unput = subst (λ (l : List Step). (f.cut_off ≡ []) ⊎ EndsInRecord l) (sym o.are)
+                (unput-then o.is_handled o.next o.older f.handled f.cut_off f.are);
+          };
           carries = joined s (records_in o.older) f.handled f.cut_off a.handler.server o.mid.handler.server b.handler.server
               all.0.carries all.0.keeps f.carries;
         }
@@ -156,11 +170,10 @@ module _ {H N : Type 0} (s : DriveGhosts H) (n : NotesGhosts N) (v : Ghosts (Dri
         → CutsMany s a.handler.server b.handler.server (of_desk n a x) (of_desk n b z) steps
     cuts-many first a b x z steps on goes follows (inl desk) =
         let all = handled-all a b x z (handled_in steps) on desk in record {
-          goes = goes;
-          tells = inl all.1;
+          cuts = record { goes = goes; tells = inl all.1 };
           handled = records_in steps;
           cut_off = [];
-          are = sym (append-nil (records_in steps));
+          records = record { are = sym (append-nil (records_in steps)); unput = inl refl };
           carries = all.0.carries;
         }
     cuts-many first a b x z steps on goes follows (inr o) = cuts-off first a b x z steps on goes follows o

@@ -1,1 +1,4 @@
 mod HandlingLaws
+mod ServiceLaws
+mod StoppingLaws
+mod StoredLaws

@@ -1,5 +1,5 @@
 -- What a drive does with the records of many connections.
-use Rattle.std.specs.Prelude.{◌≡◌, ◌⊎◌, ℕ, Bool, true, if◌then◌else◌, List, ◌∷◌, ◌++◌, map, Option, Result, Ok, Err}
+use Rattle.std.specs.Prelude.{◌≡◌, ◌⊎◌, ℕ, Bool, true, if◌then◌else◌, List, [], ◌∷◌, ◌++◌, map, Option, Result, Ok, Err}
 use Rattle.osd_bytes.specs.Clocks.{TellsTime}
 use Rattle.osd_bytes.specs.Inboxes.{Told}
 use Rattle.osd_drive.specs.Effects.{drive_after}
@@ -75,29 +75,48 @@ pub record BreaksAt (drive : DriveState) (before now : Seen) (steps : List Step)
 -- ---- ends
 
 -- all that came is served: each record was handled to its end, and an open connection owes nothing unless it is full
-pub record ServesMany {H : Type 0} (s : Ghosts H) (old new : H) (before now : Seen) (steps : List Step) : Type 0 where
-  pub goes : GoesBy (s.drive old) before now steps
-  pub settled : Settled reply_bytes drive_after (s.drive old) steps
-  pub tells : Tells (s.drive old) before now (records_in steps)
-  pub went : WentOn s (records_in steps) old new
+pub record IsServed (drive : DriveState) (before now : Seen) (steps : List Step) : Type 0 where
+  pub goes : GoesBy drive before now steps
+  pub settled : Settled reply_bytes drive_after drive steps
+  pub tells : Tells drive before now (records_in steps)
 
--- Serving was cut off, perhaps in the middle of a record. The records that were handled are those of the device server, of
--- which the last may have been cut off.
+-- and these are the records of the device server
+abbrev pub ServesMany : {H : Type 0} → Ghosts H → (old new : H) → (before now : Seen) → List Step → Type 0
+ServesMany s old new before now steps =
+    IsServed (s.drive old) before now steps × WentOn s (records_in steps) old new
+
+-- serving was cut off, perhaps in the middle of a record
+pub record IsCutOff (drive : DriveState) (before now : Seen) (steps : List Step) : Type 0 where
+  pub goes : GoesBy drive before now steps
+  pub tells : Tells drive before now (records_in steps) ⊎ BreaksAt drive before now steps
+
+-- the last thing that happened is that a record was handled, so nothing was put since
+abbrev pub EndsInRecord : List Step → Type 0
+EndsInRecord steps = (last : Taking) × (older : List Step) × (steps ≡ Handles last ∷ older)
+
+-- the records of these steps are those that it handled, of which the last may have been cut off
+pub record AreHandled (steps : List Step) (handled cut_off : List Handled) : Type 0 where
+  pub are : records_in steps ≡ handled ++ cut_off
+  pub unput : (cut_off ≡ []) ⊎ EndsInRecord steps
+
+-- and these are the records of the device server
 pub record CutsMany {H : Type 0} (s : Ghosts H) (old new : H) (before now : Seen) (steps : List Step) : Type 0 where
-  pub goes : GoesBy (s.drive old) before now steps
-  pub tells : Tells (s.drive old) before now (records_in steps) ⊎ BreaksAt (s.drive old) before now steps
+  pub cuts : IsCutOff (s.drive old) before now steps
   pub handled : List Handled
   pub cut_off : List Handled
-  pub are : records_in steps ≡ handled ++ cut_off
+  pub records : AreHandled steps handled cut_off
   pub carries : HasHandled s handled cut_off old new
+
+-- so many connections are over, or what happens next was waited for as often as may be
+abbrev pub IsOver : (connections : ℕ) → List Step → Type 0
+IsOver connections steps = (over_in (happened steps) ≡ connections) ⊎ (waits_in steps ≡ MOST_TURNS)
 
 -- How serving ends: when so many connections are over or the drive has waited for so long, if the ports failed, or in the middle
 -- of it.
 abbrev pub EndsMany : {H : Type 0} → Ghosts H → (connections : ℕ) → (old new : H) → (before now : Seen)
     → Result (Unit {0}) DriveServeErr → Type 0
 EndsMany s connections old new before now (Ok done) =
-    (steps : List Step) × ServesMany s old new before now steps
-    × ((over_in (happened steps) ≡ connections) ⊎ (waits_in steps ≡ MOST_TURNS))
+    (steps : List Step) × ServesMany s old new before now steps × IsOver connections steps
 EndsMany s connections old new before now (Err LinkFault) =
     (steps : List Step) × ServesMany s old new before now steps
 EndsMany s connections old new before now (Err DiskFault) =

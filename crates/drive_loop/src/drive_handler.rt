@@ -14,10 +14,10 @@ use std::alloc::Global;
 /// A drive that answers records, and tells whoever watches it of the commands that it refuses.
 #[derive(Drop)]
 pub struct DriveHandler<H, N> {
-    server: H,
-    notes: N,
+    pub(crate) server: H,
+    pub(crate) notes: N,
     // The second of the newest line.
-    last: Option<u64>,
+    pub(crate) last: Option<u64>,
 }
 
 impl<H, N> DriveHandler<H, N> {

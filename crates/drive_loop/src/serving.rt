@@ -53,6 +53,7 @@ pub fn serve_drive<H: DeviceServer, N: Notes, P: Ports, C: Clock>(
     ensures ends { EndsMany H.DeviceServer connections handler.old.server handler.new.server
         (seen_at N.Notes handler.old (P.told ports.old) (C.times clock.old))
         (seen_at N.Notes handler.new (P.told ports.new) (C.times clock.new)) result }
+    ensures listens { P.listens ports.new ≡ P.listens ports.old }
     ensures link { IsErrOf result LinkFault → Rose (P.faults ports.old) (P.faults ports.new) }
     ensures disk { IsErrOf result DiskFault → Rose (H.faults handler.old.server) (H.faults handler.new.server) }
 {
