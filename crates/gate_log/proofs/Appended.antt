@@ -1,33 +1,12 @@
 -- Logs of which each record was appended.
-use Rattle.std.proofs.Common.{◌≡◌, ℕ, List, [], ◌∷◌, ◌++◌, length, map, refl, sym, ◌∙◌, ap, arith, append_assoc, length-append}
-use Rattle.std.proofs.lemmas.List.{append-nil}
+use Rattle.std.proofs.Common.{◌≡◌, ℕ, List, [], ◌∷◌, ◌++◌, length, refl, sym, ◌∙◌, ap, arith, append_assoc, length-append}
 use Rattle.gate_log.specs.declared.entry.TheConstants.{OPEN_GATE}
 use Rattle.gate_log.specs.declared.form.Form.TheVariants.{Checked}
-use Rattle.gate_log.specs.Entries.{piece_of}
-use Rattle.gate_log.specs.Forms.{IsBody, record_of}
+use Rattle.gate_log.specs.Forms.{record_of}
 use Rattle.gate_log.specs.Logs.{Gated, records_of, AreRecords, bodies_of, IsFront}
 use Rattle.gate_log.specs.Written.{appended, AreBodies, IsAppended}
+use Rattle.gate_log.proofs.Gated.{all_gated, are_gated, bodies_gated, bytes_gated}
 use Rattle.gate_log.proofs.OneLog.{one_list, one_split}
-
--- ---- as records behind gates
-
-abbrev gated : List ℕ → Gated
-gated body = record { gate = OPEN_GATE; form = Checked; body = body }
-
-abbrev all_gated : List (List ℕ) → List Gated
-all_gated bodies = map gated bodies
-
-bytes_gated : (bodies : List (List ℕ)) → records_of (all_gated bodies) ≡ appended bodies
-bytes_gated [] = refl
-bytes_gated (body ∷ bodies) = ap (λ (l : List ℕ). OPEN_GATE ∷ (record_of Checked body ++ l)) (bytes_gated bodies)
-
-are_gated : (bodies : List (List ℕ)) → AreBodies bodies → AreRecords (all_gated bodies)
-are_gated [] are = tt
-are_gated (body ∷ bodies) are = (record { open_gate = omega arith; is_body = are.0 }, are_gated bodies are.1)
-
-bodies_gated : (bodies : List (List ℕ)) → bodies_of (all_gated bodies) ≡ bodies
-bodies_gated [] = refl
-bodies_gated (body ∷ bodies) = ap (λ (l : List (List ℕ)). body ∷ l) (bodies_gated bodies)
 
 front_of : (header : List ℕ) (bodies : List (List ℕ)) (c : List ℕ) → IsAppended header bodies c →
     IsFront header bodies (header ++ appended bodies)
@@ -71,40 +50,34 @@ one_front header bodies others front other rest behind c f g one two =
     ) in
     (one_split front other (0 ∷ rest) (0 ∷ behind) long (sym one ∙ two)).0
 
--- ---- one record more
+-- ---- more records
 
-appended_more : (bodies : List (List ℕ)) (body : List ℕ) →
-    appended (bodies ++ body ∷ []) ≡ appended bodies ++ OPEN_GATE ∷ record_of Checked body
-appended_more [] body = ap (λ (l : List ℕ). OPEN_GATE ∷ l) (append-nil (record_of Checked body))
-appended_more (other ∷ bodies) body =
-    ap (λ (l : List ℕ). OPEN_GATE ∷ (record_of Checked other ++ l)) (appended_more bodies body)
-    ∙ ap (λ (l : List ℕ). OPEN_GATE ∷ l)
-    (sym (append_assoc (record_of Checked other) (appended bodies) (OPEN_GATE ∷ record_of Checked body)))
+pub appended_more : (bodies more : List (List ℕ)) → appended (bodies ++ more) ≡ appended bodies ++ appended more
+appended_more [] more = refl
+appended_more (body ∷ bodies) more =
+    ap (λ (l : List ℕ). OPEN_GATE ∷ (record_of Checked body ++ l)) (appended_more bodies more)
+    ∙ ap (λ (l : List ℕ). OPEN_GATE ∷ l) (sym (append_assoc (record_of Checked body) (appended bodies) (appended more)))
 
-bodies_more : (bodies : List (List ℕ)) (body : List ℕ) → AreBodies bodies → IsBody body → AreBodies (bodies ++ body ∷ [])
-bodies_more [] body are is = (is, tt)
-bodies_more (other ∷ bodies) body are is = (are.0, bodies_more bodies body are.1 is)
+pub bodies_more : (bodies more : List (List ℕ)) → AreBodies bodies → AreBodies more → AreBodies (bodies ++ more)
+bodies_more [] more are others = others
+bodies_more (body ∷ bodies) more are others = (are.0, bodies_more bodies more are.1 others)
 
-pub appended_grows : (header : List ℕ) (bodies : List (List ℕ)) (body old new front rest tail : List ℕ)
-    → IsFront header bodies front → old ≡ front ++ 0 ∷ rest → IsBody body
-    → new ≡ front ++ OPEN_GATE ∷ (piece_of body ++ tail)
-    → IsAppended header bodies old → IsAppended header (bodies ++ body ∷ []) new
-appended_grows header bodies body old new front rest tail f was is now a =
-    let bytes = OPEN_GATE ∷ record_of Checked body in
+pub appended_grows : (header : List ℕ) (bodies more : List (List ℕ)) (old new front rest tail : List ℕ)
+    → IsFront header bodies front → old ≡ front ++ 0 ∷ rest → AreBodies more
+    → new ≡ (front ++ appended more) ++ 0 ∷ tail → IsAppended header bodies old → IsAppended header (bodies ++ more) new
+appended_grows header bodies more old new front rest tail f was are now a =
     let same : front ≡ header ++ appended bodies =
     one_front header bodies bodies front (header ++ appended bodies) rest a.rest old f (front_of header bodies old a) was
     (a.contents ∙ sym (append_assoc header (appended bodies) (0 ∷ a.rest))) in
     record {
       whole = a.whole;
-      are_bodies = bodies_more bodies body a.are_bodies is;
+      are_bodies = bodies_more bodies more a.are_bodies are;
       rest = tail;
       contents = now
-          ∙ ap (λ (l : List ℕ). front ++ OPEN_GATE ∷ l) (append_assoc (record_of Checked body) (0 ∷ []) tail)
-          ∙ ap (λ (l : List ℕ). l ++ (bytes ++ 0 ∷ tail)) same
-          ∙ append_assoc header (appended bodies) (bytes ++ 0 ∷ tail)
-          ∙ ap (λ (l : List ℕ). header ++ l)
-          (sym (append_assoc (appended bodies) bytes (0 ∷ tail))
-          ∙ ap (λ (l : List ℕ). l ++ 0 ∷ tail) (sym (appended_more bodies body)));
+          ∙ ap (λ (l : List ℕ). (l ++ appended more) ++ 0 ∷ tail) same
+          ∙ ap (λ (l : List ℕ). l ++ 0 ∷ tail) (append_assoc header (appended bodies) (appended more))
+          ∙ ap (λ (l : List ℕ). (header ++ l) ++ 0 ∷ tail) (sym (appended_more bodies more))
+          ∙ append_assoc header (appended (bodies ++ more)) (0 ∷ tail);
     }
 
 pub none_appended : (header c rest : List ℕ) → length header ≡ 24 → c ≡ header ++ 0 ∷ rest → IsAppended header [] c

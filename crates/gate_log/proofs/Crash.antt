@@ -3,11 +3,10 @@ use Rattle.std.proofs.Common.{◌≡◌, ◌⊎◌, inl, inr, ℕ, zero, suc, �
 use Rattle.std.proofs.lemmas.List.{take_at, drop_at, drop_more, drop-drop}
 use Rattle.osd_disk.specs.Crashes.{Holds, Torn, Follows, Only}
 use Rattle.gate_log.specs.declared.entry.TheConstants.{OPEN_GATE}
-use Rattle.gate_log.specs.declared.form.Form.TheVariants.{Checked}
-use Rattle.gate_log.specs.Entries.{piece_of}
-use Rattle.gate_log.specs.Forms.{IsBody, record_of}
+use Rattle.gate_log.specs.Entries.{pieces_of}
 use Rattle.gate_log.specs.Logs.{IsFront, IsLog}
-use Rattle.gate_log.proofs.Fronts.{closed, opened}
+use Rattle.gate_log.specs.Written.{appended, AreBodies}
+use Rattle.gate_log.proofs.Fronts.{closed, opened, pieces_gated}
 
 module _ (header : List ℕ) (bodies : List (List ℕ)) (front : List ℕ) (f : IsFront header bodies front) (end : ℕ)
     (place : end ≡ length front) where
@@ -48,30 +47,28 @@ module _ (header : List ℕ) (bodies : List (List ℕ)) (front : List ℕ) (f : 
 
   -- ---- the second
 
-  -- the record stands whole in each outcome
-  pub torn_gate : (body rest c : List ℕ) → IsBody body → Torn end 1 (front ++ 0 ∷ (piece_of body ++ rest)) c →
-      IsLog header bodies c ⊎ IsLog header (bodies ++ body ∷ []) c
-  torn_gate body rest c is_body torn =
+  -- the records stand whole in each outcome
+  pub torn_gate : (more : List (List ℕ)) (rest c : List ℕ) → AreBodies more → 0 < length more
+      → Torn end 1 (front ++ 0 ∷ (pieces_of more ++ rest)) c → IsLog header bodies c ⊎ IsLog header (bodies ++ more) c
+  torn_gate more rest c are some torn =
       let gate = get_or c end 0 in
-      let old = front ++ 0 ∷ (piece_of body ++ rest) in
-      let tail : drop (end + 1) old ≡ piece_of body ++ rest =
-      ap (λ (l : List ℕ). drop (end + 1) l) (split (piece_of body ++ rest))
-      ∙ drop_at (front ++ 0 ∷ []) (piece_of body ++ rest) (end + 1) long in
-      let low : end < length c = omega (arith, place, torn.no_shorter, length-append front (0 ∷ (piece_of body ++ rest))) in
-      let back : drop end c ≡ gate ∷ (piece_of body ++ rest) =
+      let old = front ++ 0 ∷ (pieces_of more ++ rest) in
+      let tail : drop (end + 1) old ≡ pieces_of more ++ rest =
+      ap (λ (l : List ℕ). drop (end + 1) l) (split (pieces_of more ++ rest))
+      ∙ drop_at (front ++ 0 ∷ []) (pieces_of more ++ rest) (end + 1) long in
+      let low : end < length c = omega (arith, place, torn.no_shorter, length-append front (0 ∷ (pieces_of more ++ rest))) in
+      let back : drop end c ≡ gate ∷ (pieces_of more ++ rest) =
       drop_more c end 0 low ∙ ap (λ (l : List ℕ). gate ∷ l) (torn.behind ∙ tail) in
-      let inside : end ≡ min end (length old) = omega (arith, place, length-append front (0 ∷ (piece_of body ++ rest))) in
+      let inside : end ≡ min end (length old) = omega (arith, place, length-append front (0 ∷ (pieces_of more ++ rest))) in
       let start : take end c ≡ front =
-      ap (λ (k : ℕ). take k c) inside ∙ torn.before ∙ take_at front (0 ∷ (piece_of body ++ rest)) end (sym place) in
-      let is : c ≡ front ++ gate ∷ (piece_of body ++ rest) =
+      ap (λ (k : ℕ). take k c) inside ∙ torn.before ∙ take_at front (0 ∷ (pieces_of more ++ rest)) end (sym place) in
+      let is : c ≡ front ++ gate ∷ (pieces_of more ++ rest) =
       sym (take-append-drop end c) ∙ ap (λ (l : List ℕ). l ++ drop end c) start ∙ ap (λ (l : List ℕ). front ++ l) back in
       by_gate gate is
     where
-      by_gate : (g : ℕ) → c ≡ front ++ g ∷ (piece_of body ++ rest) → IsLog header bodies c ⊎ IsLog header (bodies ++ body ∷ []) c
-      by_gate zero is = inl (closed header bodies front f c (piece_of body ++ rest) is)
-      by_gate (suc g) is =
-          inr (opened header bodies front f (suc g) body c rest
-          (record { open_gate = omega arith; is_body = is_body }) is)
+      by_gate : (g : ℕ) → c ≡ front ++ g ∷ (pieces_of more ++ rest) → IsLog header bodies c ⊎ IsLog header (bodies ++ more) c
+      by_gate zero is = inl (closed header bodies front f c (pieces_of more ++ rest) is)
+      by_gate (suc g) is = inr (opened header bodies front f (suc g) more c rest (omega arith) are some is)
 
   pub stage_crash : (n : ℕ) (rest : List ℕ) (old new : List ℕ → Type 0) → Only (front ++ 0 ∷ rest) old →
       Follows (Torn (end + 1) n) old new → (c : List ℕ) → new c → IsLog header bodies c
@@ -79,17 +76,15 @@ module _ (header : List ℕ) (bodies : List (List ℕ)) (front : List ℕ) (f : 
       let from = follows c left in
       torn_behind n rest c (subst (λ f. Torn (end + 1) n f c) (only from.0 from.1) from.2)
 
-  pub gate_crash : (body rest : List ℕ) (old new : List ℕ → Type 0) → IsBody body →
-      Only (front ++ 0 ∷ (piece_of body ++ rest)) old → Follows (Torn end 1) old new
-      → (c : List ℕ) → new c → IsLog header bodies c ⊎ IsLog header (bodies ++ body ∷ []) c
-  gate_crash body rest old new is_body only follows c left =
+  pub gate_crash : (more : List (List ℕ)) (rest : List ℕ) (old new : List ℕ → Type 0) → AreBodies more → 0 < length more →
+      Only (front ++ 0 ∷ (pieces_of more ++ rest)) old → Follows (Torn end 1) old new
+      → (c : List ℕ) → new c → IsLog header bodies c ⊎ IsLog header (bodies ++ more) c
+  gate_crash more rest old new are some only follows c left =
       let from = follows c left in
-      torn_gate body rest c is_body (subst (λ f. Torn end 1 f c) (only from.0 from.1) from.2)
+      torn_gate more rest c are some (subst (λ f. Torn end 1 f c) (only from.0 from.1) from.2)
 
-  pub written_gate : (body rest c : List ℕ) → Holds (front ++ 0 ∷ (piece_of body ++ rest)) end (OPEN_GATE ∷ []) c →
-      c ≡ front ++ OPEN_GATE ∷ (piece_of body ++ rest)
-  written_gate body rest c holds =
-      let tail = piece_of body ++ rest in
+  pub written_gate : (tail c : List ℕ) → Holds (front ++ 0 ∷ tail) end (OPEN_GATE ∷ []) c → c ≡ front ++ OPEN_GATE ∷ tail
+  written_gate tail c holds =
       holds
       ∙ ap (λ (l : List ℕ). l ++ (OPEN_GATE ∷ []) ++ drop (end + 1) (front ++ 0 ∷ tail))
       (take_at front (0 ∷ tail) end (sym place))
@@ -98,11 +93,12 @@ module _ (header : List ℕ) (bodies : List (List ℕ)) (front : List ℕ) (f : 
       (ap (λ (l : List ℕ). drop (end + 1) l) (split tail) ∙ drop_at (front ++ 0 ∷ []) tail (end + 1) long)
 
   -- where the next closed gate stands
-  pub next_place : (body : List ℕ) → end + length (piece_of body) ≡ length (front ++ OPEN_GATE ∷ record_of Checked body)
-  next_place body =
+  pub next_place : (more : List (List ℕ)) → 0 < length more → end + length (pieces_of more) ≡ length (front ++ appended more)
+  next_place more some =
       omega (
         arith,
         place,
-        length-append front (OPEN_GATE ∷ record_of Checked body),
-        length-append (record_of Checked body) (0 ∷ []),
+        ap length (pieces_gated more some),
+        length-append front (appended more),
+        length-append (appended more) (0 ∷ []),
       )

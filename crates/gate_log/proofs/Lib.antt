@@ -3,6 +3,8 @@ pub mod Appending
 pub mod ByTable
 pub mod Crash
 pub mod Fronts
+pub mod Gated
+pub mod Joining
 pub mod OneLog
 pub mod Reading
 pub mod Records

@@ -6,5 +6,7 @@ pub mod Errors
 pub mod Forms
 pub mod Laws
 pub mod Logs
+pub mod Pieces
 pub mod Standing
+pub mod Together
 pub mod Written

@@ -6,6 +6,7 @@
 #![tactic(auto)]
 
 mod checksum;
+mod entries;
 mod entry;
 mod errors;
 mod form;
@@ -18,6 +19,7 @@ mod record;
 mod table;
 
 pub use checksum::crc_32;
+pub use entries::Entries;
 pub use entry::{Entry, MAX_BODY, OPEN_GATE};
 pub use errors::LogErr;
 pub use form::Form;

@@ -1,9 +1,11 @@
-ghost use Rattle.std.specs.Prelude.{◌≡◌, ◌<◌, ◌^◌, ◌⊎◌, ◌∷◌, [], ◌++◌, List, ℕ, IsTrue, Bool, false, length, is_err, OnOk, IfOk, IfErr};
+ghost use Rattle.std.specs.Prelude.{◌≡◌, ◌<◌, ◌^◌, ◌⊎◌, ◌∷◌, [], ◌++◌, List, ℕ, IsTrue, Bool, true, false, length, is_err, OnOk, IfOk, IfErr};
 ghost use Rattle.osd_disk.specs.Crashes.{LeavesOnly};
 ghost use Rattle.gate_log.specs.Errors.{HasErrCause, HasLogCause, IsOfDisk, NotEmptySays};
 ghost use Rattle.gate_log.specs.Logs.{IsLog};
+ghost use Rattle.gate_log.specs.Pieces.{AddBodies};
 ghost use Rattle.gate_log.specs.Written.{IsAppended};
 
+use crate::entries::Entries;
 use crate::entry::{Entry, OPEN_GATE};
 use crate::errors::LogErr;
 use crate::header::HEADER_SIZE;
@@ -37,11 +39,19 @@ impl<D> GateLog<D> {
         }
     }
 
-    /// Whether a call of the disk failed in [`GateLog::append`]. Then the log has to be opened again.
+    /// Whether a call of the disk failed, or the log was given up. Then it has to be opened again.
     pub fn is_over(&self) -> bool
         ensures { result ≡ over_of self.now }
     {
         self.is_over
+    }
+
+    /// Ends the log, as a call of the disk that failed would.
+    pub fn give_up(&mut self)
+        ensures disk { disk_of self.new ≡ disk_of self.old }
+        ensures over { over_of self.new ≡ true }
+    {
+        self.is_over = true;
     }
 
     /// The disk, with the log on it.
@@ -54,6 +64,7 @@ impl<D> GateLog<D> {
 
 impl<D: Disk> GateLog<D> {
     ghost use Rattle.gate_log.specs.Standing.{IsAtRest, disk_of, over_of};
+    ghost use Rattle.gate_log.specs.Together.{HaveBodies};
 
     /// Makes a log with no record on a disk that has no bytes. Three calls of the disk, of which one
     /// is a sync.
@@ -85,6 +96,33 @@ impl<D: Disk> GateLog<D> {
         }
     }
 
+    // Writes records behind the closed gate and syncs them, then opens the gate and syncs it.
+    fn add(&mut self, pieces: &[u8]) -> Result<(), LogErr>
+        ensures any_moment { (header : List ℕ) (bodies more : List (List ℕ)) → AddBodies more pieces.now
+            → IsAtRest D.tells D.seen D.may_leave header bodies self.old
+            → LeavesOnly D.moment D.left_since (disk_of self.old) (disk_of self.new)
+            (λ c. IsLog header bodies c ⊎ IsLog header (bodies ++ more) c) }
+        ensures added { OnOk result ((header : List ℕ) (bodies more : List (List ℕ)) → AddBodies more pieces.now
+            → IsAtRest D.tells D.seen D.may_leave header bodies self.old
+            → IsAtRest D.tells D.seen D.may_leave header (bodies ++ more) self.new) }
+        ensures written { OnOk result ((header : List ℕ) (bodies more : List (List ℕ)) → AddBodies more pieces.now
+            → IsAtRest D.tells D.seen D.may_leave header bodies self.old
+            → IsAppended header bodies (D.seen (disk_of self.old))
+            → IsAppended header (bodies ++ more) (D.seen (disk_of self.new))) }
+        ensures error { IfErr result (λ e. IsOfDisk e) }
+        ensures over { over_of self.new ≡ is_err result }
+        ensures cause { HasLogCause (D.faults (disk_of self.old)) (D.faults (disk_of self.new)) result }
+    {
+        self.is_over = true;
+        self.disk.write_at(self.end + 1, pieces)?;
+        self.disk.sync()?;
+        self.disk.write_at(self.end, &[OPEN_GATE])?;
+        self.disk.sync()?;
+        self.end += pieces.len() as u64;
+        self.is_over = false;
+        Ok(())
+    }
+
     /// Adds a record. At `Ok` each crash from then on leaves it, and a crash at any moment of the call
     /// leaves the log without the record or with it. Four calls of the disk: the record is written
     /// with its checksum and a closed gate behind it and synced, then its gate is opened and synced.
@@ -109,14 +147,43 @@ impl<D: Disk> GateLog<D> {
         ensures over { over_of self.new ≡ is_err result }
         ensures cause { HasLogCause (D.faults (disk_of self.old)) (D.faults (disk_of self.new)) result }
     {
-        self.is_over = true;
-        let piece = entry.piece();
-        self.disk.write_at(self.end + 1, piece)?;
-        self.disk.sync()?;
-        self.disk.write_at(self.end, &[OPEN_GATE])?;
-        self.disk.sync()?;
-        self.end += piece.len() as u64;
-        self.is_over = false;
-        Ok(())
+        match self.add(entry.piece()) {
+            Ok(()) => Ok(()),
+            Err(e) => Err(e),
+        }
+    }
+
+    /// Adds records together. At `Ok` each crash from then on leaves them, and a crash at any moment of the call leaves the log
+    /// without them or with all of them. Four calls of the disk as for one record, of which two are syncs; none for no records.
+    ///
+    /// # Errors
+    ///
+    /// As those of [`GateLog::append`].
+    pub fn append_all(&mut self, entries: &Entries) -> Result<(), LogErr>
+        requires { over_of self.old ≡ false }
+        ensures any_moment { (header : List ℕ) (bodies more : List (List ℕ)) → HaveBodies more entries.now
+            → IsAtRest D.tells D.seen D.may_leave header bodies self.old
+            → LeavesOnly D.moment D.left_since (disk_of self.old) (disk_of self.new)
+            (λ c. IsLog header bodies c ⊎ IsLog header (bodies ++ more) c) }
+        ensures added { OnOk result ((header : List ℕ) (bodies more : List (List ℕ)) → HaveBodies more entries.now
+            → IsAtRest D.tells D.seen D.may_leave header bodies self.old
+            → IsAtRest D.tells D.seen D.may_leave header (bodies ++ more) self.new) }
+        ensures written { OnOk result ((header : List ℕ) (bodies more : List (List ℕ)) → HaveBodies more entries.now
+            → IsAtRest D.tells D.seen D.may_leave header bodies self.old
+            → IsAppended header bodies (D.seen (disk_of self.old))
+            → IsAppended header (bodies ++ more) (D.seen (disk_of self.new))) }
+        ensures idle { HaveBodies [] entries.now → self.new ≡ self.old }
+        ensures error { IfErr result (λ e. IsOfDisk e) }
+        ensures over { over_of self.new ≡ is_err result }
+        ensures cause { HasLogCause (D.faults (disk_of self.old)) (D.faults (disk_of self.new)) result }
+    {
+        let pieces = entries.pieces();
+        if pieces.is_empty() {
+            return Ok(());
+        }
+        match self.add(pieces) {
+            Ok(()) => Ok(()),
+            Err(e) => Err(e),
+        }
     }
 }

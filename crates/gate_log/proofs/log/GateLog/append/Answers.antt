@@ -1,81 +1,22 @@
-use Rattle.std.proofs.Common.{refl}
-use Rattle.gate_log.proofs.Appending.{staged, settled, gated, done, at_rest, written_on}
+use Rattle.std.proofs.Common.{[], ◌∷◌, arith}
 use Rattle.gate_log.proofs.log.GateLog.append.Goals as goal
 
-pub returns-in_err-write_at-clause-any_moment : goal.returns-in_err-write_at-clause-any_moment
-returns-in_err-write_at-clause-any_moment g c header bodies s =
-    staged g.D.Disk.tells g.D.Disk.seen g.D.Disk.may_leave g.D.Disk.moment g.D.Disk.left_since g.met.D.Disk.only_now header bodies
-    c.args.entry.now c.piece-piece.ensures.is_body
-    c.args.self.now.disk c.args.self.now.end s
-    _ _ c.write_at.ensures.crash c.write_at.ensures.time
+pub returns-in-Ok-clause-any_moment : goal.returns-in-Ok-clause-any_moment
+returns-in-Ok-clause-any_moment g c header bodies s =
+    c.add.ensures.any_moment header bodies (c.args.entry.now ∷ [])
+    (record { are_bodies = (c.piece.ensures.is_body, tt); some = omega arith; bytes_are = c.piece.ensures.bytes }) s
 
-pub returns-in_err-sync-clause-any_moment : goal.returns-in_err-sync-clause-any_moment
-returns-in_err-sync-clause-any_moment g c header bodies s =
-    settled g.D.Disk.tells g.D.Disk.seen g.D.Disk.may_leave g.D.Disk.moment g.D.Disk.left_since g.met.D.Disk.only_now header
-    bodies c.args.entry.now c.piece-piece.ensures.is_body
-    c.args.self.now.disk c.args.self.now.end s
-    _ _ c.write_at.ensures.crash c.write_at.ensures.time
-    _ c.sync.ensures.crash c.sync.ensures.time
+pub returns-in-Ok-clause-added : goal.returns-in-Ok-clause-added
+returns-in-Ok-clause-added g c header bodies s =
+    c.in-Ok.ensures.added header bodies (c.args.entry.now ∷ [])
+    (record { are_bodies = (c.piece.ensures.is_body, tt); some = omega arith; bytes_are = c.piece.ensures.bytes }) s
 
-pub returns-in_err-write_at-2-clause-any_moment : goal.returns-in_err-write_at-2-clause-any_moment
-returns-in_err-write_at-2-clause-any_moment g c header bodies s =
-    gated g.D.Disk.tells g.D.Disk.seen g.D.Disk.may_leave g.D.Disk.moment g.D.Disk.left_since g.met.D.Disk.only_now header bodies
-    c.args.entry.now c.piece-piece.ensures.is_body
-    c.args.self.now.disk c.args.self.now.end s
-    _ _ c.write_at.ensures.crash c.write_at.ensures.time
-    _ c.sync.ensures.crash c.sync.ensures.time
-    _ c.piece-piece.ensures.bytes c.in_ok-write_at.ensures.bytes c.write_at.ensures.tells c.sync.ensures.seen
-    c.in_ok-sync.ensures.durable
-    _ c.write_at-2.ensures.crash c.write_at-2.ensures.time
+pub returns-in-Ok-clause-written : goal.returns-in-Ok-clause-written
+returns-in-Ok-clause-written g c header bodies s was =
+    c.in-Ok.ensures.written header bodies (c.args.entry.now ∷ [])
+    (record { are_bodies = (c.piece.ensures.is_body, tt); some = omega arith; bytes_are = c.piece.ensures.bytes }) s was
 
-pub returns-in_err-sync-2-clause-any_moment : goal.returns-in_err-sync-2-clause-any_moment
-returns-in_err-sync-2-clause-any_moment g c header bodies s =
-    done g.D.Disk.tells g.D.Disk.seen g.D.Disk.may_leave g.D.Disk.moment g.D.Disk.left_since g.met.D.Disk.only_now header bodies
-    c.args.entry.now c.piece-piece.ensures.is_body
-    c.args.self.now.disk c.args.self.now.end s
-    _ _ c.write_at.ensures.crash c.write_at.ensures.time
-    _ c.sync.ensures.crash c.sync.ensures.time
-    _ c.piece-piece.ensures.bytes c.in_ok-write_at.ensures.bytes c.write_at.ensures.tells c.sync.ensures.seen
-    c.in_ok-sync.ensures.durable
-    _ c.write_at-2.ensures.crash c.write_at-2.ensures.time
-    _ c.sync-2.ensures.crash c.sync-2.ensures.time
-
-pub returns-clause-any_moment : goal.returns-clause-any_moment
-returns-clause-any_moment g c header bodies s =
-    done g.D.Disk.tells g.D.Disk.seen g.D.Disk.may_leave g.D.Disk.moment g.D.Disk.left_since g.met.D.Disk.only_now header bodies
-    c.args.entry.now c.piece-piece.ensures.is_body
-    c.args.self.now.disk c.args.self.now.end s
-    _ _ c.write_at.ensures.crash c.write_at.ensures.time
-    _ c.sync.ensures.crash c.sync.ensures.time
-    _ c.piece-piece.ensures.bytes c.in_ok-write_at.ensures.bytes c.write_at.ensures.tells c.sync.ensures.seen
-    c.in_ok-sync.ensures.durable
-    _ c.write_at-2.ensures.crash c.write_at-2.ensures.time
-    _ c.sync-2.ensures.crash c.sync-2.ensures.time
-
-pub returns-clause-added : goal.returns-clause-added
-returns-clause-added g c header bodies s =
-    at_rest g.D.Disk.tells g.D.Disk.seen g.D.Disk.may_leave g.D.Disk.moment g.D.Disk.left_since g.met.D.Disk.only_now header
-    bodies c.args.entry.now c.piece-piece.ensures.is_body
-    c.args.self.now.disk c.args.self.now.end s
-    _ _ c.write_at.ensures.crash c.write_at.ensures.time
-    _ c.sync.ensures.crash c.sync.ensures.time
-    _ c.piece-piece.ensures.bytes c.in_ok-write_at.ensures.bytes c.write_at.ensures.tells c.sync.ensures.seen
-    c.in_ok-sync.ensures.durable
-    _ c.write_at-2.ensures.crash c.write_at-2.ensures.time
-    _ c.sync-2.ensures.crash c.sync-2.ensures.time
-    c.sync.ensures.tells c.write_at-2.ensures.tells c.sync-2.ensures.tells c.in_ok-write_at-2.ensures.bytes
-    c.sync-2.ensures.seen _ refl c.in_ok-sync-2.ensures.durable
-
-pub returns-clause-written : goal.returns-clause-written
-returns-clause-written g c header bodies s was =
-    written_on g.D.Disk.tells g.D.Disk.seen g.D.Disk.may_leave g.D.Disk.moment g.D.Disk.left_since g.met.D.Disk.only_now header
-    bodies c.args.entry.now c.piece-piece.ensures.is_body
-    c.args.self.now.disk c.args.self.now.end s
-    _ _ c.write_at.ensures.crash c.write_at.ensures.time
-    _ c.sync.ensures.crash c.sync.ensures.time
-    _ c.piece-piece.ensures.bytes c.in_ok-write_at.ensures.bytes c.write_at.ensures.tells c.sync.ensures.seen
-    c.in_ok-sync.ensures.durable
-    _ c.write_at-2.ensures.crash c.write_at-2.ensures.time
-    _ c.sync-2.ensures.crash c.sync-2.ensures.time
-    c.sync.ensures.tells c.write_at-2.ensures.tells c.sync-2.ensures.tells c.in_ok-write_at-2.ensures.bytes
-    c.sync-2.ensures.seen was
+pub returns-in-Err-clause-any_moment : goal.returns-in-Err-clause-any_moment
+returns-in-Err-clause-any_moment g c header bodies s =
+    c.add.ensures.any_moment header bodies (c.args.entry.now ∷ [])
+    (record { are_bodies = (c.piece.ensures.is_body, tt); some = omega arith; bytes_are = c.piece.ensures.bytes }) s
