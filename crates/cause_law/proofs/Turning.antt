@@ -8,7 +8,7 @@ use Rattle.client_rules.specs.History.{Input, step}
 use Rattle.client_rules.specs.Messages.{Step, finished, on_phase, on_call}
 use Rattle.client_rules.specs.Replies.{replied, timed_out}
 use Rattle.world_history.specs.ClientNames.{Client, CallOp, Call, Held, Due, Need, First, Get, Phase, Starts, Needs, Waits, Reads, Probes, Gathers, Scatters, Outcome, Done, Request}
-use Rattle.history_law.specs.Turns.{IsAnswered, with_start, TurnCases}
+use Rattle.history_law.specs.Turns.{AnswerComes, with_start, TurnCases}
 use Rattle.history_law.proofs.Turns.{each_turn}
 use Rattle.cause_law.specs.Ends.{Says}
 use Rattle.cause_law.proofs.Dealing.{IsOwn, NeedOwn, PhaseOwn, CallOwn, EndOwn, DoneOwn, replied_own, timed_out_own, begins_own, moved_own, need_own}
@@ -102,7 +102,7 @@ pub record IsTold (c : Client) (i : Input) (o : Outcome) : Type 0 where
   pub need : Need
   pub answer : Answer
   pub call_is : c.call ≡ Some (record { op = op; phase = Waits need })
-  pub answered : IsAnswered c i answer
+  pub answered : AnswerComes c i answer
   pub says : Says answer need o
 
 abbrev pub Tells : Client → Input → Outcome → Type 0
@@ -121,7 +121,7 @@ module _ (c : Client) (i : Input) (k : CallOwn c.call) where
   ends : (d : Done) → DoneOwn T d → P (finished d)
   ends d x = finished_own T own d x
 
-  at_phase : (a : Answer) → IsAnswered c i a → (op : CallOp) (p : Phase) → c.call ≡ Some (record { op = op; phase = p })
+  at_phase : (a : Answer) → AnswerComes c i a → (op : CallOp) (p : Phase) → c.call ≡ Some (record { op = op; phase = p })
       → PhaseOwn p → DoneOwn T (on_phase (quiet (record c { outstanding = None })) op p a)
   at_phase a is op (Waits n) e t =
       need_own T own a n (λ o s. inr (record { op = op; need = n; answer = a; call_is = e; answered = is; says = s }))
@@ -133,7 +133,7 @@ module _ (c : Client) (i : Input) (k : CallOwn c.call) where
   at_phase a is op (Gathers io) e t = record { call = k; outcome = tt }
   at_phase a is op (Scatters io queue) e t = record { call = k; outcome = tt }
 
-  at_call : (a : Answer) → IsAnswered c i a → (o : Option Call) → c.call ≡ o
+  at_call : (a : Answer) → AnswerComes c i a → (o : Option Call) → c.call ≡ o
       → DoneOwn T (on_call (quiet (record c { outstanding = None })) o a)
   at_call a is None e = record { call = k; outcome = tt }
   at_call a is (Some call) e = at_phase a is call.op call.phase e (subst CallOwn e k)

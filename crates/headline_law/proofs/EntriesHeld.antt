@@ -14,7 +14,7 @@ use Rattle.client_rules.specs.Steps.{all_due}
 use Rattle.client_rules.proofs.Numbering.{nonces_rise}
 use Rattle.client_rules.proofs.HeldGrants.{held_file}
 use Rattle.world_history.specs.ClientNames.{Client, Call, CallOp, Held, Awaited, Reply, Phase, Starts, Needs, Waits, Reads, Probes, Gathers, Scatters, Turn, Goes, Ends, Forgets, Close, Silent, Lost, Moved, Done}
-use Rattle.history_law.specs.Turns.{with_start, IsReplied, IsAnswered}
+use Rattle.history_law.specs.Turns.{with_start, IsReplied, AnswerComes}
 use Rattle.history_law.proofs.Turns.{each_begin}
 use Rattle.exchange_law.proofs.ClientKeeping.{put_read, without_read}
 use Rattle.fence_law.specs.State.{State, Event, Grant}
@@ -111,7 +111,7 @@ pub record HeldFacts (file : ℕ) (s : State) (c : ℕ) (x : Client) (i : Input)
   pub holding : (h : Held) → held_of x.held file ≡ Some h → HoldsNumber s c h.number
   pub unheld : IsUnheld x i → ⊥
   pub again : i ≡ Resends → ⊥
-  pub answered : (a : Answer) → IsAnswered x i a → (h : Held) →
+  pub answered : (a : Answer) → AnswerComes x i a → (h : Held) →
       held_of (on_call (quiet (record x { outstanding = None })) x.call a).client.held file ≡ Some h →
       HoldsNumber (after_all s (table.answered s file c x a x.outstanding)) c h.number
 

@@ -22,7 +22,7 @@ use Rattle.client_rules.specs.Steps.{all_due}
 use Rattle.client_rules.proofs.Numbering.{nonces_rise}
 use Rattle.world_history.specs.Calm.{returned_in}
 use Rattle.world_history.specs.ClientNames.{Client, Call, CallOp, Held, Due, Need, First, Get, Commit, Report, Close, Phase, Starts, Needs, Waits, Reads, Probes, Gathers, Scatters, Turn, Goes, Ends, Forgets, Moved, Done, Request, TimedOut, Why}
-use Rattle.history_law.specs.Turns.{with_start, IsAnswered, TurnCases}
+use Rattle.history_law.specs.Turns.{with_start, AnswerComes, TurnCases}
 use Rattle.history_law.proofs.Turns.{each_turn, each_begin, each_progress}
 use Rattle.exchange_law.proofs.PlaceGoing.{put_all, found_all}
 
@@ -184,8 +184,8 @@ module _ (P : ℕ → Type 0) (named : (n : ℕ) → P n → P (grant_in (statei
 
   -- P holds of what the client is given
   module _ (x : Client) (i : Input) (k : Known x)
-      (given : (a : Answer) → IsAnswered x i a → (op : CallOp) (h : Held) → taken a op ≡ Ok h → P h.number) where
-    module _ (a : Answer) (q : IsAnswered x i a) where
+      (given : (a : Answer) → AnswerComes x i a → (op : CallOp) (h : Held) → taken a op ≡ Ok h → P h.number) where
+    module _ (a : Answer) (q : AnswerComes x i a) where
       abbrev freed : Done
       freed = quiet (record x { outstanding = None })
 

@@ -41,7 +41,7 @@ pub record IsTimed (c : Client) (i : Input) (k : ℕ) (call : Call) (h : Held) (
     pub awaits : of_component k (awaited_in call.phase) ≡ a ∷ xs
 
 -- the answer to the outstanding request
-pub record IsAnswered (c : Client) (i : Input) (a : Answer) : Type 0 where
+pub record AnswerComes (c : Client) (i : Input) (a : Answer) : Type 0 where
   pub from : Node
   pub message : Message
   pub is : i ≡ Hears from message
@@ -59,7 +59,7 @@ pub record TurnCases (c : Client) (i : Input) (P : Step → Type 0) : Type 0 whe
       → P (record (still c) { outcome = Some (WriteOk 0) })
   pub called : (op : CallOp) → i ≡ Calls op → c.call ≡ None → P (finished (quiet (with_start c op)))
   -- a message is taken
-  pub answered : (a : Answer) → IsAnswered c i a
+  pub answered : (a : Answer) → AnswerComes c i a
       → P (finished (on_call (quiet (record c { outstanding = None })) c.call a))
   pub replied : (drive : ℕ) (q : Reply) (call : Call) (h : Held) (a : Awaited) → IsReplied c i drive q call h a
       → P (finished (moved (quiet c) call.op (replied h call.op call.phase a q)))
