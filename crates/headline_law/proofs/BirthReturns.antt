@@ -145,7 +145,7 @@ module _ (E : ℕ → Type 0) (x : Client) (i : Input) (k : KnownOf E x i) where
   cases = record {
     rests = k.returning;
     nothing = λ op is empty. k.returning;
-    called = λ op is none. finish (quiet (with_start x op)) refl k.returning k.holding;
+    called = λ op is none can. finish (quiet (with_start x op)) refl k.returning k.holding;
     answered = λ a q.
         finish (on_call (quiet (record x { outstanding = None })) x.call a) (answered_asked x a x.call).0
         (λ r out. absurd (cc (sym (answered_asked x a x.call).1 ∙ out))) (answered_held a q x.call refl);

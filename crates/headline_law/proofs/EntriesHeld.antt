@@ -98,7 +98,7 @@ begun_had : (file : ℕ) (d : Done) (j : Held) → held_of (begun d).client.held
 begun_had file d = each_begin d (λ (e : Done). (j : Held) → held_of e.client.held file ≡ Some j → HadOne file d.client.held j)
     (record {
       stays = λ j e. (j, e, refl);
-      needs = λ op n is out j e. (j, e, refl);
+      needs = λ op n is out first j e. (j, e, refl);
       begun = λ op h is held cover j e.
           moved_had d op h held (begins h op) (file_of_moved h (begins h op) (begins_file h op))
           (nonces_rise.begun h op).same file j e;

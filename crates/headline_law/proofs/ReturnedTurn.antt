@@ -172,7 +172,7 @@ module _ (P : ℕ → Type 0) (named : (n : ℕ) → P n → P (grant_in (statei
   begun_known : (d : Done) → Known d.client → Known (begun d).client
   begun_known d k = each_begin d (λ e. Known e.client) (record {
     stays = k;
-    needs = λ op n is out. k;
+    needs = λ op n is out first. k;
     begun = λ op h is held cover. moved_known d op h (begins h op) held (nonces_rise.begun h op).same k;
   })
 
@@ -234,7 +234,7 @@ module _ (P : ℕ → Type 0) (named : (n : ℕ) → P n → P (grant_in (statei
     cases = record {
       rests = k;
       nothing = λ op is empty. k;
-      called = λ op is none. finished_known (quiet (with_start x op)) k;
+      called = λ op is none can. finished_known (quiet (with_start x op)) k;
       answered = λ a q.
           finished_known (on_call (quiet (record x { outstanding = None })) x.call a) (answered_known a q x.call);
       replied = λ drive q call h a r.

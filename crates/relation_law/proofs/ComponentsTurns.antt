@@ -127,7 +127,7 @@ module _ (file used : ℕ) (owner : ℕ → ℕ) where
 
   finishes : FinishCases DoneOver
   finishes = record {
-    needs = λ d op n k is out. record { held = k.held; sent = k.sent };
+    needs = λ d op n k is out first. record { held = k.held; sent = k.sent };
     begun = λ d op h k is held cover.
         moved_over d op h (begins h op) [] held (nonces_rise.begun h op) (begins_kept h op) (begins_well h [] op) k;
     asks = λ d op n h k is out held. asks_over d op n h k;
@@ -237,7 +237,7 @@ module _ (file used : ℕ) (owner : ℕ → ℕ) where
     cases = record {
       rests = λ n y j. absurd j;
       nothing = λ op is none n y j. absurd j;
-      called = λ op is none. finished_over old (quiet (with_start x op)) (rested (with_start x op) refl);
+      called = λ op is none can. finished_over old (quiet (with_start x op)) (rested (with_start x op) refl);
       answered = λ a q. finished_over old (on_call (quiet (record x { outstanding = None })) x.call a)
           (answered_over x a k (new a q) x.call refl);
       replied = λ drive q call h a r.

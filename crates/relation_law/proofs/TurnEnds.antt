@@ -316,14 +316,14 @@ module _ (file : ℕ) (m : RawMap) (c : ℕ) (s : State) (x : Client) (slot : Op
     begun_fine : FineDone Any (begun d)
     begun_fine = each_begin d (FineDone Any) (record {
       stays = fine_done;
-      needs = λ op n is out. (finishes Any).needs d op n fine_done is out;
+      needs = λ op n is out first. (finishes Any).needs d op n fine_done is out first;
       begun = λ op h is held cover. (finishes Any).begun d op h fine_done is held cover;
     })
 
     begun_next : (begun d).client.next ≡ d.client.next
     begun_next = each_begin d (λ (e : Done). e.client.next ≡ d.client.next) (record {
       stays = refl;
-      needs = λ op n is out. refl;
+      needs = λ op n is out first. refl;
       begun = λ op h is held cover. turn_next (record (with_held d (begins h op).held) { commands = (begins h op).sent }) op
           (begins h op).turn refl;
     })
