@@ -28,7 +28,7 @@ use Rattle.history_law.specs.Doing.{ServerMoves}
 use Rattle.history_law.specs.Grants.{GrantsAreSafe}
 use Rattle.history_law.specs.Read.{BookIsRead, StepIsRead}
 use Rattle.history_law.proofs.Ending.{next_moment}
-use Rattle.cause_law.specs.Answers.{IsCaused, IsNew, answer_line, IsAnswered, AnswersIt, EachRequestIsAnswered}
+use Rattle.cause_law.specs.Answers.{IsCaused, IsNew, answer_line, EndsInAnswer, AnswersIt, EachRequestIsAnswered}
 use Rattle.cause_law.proofs.Causing.{Answered, request_answered}
 use Rattle.cause_law.proofs.CauseInputs.{IsMoved, IsShown, at_inputs}
 
@@ -149,7 +149,7 @@ module _ (exact : ConflictsAreExact) (put : FilesArePut) (safe : GrantsAreSafe) 
               ∙ ap (λ (ls : List Line). with_event m.action (a.told ++ ls)) r.2 ∙ e.1,
         )
 
-    line_answered : IsAnswered (h ++ front) l now q after
+    line_answered : EndsInAnswer (h ++ front) l now q after
     line_answered =
         let r = last_behind l (answer_line ended.1 answered.answer) (none_head l ended.1 answered.answer moved.head) front after
         ended.0 (sym is ∙ ended.2) in

@@ -11,15 +11,16 @@ use Rattle.layout_ops.specs.declared.args.Args.TheVariants as args
 use Rattle.layout_ops.specs.Spelling.{ArgsFits}
 use Rattle.client_rules.specs.declared.limits.TheConstants.{MAX_CALL}
 use Rattle.client_rules.specs.Calls.{file_of, span_of, is_write}
-use Rattle.client_rules.specs.Grants.{covers, held_of, without_held}
+use Rattle.client_rules.specs.Grants.{held_of, without_held}
 use Rattle.client_rules.specs.Requests.{get_args, commit_args, return_args, args_of, plain_update}
-use Rattle.client_rules.specs.Going.{phased, over, with_held, by_turn, moved, begins, starts_with, starts_under, starts_at, starts_call, begun, held_after, requests, asks_under, is_held, returns, returns_due, progress_phase, progress_call, progress_free, progressed}
+use Rattle.client_rules.specs.Going.{phased, over, with_held, by_turn, moved, begins, begun, held_after, requests, asks_under, is_held, returns, progressed}
 use Rattle.client_rules.specs.Messages.{finished}
-use Rattle.world_history.specs.ClientNames.{Client, Call, CallOp, Held, Due, IoErr, Need, First, Get, Commit, Report, Close, Phase, Starts, Needs, Waits, Reads, Probes, Gathers, Scatters, Outcome, Turn, Goes, Ends, Forgets, Moved, Done, Request}
+use Rattle.world_history.specs.ClientNames.{Client, Call, CallOp, Held, Due, IoErr, Need, First, Get, Commit, Report, Close, Phase, Needs, Waits, Outcome, Turn, Goes, Ends, Forgets, Moved, Done, Request}
 use Rattle.exchange_law.proofs.PlaceGoing.{put_all, found_all}
 use Rattle.cause_law.specs.Reports.{IsShort}
 use Rattle.exchange_law.proofs.Kept.{begins_kept}
 use Rattle.exchange_law.proofs.Answering.{rw_fits}
+use Rattle.history_law.proofs.Turns.{each_begin, each_progress}
 
 -- ---- what is small
 
@@ -129,11 +130,6 @@ found_is p (x ∷ us) u e = either (p x) refl (λ d. found_is p us u d) e
 
 -- ---- what becomes of a call
 
-pub either_small : (b : Bool) (d e : Done) → ClientSmall d.client → ClientSmall e.client
-    → ClientSmall (if b then d else e).client
-either_small true d e k l = k
-either_small false d e k l = l
-
 pub phased_small : (d : Done) (op : CallOp) (p : Phase) → IsSmall op → ClientSmall d.client
     → ClientSmall (phased d op p).client
 phased_small d op p s k = record { helds = k.helds; call = s; outstanding = k.outstanding }
@@ -168,35 +164,14 @@ moved_small d op h m s found same k =
 
 -- ---- a call begins
 
-with_small : (d : Done) (op : CallOp) (n : Need) (o : Option Request) → IsSmall op → ClientSmall d.client
-    → ClientSmall (starts_with d op n o).client
-with_small d op n None s k = phased_small d op (Needs n) s k
-with_small d op n (Some r) s k = k
-
-under_small : (d : Done) (op : CallOp) (o : Option Held) → held_of d.client.held (file_of op) ≡ o → IsSmall op
-    → ClientSmall d.client → ClientSmall (starts_under d op o).client
-under_small d op None found s k = with_small d op (Get 0) d.client.outstanding s k
-under_small d op (Some h) found s k =
-    either_small (covers h op) _ _ (moved_small d op h (begins h op) s found (begins_kept h op).file k)
-    (with_small d op First d.client.outstanding s k)
-
-at_small : (d : Done) (op : CallOp) (p : Phase) → IsSmall op → ClientSmall d.client
-    → ClientSmall (starts_at d op p).client
-at_small d op Starts s k = under_small d op (held_of d.client.held (file_of op)) refl s k
-at_small d op (Needs n) s k = k
-at_small d op (Waits n) s k = k
-at_small d op (Reads io) s k = k
-at_small d op (Probes io) s k = k
-at_small d op (Gathers io) s k = k
-at_small d op (Scatters io queue) s k = k
-
-call_small : (d : Done) (o : Option Call) → CallSmall o → ClientSmall d.client → ClientSmall (starts_call d o).client
-call_small d None s k = k
-call_small d (Some call) s k = at_small d call.op call.phase s k
-
 begun_small : (d : Done) → ClientSmall d.client → ClientSmall (begun d).client
-unfolding begun
-begun_small d k = call_small d d.client.call k.call k
+begun_small d k =
+    each_begin d (λ e. ClientSmall e.client) (record {
+      stays = k;
+      needs = λ op n is out first. phased_small d op (Needs n) (subst CallSmall is k.call) k;
+      begun = λ op h is held covered.
+          moved_small d op h (begins h op) (subst CallSmall is k.call) held (begins_kept h op).file k;
+    })
 
 -- ---- a request goes out
 
@@ -225,29 +200,16 @@ returns_small d (Some u) found k =
     (held_file d.client.held u k.helds (found_is (is_held d.client.held) d.client.due u found))
     (return_small u.number []) (record { helds = k.helds; call = k.call; outstanding = k.outstanding })
 
-due_small : (d : Done) → ClientSmall d.client → ClientSmall (returns_due d).client
-unfolding returns_due
-due_small d k = either_small (d.client.next == 0) _ _ k (returns_small d _ refl k)
-
-phase_small : (d : Done) (op : CallOp) (p : Phase) → IsSmall op → ClientSmall d.client
-    → ClientSmall (progress_phase d op p).client
-phase_small d op (Needs n) s k = asks_small d op n _ s k
-phase_small d op Starts s k = k
-phase_small d op (Waits n) s k = k
-phase_small d op (Reads io) s k = k
-phase_small d op (Probes io) s k = k
-phase_small d op (Gathers io) s k = k
-phase_small d op (Scatters io queue) s k = k
-
-progress_small : (d : Done) (o : Option Call) → CallSmall o → ClientSmall d.client
-    → ClientSmall (progress_call d o).client
-progress_small d None s k = due_small d k
-progress_small d (Some call) s k = phase_small d call.op call.phase s k
-
-free_small : (d : Done) (o : Option Request) → ClientSmall d.client → ClientSmall (progress_free d o).client
-free_small d None k = progress_small d d.client.call k.call k
-free_small d (Some r) k = k
+progressed_small : (d : Done) → ClientSmall d.client → ClientSmall (progressed d).client
+progressed_small d k =
+    each_progress d (λ e. ClientSmall e.client) (record {
+      waits = λ r out. k;
+      works = λ call is out. k;
+      spent = λ none out zero. k;
+      asks = λ op n h is out held. asks_small d op n h (subst CallSmall is k.call) k;
+      gives_back = λ u none out some found. returns_small d u found k;
+    })
 
 pub finished_small : (d : Done) → ClientSmall d.client → ClientSmall (finished d).client
-unfolding finished progressed
-finished_small d k = free_small (begun d) (begun d).client.outstanding (begun_small d k)
+unfolding finished
+finished_small d k = progressed_small (begun d) (begun_small d k)

@@ -71,8 +71,8 @@ parted_step s chosen i below parted x y j k a b p q e =
       ]
     ]
 
-abbrev Kept : World → List Line → Type 0
-Kept w h = Numbers w × AreParted w.server.files
+abbrev IsNumberedAndParted : World → List Line → Type 0
+IsNumberedAndParted w h = Numbers w × AreParted w.server.files
 
 module _ (moves : ServerMoves) where
   parted_move : (w : World) (m : Move) → Numbers w → AreParted w.server.files → AreParted (move w m).world.server.files
@@ -83,9 +83,9 @@ module _ (moves : ServerMoves) where
       by None = parted
       by (Some i) = parted_step w.server m.chosen i (below_of w n) parted
 
-  pub kept_at : OneEventMore → (w : World) (h : List Line) → IsMoment w h → Kept w h
+  pub kept_at : OneEventMore → (w : World) (h : List Line) → IsMoment w h → IsNumberedAndParted w h
   kept_at more w h k =
-      always Kept (record {
+      always IsNumberedAndParted (record {
         starts = (numbers_first, λ x y i. absurd i);
         moves = λ v g at m d p. (numbers_move v m p.0, parted_move v m p.0 p.1);
       }) more w h k

@@ -388,7 +388,7 @@ pub step_awaits : (c : Client) (i : Input) → Awaits c → Awaits (step c i).cl
 step_awaits c i k = each_turn c i (λ (s : Step). Awaits s.client) (record {
   rests = k;
   nothing = λ op is none. k;
-  called = λ op is none. finished_awaits (quiet (with_start c op)) tt;
+  called = λ op is none can. finished_awaits (quiet (with_start c op)) tt;
   answered = λ a is.
       finished_awaits (on_call (quiet (record c { outstanding = None })) c.call a)
       (call_may (quiet (record c { outstanding = None })) c.call a refl);

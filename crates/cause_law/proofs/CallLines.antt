@@ -16,7 +16,7 @@ use Rattle.world_history.specs.declared.messages.Sent.{Sent}
 use Rattle.world_history.specs.Spelled.{node_of}
 use Rattle.world_history.specs.Moves.{op_of}
 use Rattle.cause_law.specs.Met.{Met, met_after, grant_under, failure_in}
-use Rattle.cause_law.specs.Caused.{failure_of, IsWhole, call_in}
+use Rattle.cause_law.specs.Caused.{failure_of, WritesAll, call_in}
 use Rattle.cause_law.specs.ReadClients.{went, goes, called_as, called, left, halted, hears_read, hears, is_client, hears_sent, where_it_is, client_after_event, client_after_line}
 use Rattle.cause_law.specs.ReadCalls.{call_input, only_for, event_input, read_input, sent_input, line_input, LastStep, stepped, after_input, CallSeen, sees_call, call_seen}
 use Rattle.cause_law.proofs.Steps.{IsTraced, Told}
@@ -167,7 +167,7 @@ pub record IsEnd (t : LastStep) (o : Outcome) : Type 0 where
   pub op : CallOp
   pub call : t.call ≡ Some op
   pub cause : failure_in (grant_under t.held op t.met) op t.met ≡ failure_of o
-  pub whole : IsWhole op o
+  pub whole : WritesAll op o
 
 -- and what the pending call has met is what its state says
 record IsRight (s : CallSeen) : Type 0 where

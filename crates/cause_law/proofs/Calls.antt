@@ -27,7 +27,7 @@ use Rattle.cause_law.specs.Calls.{EndsAt, CallsEndSo}
 abbrev Roomy : List Line → Line → Type 0
 Roomy before l = unguessed before ≡ true → HasRoom before l
 
-few_enough : (before : List Line) → AreFew before → refusal.AreFew before
+few_enough : (before : List Line) → AreFew before → refusal.AreFewerThanNonces before
 few_enough before few = omega (arith, few)
 
 ends_so : (before : List Line) (l : Line) → held.EndsAt before l → EndsRightlyAt before l → Roomy before l

@@ -27,7 +27,7 @@ use Rattle.component_law.proofs.Given.{taken_gives}
 use Rattle.exchange_law.specs.InStep.{state_of}
 use Rattle.exchange_law.specs.Taking.{AnswersAreOwn, TakesOwn}
 use Rattle.exchange_law.proofs.Granted.{taken_covers}
-use Rattle.exchange_law.specs.Awaited.{AreFew}
+use Rattle.exchange_law.specs.Awaited.{AreFewerThanNonces}
 use Rattle.exchange_law.specs.RefusalNonces.{GrantsAreLater}
 use Rattle.exchange_law.proofs.Fewer.{few_front}
 use Rattle.exchange_law.specs.Calls.{Knows, IsNoGet, PhaseFine, CallFine}
@@ -204,7 +204,7 @@ module _ (more : OneEventMore) (own : AnswersAreOwn) (agree : ClientsAgree) (w :
   old_held file j e =
       s.helds c file j (ap (λ (o : Option ClientAt). held_of (state_of c o).held file) found ∙ e)
 
-  new_one : EachObjectIsOwned → GrantsAreLater → AreFew h → IsNew w c a.state.held g
+  new_one : EachObjectIsOwned → GrantsAreLater → AreFewerThanNonces h → IsNew w c a.state.held g
   new_one owners later few =
       let o = owners s.run in
       let after =
@@ -234,4 +234,4 @@ module _ (more : OneEventMore) (own : AnswersAreOwn) (agree : ClientsAgree) (w :
 pub grants_are_fresh : OneEventMore → AnswersAreOwn → ClientsAgree → EachObjectIsOwned → GrantsAreLater → GrantsAreFresh
 grants_are_fresh more own agree owners later h t few w before after is k c a found g can =
     new_one more own agree w before k (readable_fronts before after (subst IsReadableThrough is t)) c a found g can
-    owners later (few_front before after (subst AreFew is few))
+    owners later (few_front before after (subst AreFewerThanNonces is few))

@@ -1,13 +1,13 @@
 -- A client in the middle of a step: what it holds has few components, and what it asks the server is short.
-use Rattle.std.proofs.Common.{◌≡◌, ℕ, Bool, true, false, List, [], Option, Some, None, refl, if◌then◌else◌}
+use Rattle.std.proofs.Common.{◌≡◌, ℕ, List, [], Option, Some, None, refl, subst}
 use Rattle.std.specs.List.{AllByRecursion}
 use Rattle.layout_ops.specs.declared.args.Args.{Args}
 use Rattle.layout_ops.specs.declared.args.Args.TheVariants as args
-use Rattle.cause_law.specs.State.{Client, Call, CallOp, Held, Due, Need, First, Get, Commit, Report, Close, Phase, Starts, Needs, Waits, Reads, Probes, Gathers, Scatters, Turn, Goes, Ends, Forgets, Moved, Done, Request, IoErr}
+use Rattle.cause_law.specs.State.{Client, Call, CallOp, Held, Due, Need, First, Get, Commit, Report, Close, Turn, Goes, Ends, Forgets, Moved, Done, Request, IoErr}
 use Rattle.client_rules.specs.Calls.{file_of}
-use Rattle.client_rules.specs.Grants.{covers, held_of, without_held}
+use Rattle.client_rules.specs.Grants.{held_of, without_held}
 use Rattle.client_rules.specs.Requests.{get_args, args_of, return_args, report_of}
-use Rattle.client_rules.specs.Going.{with_held, by_turn, moved, begins, starts_with, starts_under, starts_at, starts_call, begun, held_after, requests, asks_under, returns, returns_due, progress_phase, progress_call, progress_free, progressed}
+use Rattle.client_rules.specs.Going.{with_held, by_turn, moved, begins, held_after, requests, asks_under, returns}
 use Rattle.client_rules.specs.Messages.{finished}
 use Rattle.exchange_law.proofs.PlaceGoing.{put_all, found_all}
 use Rattle.exchange_law.proofs.Parts.{each_filtered}
@@ -17,6 +17,8 @@ use Rattle.cause_law.proofs.Lengths as lengths
 use Rattle.cause_law.proofs.Reported.{get_read, commit_read, return_read}
 use Rattle.cause_law.proofs.Moving.{HeldShort, NeedShort, PhaseShort, TurnShort, MovedShort, report_short, none_short}
 use Rattle.cause_law.proofs.Timing.{begins_short}
+use Rattle.history_law.specs.Turns.{IsFirstNeed, FinishCases}
+use Rattle.history_law.proofs.Turns.{each_finish}
 
 -- ---- a client between steps
 
@@ -69,10 +71,6 @@ found_short hs file k = found_as hs file (held_of hs file) refl k
 
 -- ---- what becomes of a call
 
-pub either_done : (b : Bool) (d e : Done) → DoneShort d → DoneShort e → DoneShort (if b then d else e)
-either_done true d e k l = k
-either_done false d e k l = l
-
 pub by_turn_short : (d : Done) (op : CallOp) (t : Turn) → AllByRecursion HeldShort d.client.held
     → RequestShort d.client.outstanding → TurnShort t → DoneShort (by_turn d op t)
 by_turn_short d op (Goes p) k r t = record { helds = k; call = t; request = r }
@@ -87,39 +85,6 @@ pub moved_short : (d : Done) (op : CallOp) (m : Moved) → DoneShort d → Moved
 moved_short d op m k l =
     by_turn_short (record (with_held d m.held) { commands = m.sent }) op m.turn
     (put_all HeldShort d.client.held m.held k.helds l.held) k.request l.turn
-
--- ---- a call begins
-
-starts_with_short : (d : Done) (op : CallOp) (n : Need) (o : Option Request) → NeedShort n → DoneShort d
-    → DoneShort (starts_with d op n o)
-starts_with_short d op n None s k = record { helds = k.helds; call = s; request = k.request }
-starts_with_short d op n (Some r) s k = k
-
-starts_under_short : (d : Done) (op : CallOp) (o : Option Held) → DoneShort d → FoundShort o
-    → DoneShort (starts_under d op o)
-starts_under_short d op None k f = starts_with_short d op (Get 0) d.client.outstanding tt k
-starts_under_short d op (Some h) k f =
-    either_done (covers h op) _ _ (moved_short d op (begins h op) k (begins_short h f op))
-    (starts_with_short d op First d.client.outstanding tt k)
-
-starts_at_short : (d : Done) (op : CallOp) (p : Phase) → DoneShort d → DoneShort (starts_at d op p)
-starts_at_short d op Starts k =
-    starts_under_short d op (held_of d.client.held (file_of op)) k
-    (found_short d.client.held (file_of op) k.helds)
-starts_at_short d op (Needs n) k = k
-starts_at_short d op (Waits n) k = k
-starts_at_short d op (Reads io) k = k
-starts_at_short d op (Probes io) k = k
-starts_at_short d op (Gathers io) k = k
-starts_at_short d op (Scatters io queue) k = k
-
-starts_call_short : (d : Done) (o : Option Call) → DoneShort d → DoneShort (starts_call d o)
-starts_call_short d None k = k
-starts_call_short d (Some call) k = starts_at_short d call.op call.phase k
-
-begun_short : (d : Done) → DoneShort d → DoneShort (begun d)
-unfolding begun
-begun_short d k = starts_call_short d d.client.call k
 
 -- ---- a request goes out
 
@@ -157,29 +122,31 @@ returns_short d (Some u) k = record {
   request = return_short u.number [] none_short;
 }
 
-due_short : (d : Done) → DoneShort d → DoneShort (returns_due d)
-unfolding returns_due
-due_short d k = either_done _ _ _ k (returns_short d _ k)
+-- ---- to the end of a step
 
-progress_phase_short : (d : Done) (op : CallOp) (p : Phase) → PhaseShort p → DoneShort d
-    → DoneShort (progress_phase d op p)
-progress_phase_short d op (Needs n) s k =
-    asks_short d op n (held_of d.client.held (file_of op)) s k (found_short d.client.held (file_of op) k.helds)
-progress_phase_short d op Starts s k = k
-progress_phase_short d op (Waits n) s k = k
-progress_phase_short d op (Reads io) s k = k
-progress_phase_short d op (Probes io) s k = k
-progress_phase_short d op (Gathers io) s k = k
-progress_phase_short d op (Scatters io queue) s k = k
+first_short : (op : CallOp) (n : Need) (o : Option Held) → IsFirstNeed op n o → NeedShort n
+first_short op First o first = tt
+first_short op (Get tries) o first = tt
+first_short op (Commit timed) o first = absurd first
+first_short op (Report timed) o first = absurd first
+first_short op (Close u report) o first = absurd first
 
-progress_call_short : (d : Done) (o : Option Call) → CallShort o → DoneShort d → DoneShort (progress_call d o)
-progress_call_short d None s k = due_short d k
-progress_call_short d (Some call) s k = progress_phase_short d call.op call.phase s k
+held_short : (d : Done) (op : CallOp) (h : Option Held) → held_of d.client.held (file_of op) ≡ h → DoneShort d → FoundShort h
+held_short d op h held k = subst FoundShort held (found_short d.client.held (file_of op) k.helds)
 
-progress_free_short : (d : Done) (o : Option Request) → DoneShort d → DoneShort (progress_free d o)
-progress_free_short d None k = progress_call_short d d.client.call k.call k
-progress_free_short d (Some r) k = k
+kept : FinishCases DoneShort
+kept = record {
+  needs = λ d op n k is out first. record {
+    helds = k.helds;
+    call = first_short op n (held_of d.client.held (file_of op)) first;
+    request = k.request;
+  };
+  begun = λ d op h k is held covered.
+      moved_short d op (begins h op) k (begins_short h (held_short d op (Some h) held k) op);
+  asks = λ d op n h k is out held. asks_short d op n h (subst CallShort is k.call) k (held_short d op h held k);
+  gives_back = λ d u k none out. returns_short d u k;
+}
 
 pub finished_short : (d : Done) → DoneShort d → ClientShort (finished d).client
-unfolding finished progressed
-finished_short d k = progress_free_short (begun d) (begun d).client.outstanding (begun_short d k)
+unfolding finished
+finished_short d k = each_finish DoneShort kept d k

@@ -238,7 +238,7 @@ returns_made d (Some u) none k = record {
 finished_made : (d : Done) → DoneMade d → ClientMade (finished d).client
 unfolding finished
 finished_made d k = each_finish DoneMade (record {
-  needs = λ d op n k is out. phased_made d op (Needs n) k.grants (λ h m. (tt, tt));
+  needs = λ d op n k is out first. phased_made d op (Needs n) k.grants (λ h m. (tt, tt));
   begun = λ d op h k is held covers.
       moved_made d op h (begins h op) k.grants held
       (begins_made h (span_of op).length (k.grants (file_of op) h held).checked op (omega arith));
@@ -255,7 +255,7 @@ pub step_made : (c : Client) (i : Input) → ClientMade c → ClientMade (step c
 step_made c i k = each_turn c i (λ s. ClientMade s.client) (record {
   rests = k;
   nothing = λ op is none. k;
-  called = λ op is none. finished_made _ (phased_made (quiet c) op Starts k.grants (λ h n. (tt, tt)));
+  called = λ op is none can. finished_made _ (phased_made (quiet c) op Starts k.grants (λ h n. (tt, tt)));
   answered = λ a is. finished_made _ (on_call_made (quiet (record c { outstanding = None })) c.call a
       (record { grants = k.grants; call = k.call }));
   replied = λ drive q call h a is. finished_made _

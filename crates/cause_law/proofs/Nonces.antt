@@ -1,23 +1,25 @@
 -- A client in the middle of a step: the nonces of what it sends lie among those of its grants.
 use Rattle.std.specs.List.{AllByRecursion}
-use Rattle.std.proofs.Common.{◌≡◌, ◌==◌, ℕ, ◌+◌, ◌^◌, ◌≤◌, ◌<◌, ◌++◌, Bool, true, false, List, [], ◌∷◌, Option, Some, None, length, map, refl, sym, ap, subst, arith, inl, inr, if◌then◌else◌}
+use Rattle.std.proofs.Common.{◌≡◌, ◌==◌, ℕ, ◌+◌, ◌^◌, ◌≤◌, ◌<◌, ◌++◌, List, [], ◌∷◌, Option, Some, None, length, map, sym, ap, subst, arith, inl, inr}
 use Rattle.std.proofs.lemmas.Bool.{cases_Bool}
 use Rattle.std.proofs.lemmas.List.{length-append, length-map}
 use Rattle.layout_ops.specs.declared.args.Args.{Args}
 use Rattle.layout_ops.specs.declared.args.Args.TheVariants as args
 use Rattle.client_rules.specs.Calls.{file_of}
 use Rattle.client_rules.specs.Commands.{nonce_at}
-use Rattle.client_rules.specs.Grants.{covers, held_of, without_held}
+use Rattle.client_rules.specs.Grants.{held_of, without_held}
 use Rattle.client_rules.specs.Laws.{nonce_of, IsNumbered}
 use Rattle.client_rules.specs.Requests.{get_args, args_of, return_args}
-use Rattle.client_rules.specs.Going.{with_held, by_turn, moved, begins, starts_with, starts_under, starts_at, starts_call, begun, held_after, requests, asks_under, returns, returns_due, progress_phase, progress_call, progress_free, progressed}
+use Rattle.client_rules.specs.Going.{with_held, by_turn, moved, begins, begun, held_after, requests, asks_under, returns, progressed}
 use Rattle.client_rules.specs.Messages.{Step, to_drive, sends_of, closed, finished}
 use Rattle.client_rules.proofs.Numbering.{nonces_rise}
 use Rattle.exchange_law.proofs.Rising.{Each, each_range}
-use Rattle.history_law.specs.State.{Call, CallOp, Held, Due, Awaited, Need, First, Get, Phase, Starts, Needs, Waits, Reads, Probes, Gathers, Scatters, Turn, Goes, Ends, Forgets, Moved, Done, Outgoing, AnswersRecall, Asks, ToDrive, Request, RecallAnswer}
+use Rattle.history_law.specs.State.{CallOp, Held, Due, Awaited, Need, Turn, Goes, Ends, Forgets, Moved, Done, Outgoing, AnswersRecall, Asks, ToDrive, Request, RecallAnswer}
 use Rattle.exchange_law.proofs.PlaceGoing.{put_all, found_all}
 use Rattle.exchange_law.proofs.CountAsking.{HeldsCount, FoundCounts, found_counts, put_counts, IsAnew}
 use Rattle.exchange_law.proofs.Settled.{BeginsAnew, IsSettled, begins_settled}
+use Rattle.history_law.specs.Turns.{IsBeginning}
+use Rattle.history_law.proofs.Turns.{each_begin, each_progress}
 
 -- ---- nonces
 
@@ -78,14 +80,6 @@ pub record IsLeft (n : ℕ) (d : Done) : Type 0 where
 left : (n : ℕ) (d : Done) → DoneLow n d → IsLeft n d
 left n d k = record { named = k.named; sent = k.sent }
 
-pub either_low : (n : ℕ) (b : Bool) (d e : Done) → DoneLow n d → DoneLow n e → DoneLow n (if b then d else e)
-either_low n true d e k l = k
-either_low n false d e k l = l
-
-either_left : (n : ℕ) (b : Bool) (d e : Done) → IsLeft n d → IsLeft n e → IsLeft n (if b then d else e)
-either_left n true d e k l = k
-either_left n false d e k l = l
-
 pub turn_low : (n : ℕ) (d : Done) (op : CallOp) (t : Turn) → AreNamed d.client.held
     → AreLow (n + length d.commands) d.commands → (BeginsAnew t → HeldsCount n d.client.held)
     → DoneLow n (by_turn d op t)
@@ -108,41 +102,21 @@ moved_low n d op h m k counts named low is settled =
 
 -- ---- a call begins
 
-with_left : (n : ℕ) (d : Done) (op : CallOp) (x : Need) (o : Option Request) → IsLeft n d
-    → IsLeft n (starts_with d op x o)
-with_left n d op x None k = record { named = k.named; sent = k.sent }
-with_left n d op x (Some r) k = k
-
-under_left : (n : ℕ) (d : Done) (op : CallOp) (o : Option Held) → held_of d.client.held (file_of op) ≡ o
-    → HeldsCount n d.client.held → FoundCounts n o → IsLeft n d → IsLeft n (starts_under d op o)
-under_left n d op None found counts low k = with_left n d op (Get 0) d.client.outstanding k
-under_left n d op (Some h) found counts low k =
-    let own = found_all IsNamed d.client.held (file_of op) h k.named found in
-    either_left n (covers h op) _ _
-    (left n _ (moved_low n d op h (begins h op) k.named counts own.0 low (nonces_rise.begun h op)
-    (begins_settled h op)))
-    (with_left n d op First d.client.outstanding k)
-
-at_left : (n : ℕ) (d : Done) (op : CallOp) (p : Phase) → (BeginsAnew (Goes p) → HeldsCount n d.client.held)
-    → IsLeft n d → IsLeft n (starts_at d op p)
-at_left n d op Starts anew k =
-    under_left n d op (held_of d.client.held (file_of op)) refl (anew tt)
-    (found_counts n d.client.held (file_of op) (anew tt)) k
-at_left n d op (Needs x) anew k = k
-at_left n d op (Waits x) anew k = k
-at_left n d op (Reads io) anew k = k
-at_left n d op (Probes io) anew k = k
-at_left n d op (Gathers io) anew k = k
-at_left n d op (Scatters io queue) anew k = k
-
-call_left : (n : ℕ) (d : Done) (o : Option Call) → (IsAnew o → HeldsCount n d.client.held) → IsLeft n d
-    → IsLeft n (starts_call d o)
-call_left n d None anew k = k
-call_left n d (Some call) anew k = at_left n d call.op call.phase anew k
+begins_left : (n : ℕ) (d : Done) (op : CallOp) (h : Held) → held_of d.client.held (file_of op) ≡ Some h → IsBeginning d.client op
+    → DoneLow n d → IsLeft n (moved d op (begins h op))
+begins_left n d op h held is k =
+    let counts : HeldsCount n d.client.held = k.anew (subst IsAnew (sym is) tt) in
+    let own = found_all IsNamed d.client.held (file_of op) h k.named held in
+    let low : h.count ≤ n = subst (FoundCounts n) held (found_counts n d.client.held (file_of op) counts) in
+    left n _ (moved_low n d op h (begins h op) k.named counts own.0 low (nonces_rise.begun h op) (begins_settled h op))
 
 begun_left : (n : ℕ) (d : Done) → DoneLow n d → IsLeft n (begun d)
-unfolding begun
-begun_left n d k = call_left n d d.client.call k.anew (left n d k)
+begun_left n d k =
+    each_begin d (IsLeft n) (record {
+      stays = left n d k;
+      needs = λ op x is out first. record { named = k.named; sent = k.sent };
+      begun = λ op h is held covered. begins_left n d op h held is k;
+    })
 
 -- ---- a request goes out
 
@@ -161,26 +135,15 @@ returns_left n d None k = record { named = k.named; sent = k.sent }
 returns_left n d (Some u) k =
     requests_left n _ u.file (return_args u.number []) (record { named = k.named; sent = k.sent })
 
-due_left : (n : ℕ) (d : Done) → IsLeft n d → IsLeft n (returns_due d)
-unfolding returns_due
-due_left n d k = either_left n _ _ _ k (returns_left n d _ k)
-
-phase_left : (n : ℕ) (d : Done) (op : CallOp) (p : Phase) → IsLeft n d → IsLeft n (progress_phase d op p)
-phase_left n d op (Needs x) k = asks_left n d op x _ k
-phase_left n d op Starts k = k
-phase_left n d op (Waits x) k = k
-phase_left n d op (Reads io) k = k
-phase_left n d op (Probes io) k = k
-phase_left n d op (Gathers io) k = k
-phase_left n d op (Scatters io queue) k = k
-
-progress_left : (n : ℕ) (d : Done) (o : Option Call) → IsLeft n d → IsLeft n (progress_call d o)
-progress_left n d None k = due_left n d k
-progress_left n d (Some call) k = phase_left n d call.op call.phase k
-
-free_left : (n : ℕ) (d : Done) (o : Option Request) → IsLeft n d → IsLeft n (progress_free d o)
-free_left n d None k = progress_left n d d.client.call k
-free_left n d (Some r) k = k
+progressed_left : (n : ℕ) (d : Done) → IsLeft n d → IsLeft n (progressed d)
+progressed_left n d k =
+    each_progress d (IsLeft n) (record {
+      waits = λ r out. k;
+      works = λ call is out. k;
+      spent = λ none out zero. k;
+      asks = λ op x h is out held. asks_left n d op x h k;
+      gives_back = λ u none out some found. returns_left n d u k;
+    })
 
 -- ---- what is sent
 
@@ -226,5 +189,5 @@ closed_low n d k = record {
 }
 
 pub finished_low : (n : ℕ) (d : Done) → DoneLow n d → StepLow n (finished d)
-unfolding finished progressed
-finished_low n d k = closed_low n _ (free_left n (begun d) (begun d).client.outstanding (begun_left n d k))
+unfolding finished
+finished_low n d k = closed_low n _ (progressed_left n (begun d) (begun_left n d k))

@@ -20,7 +20,7 @@ use Rattle.client_rules.proofs.Apart.{IsIn}
 use Rattle.client_rules.proofs.ReadMoves.{found_in}
 use Rattle.cause_law.specs.Met as met
 use Rattle.cause_law.specs.Met.{Met, Answered, Replied, since, with_answer, with_taken, with_timeout, with_silence, met_after, met_by, busy_in, last_busy, timed_in, grant_under, cut_short, lost_under, first_refusal, first_beyond, as_lost}
-use Rattle.cause_law.specs.Caused.{IsWhole, call_in, client_by, call_met, IsCaused, OutcomesAreCaused}
+use Rattle.cause_law.specs.Caused.{WritesAll, call_in, client_by, call_met, IsCaused, OutcomesAreCaused}
 use Rattle.cause_law.proofs.Fetching.{Answers as HasAnswer, fetching_answered, nonce_is}
 use Rattle.cause_law.proofs.Trace.{Works, IsReturn, IsPlain, return_plain, return_gives, return_quiet, busy_same, answered_works, answered_decided, uncut, last_says, lost_write}
 use Rattle.cause_law.proofs.Working.{ReadsOn, WritesOn, GoodNeed, GoodPhase, replied_good, timed_good}
@@ -294,7 +294,7 @@ unfolding last_busy first_refusal first_beyond timed_in
 none_met op = record { busy = refl; refusal = refl; beyond = refl; silent = refl }
 
 no_bytes : (op : CallOp) → (is_write op && ((span_of op).length == 0)) ≡ true
-    → (is_write op ≡ true) × IsWhole op (WriteOk 0)
+    → (is_write op ≡ true) × WritesAll op (WriteOk 0)
 no_bytes (Write file offset bytes) e = (refl, sym (eqb-true (length bytes) 0 e))
 no_bytes (Read file offset count) e = absurd (cc e)
 

@@ -39,7 +39,7 @@ use Rattle.world_history.specs.Moves.{Act, Action, Opens, Delivers, TimesOut, Pe
 use Rattle.world_history.specs.Sending.{sent_lines}
 use Rattle.history_law.specs.Moments.{IsReached, with_event, lines_in}
 use Rattle.history_law.specs.Moves.{IsQuiet, AreQuiet, IsForClient, number_in, front_of}
-use Rattle.history_law.specs.Turns.{IsAnswered}
+use Rattle.history_law.specs.Turns.{AnswerComes}
 use Rattle.history_law.proofs.Moves.{front_cases, each_act}
 use Rattle.history_law.proofs.Reached.{always_by}
 use Rattle.exchange_law.proofs.Each.{put_same, put_other}
@@ -320,7 +320,7 @@ says_end d op a n o (SaysWrong timed wrong) (h, held) =
     ])
 
 ends_turn : (c : Client) (i : Input) (op : CallOp) (n : Need) (a : Answer) (o : Outcome)
-    → c.call ≡ Some (record { op = op; phase = Waits n }) → IsAnswered c i a → Says a n o → IsUnder c op n
+    → c.call ≡ Some (record { op = op; phase = Waits n }) → AnswerComes c i a → Says a n o → IsUnder c op n
     → (step c i).outcome ≡ Some o
 unfolding hears
 ends_turn c i op n a o call is says under =

@@ -18,7 +18,7 @@ use Rattle.client_rules.specs.Writes.{is_too_short}
 use Rattle.client_rules.specs.Replies.{timed_after}
 use Rattle.cause_law.specs.Met as met
 use Rattle.cause_law.specs.Met.{Met, Answered, Replied, busy_args, busy_at, busy_in, last_busy, first_refusal, rising_with, timed_in, out_in, is_beyond, beyond_at, first_beyond, lost_under, given_args, silent_first, failure_args, failure_at, cut_short, failure_in}
-use Rattle.cause_law.specs.Caused.{failure_of, IsWhole}
+use Rattle.cause_law.specs.Caused.{failure_of, WritesAll}
 use Rattle.cause_law.proofs.Fetching.{Answers, failed_answers}
 
 -- ---- options
@@ -206,7 +206,7 @@ write_beyond op h k ms timed after b more same is short =
 -- with this, under this grant
 pub record EndsSo (g : Option Held) (op : CallOp) (ms : List Met) (o : Outcome) : Type 0 where
   pub cause : failure_in g op ms ≡ failure_of o
-  pub whole : IsWhole op o
+  pub whole : WritesAll op o
   pub answer : Answers g op ms o
 
 -- nothing cut it short
@@ -233,7 +233,7 @@ pub record Decided (op : CallOp) (ms : List Met) (o : Outcome) : Type 0 where
   pub by : option_or (first_refusal ms) (first_beyond op ms) ≡ Some o
   pub fails : failure_of o ≡ Some o
 
-pub whole_failed : (op : CallOp) (o : Outcome) → failure_of o ≡ Some o → IsWhole op o
+pub whole_failed : (op : CallOp) (o : Outcome) → failure_of o ≡ Some o → WritesAll op o
 whole_failed op (WriteOk n) is = absurd (cc is)
 whole_failed op (ReadOk bytes) is = tt
 whole_failed op o is = tt

@@ -81,7 +81,7 @@ answer_line number a = line.Message number party.Server (party.Client a.client) 
 
 -- These lines of the request's step end with the answer. It is caused by what the book has when the request comes, and behind
 -- these lines.
-pub record IsAnswered (before : List Line) (l : Line) (now : ℕ) (q : ClientRequest) (rest : List Line) : Type 0 where
+pub record EndsInAnswer (before : List Line) (l : Line) (now : ℕ) (q : ClientRequest) (rest : List Line) : Type 0 where
   pub front : List Line
   pub number : ℕ
   pub answer : Answer
@@ -90,7 +90,7 @@ pub record IsAnswered (before : List Line) (l : Line) (now : ℕ) (q : ClientReq
 
 -- so it is of each that comes
 abbrev pub AnswersIt : (before : List Line) → Line → Input → (rest : List Line) → Type 0
-AnswersIt before l i rest = (now : ℕ) (q : ClientRequest) → IsNew (server_after before) i now q → IsAnswered before l now q rest
+AnswersIt before l i rest = (now : ℕ) (q : ClientRequest) → IsNew (server_after before) i now q → EndsInAnswer before l now q rest
 
 abbrev pub RequestsAreAnswered : List Line → Type 0
 RequestsAreAnswered h = AtInputs AnswersIt h

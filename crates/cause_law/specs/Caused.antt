@@ -20,16 +20,16 @@ failure_of (ReadOk bytes) = None
 failure_of o = Some o
 
 -- a write that is acknowledged is so for all of its bytes
-abbrev pub IsWhole : CallOp → Outcome → Type 0
-IsWhole op (WriteOk n) = n ≡ length (bytes_of op)
-IsWhole op o = Unit {0}
+abbrev pub WritesAll : CallOp → Outcome → Type 0
+WritesAll op (WriteOk n) = n ≡ length (bytes_of op)
+WritesAll op o = Unit {0}
 
 -- A call that ends with this failed so, by all that it met.
 pub record IsCaused (c : Client) (ms : List Met) (i : Input) (o : Outcome) : Type 0 where
   pub op : CallOp
   pub call : call_in c i ≡ Some op
   pub cause : failure_in (grant_under c.held op (met_after c ms i)) op (met_after c ms i) ≡ failure_of o
-  pub whole : IsWhole op o
+  pub whole : WritesAll op o
 
 -- the client behind these inputs, and what its call has met
 abbrev pub client_by : (number sequence : ℕ) → List Input → Client

@@ -11,7 +11,7 @@ use Rattle.world_history.specs.Told.{kind_of, told_outcome}
 use Rattle.world_history.specs.History.{StandsFor, Lawful}
 use Rattle.history_law.specs.Safe.{AtEachLine}
 use Rattle.cause_law.specs.Met.{grant_under, failure_in}
-use Rattle.cause_law.specs.Caused.{failure_of, IsWhole}
+use Rattle.cause_law.specs.Caused.{failure_of, WritesAll}
 use Rattle.cause_law.specs.ReadClients.{client_after}
 use Rattle.cause_law.specs.ReadCalls.{LastStep, call_seen}
 
@@ -27,7 +27,7 @@ pub record EndsBy (t : LastStep) (told : ToldOutcome) : Type 0 where
   pub ended : t.outcome ≡ Some outcome
   pub is : told ≡ told_outcome (kind_of op) outcome
   pub cause : failure_in (grant_under t.held op t.met) op t.met ≡ failure_of outcome
-  pub whole : IsWhole op outcome
+  pub whole : WritesAll op outcome
 
 -- The line of a call that ends tells how it ended in the step that the lines before it began. That a call is left pending
 -- ends none.

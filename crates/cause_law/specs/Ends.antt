@@ -22,7 +22,7 @@ use Rattle.world_history.specs.Sending.{Move}
 use Rattle.world_history.specs.Plans.{due}
 use Rattle.history_law.specs.Moments.{IsMoment, plan_at, lines_in}
 use Rattle.history_law.specs.Moves.{IsForClient}
-use Rattle.history_law.specs.Turns.{IsAnswered}
+use Rattle.history_law.specs.Turns.{AnswerComes}
 
 -- ---- what an answer says
 
@@ -63,7 +63,7 @@ pub record TakesAnswer (w : World) (action : Action) (client : ℕ) (op : CallOp
   pub call_is : caller.state.call ≡ Some (record { op = op; phase = Waits need })
   pub input : Input
   pub handed : IsForClient w action client caller input
-  pub answered : IsAnswered caller.state input a
+  pub answered : AnswerComes caller.state input a
 
 -- so a call of this kind ends in it
 pub record WasSaid (w : World) (action : Action) (client : ℕ) (kind : CallKind) (e : Ending) : Type 0 where

@@ -11,7 +11,7 @@ use Rattle.world_history.specs.State.{World}
 use Rattle.world_history.specs.History.{StandsFor}
 use Rattle.history_law.specs.BookMoments.{IsMoment}
 use Rattle.history_law.specs.Read.{AreWritten}
-use Rattle.cause_law.specs.Answers.{IsNew, IsAnswered}
+use Rattle.cause_law.specs.Answers.{IsNew, EndsInAnswer}
 use Rattle.cause_law.specs.Steps.{AtInputs}
 
 -- ---- the layouts that are given
@@ -21,7 +21,7 @@ pub record IsGiven (before : List Line) (l : Line) (i : Input) (rest : List Line
   pub now : ℕ
   pub request : ClientRequest
   pub new : IsNew (server_after before) i now request
-  pub answered : IsAnswered before l now request rest
+  pub answered : EndsInAnswer before l now request rest
   pub gives : answered.answer.results ≡ results.LayoutGet (get.Granted ok)
 
 -- No layout that is given at a later line of these names the same grant.

@@ -9,14 +9,14 @@ use Rattle.world_history.specs.Guesses.{unguessed}
 use Rattle.world_history.specs.History.{Lawful}
 use Rattle.history_law.specs.Safe.{AtEachLine}
 use Rattle.history_law.specs.BookMoments.{IsMoment}
-use Rattle.exchange_law.specs.Awaited.{AreFew}
+use Rattle.exchange_law.specs.Awaited.{AreFewerThanNonces}
 use Rattle.exchange_law.specs.Sent.{CommandsFit}
 use Rattle.exchange_law.specs.Given.{GrantsAreNew}
 use Rattle.exchange_law.specs.LaneTaken.{is_of_lanes}
 
 -- where few messages were sent so far, a line doesn't tell that a call ended so
 abbrev pub HasRoom : List Line → Line → Type 0
-HasRoom before (line.Ended c (Failed kind (Refused d v))) = AreFew before → is_of_lanes v ≡ false
+HasRoom before (line.Ended c (Failed kind (Refused d v))) = AreFewerThanNonces before → is_of_lanes v ≡ false
 HasRoom before l = Unit {0}
 
 -- at each moment up to the end of these lines the objects and nonces of clients' commands fit their places

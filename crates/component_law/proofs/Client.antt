@@ -171,7 +171,7 @@ module _ (P : (file size : ℕ) → Type 0) (o : Option Request) where
 
   kept : FinishCases SizedDone
   kept = record {
-    needs = λ d op n k is out. record {
+    needs = λ d op n k is out first. record {
       helds = k.helds;
       asked = asked_any d.client.outstanding _ (none_beginning d op k is);
       stays = k.stays;
@@ -243,7 +243,7 @@ module _ (P : (file size : ℕ) → Type 0) (R : Client → Type 0) (c : Client)
   cases i good = record {
     rests = plain c k;
     nothing = λ op is e. plain c k;
-    called = λ op is none.
+    called = λ op is none can.
         done _ (record {
           helds = k.helds;
           asked =

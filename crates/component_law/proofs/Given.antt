@@ -23,7 +23,7 @@ use Rattle.exchange_law.proofs.PlaceTaken.{IsTaken, is_taken}
 use Rattle.exchange_law.specs.Held.{credential_of, listed_at, listed_from}
 use Rattle.exchange_law.specs.HeldTaken.{OnDrives}
 use Rattle.component_law.specs.Listed.{IsCredentialFor, IsKnown, IsOffline, ListsComponent, ListsComponents}
-use Rattle.component_law.proofs.PartyKeeping.{IsAlike, IsLost}
+use Rattle.component_law.proofs.PartyKeeping.{IsAlike, MayBeLost}
 
 -- ---- what is listed
 
@@ -126,7 +126,7 @@ KeepKeys ds es = (n : ℕ) → IsKnown ds n → IsKnown es n × (key_at es n ≡
 module _ (ds es : List Drive) (on : (n : ℕ) → IsOffline ds n → IsOffline es n) (keep : KeepKeys ds es) (f k : Kept)
     (g : Grant) where
   component_on : (a b : Component) (n : ℕ) (l : Listed) → k.map ≡ f.map → k.format ≡ f.format → k.tag ≡ f.tag
-      → IsLost (IsOffline es) a b → ListsComponent ds f g a n l → ListsComponent es k g b n l
+      → MayBeLost (IsOffline es) a b → ListsComponent ds f g a n l → ListsComponent es k g b n l
   component_on a b n l map format tag lost x = record {
     object = rw (lost.drive, lost.object) x.object;
     credential = λ c e.

@@ -23,7 +23,7 @@ module _ (Off : ℕ → Type 0) where
   -- ---- components
 
   -- the component stands where it stood, and may be missing now
-  pub record IsLost (a b : Component) : Type 0 where
+  pub record MayBeLost (a b : Component) : Type 0 where
     pub drive : b.drive ≡ a.drive
     pub object : b.object ≡ a.object
     pub missing : a.missing ≡ true → b.missing ≡ true
@@ -32,9 +32,9 @@ module _ (Off : ℕ → Type 0) where
   pub record OnlyLose (cs ds : List Component) : Type 0 where
     pub count : length ds ≡ length cs
     pub each : (k : ℕ) (b : Component) → slice_get ds k ≡ Some b
-        → (a : Component) × (slice_get cs k ≡ Some a) × IsLost a b
+        → (a : Component) × (slice_get cs k ≡ Some a) × MayBeLost a b
 
-  lost_itself : (a : Component) → IsLost a a
+  lost_itself : (a : Component) → MayBeLost a a
   lost_itself a = record { drive = refl; object = refl; missing = λ e. e; gone = λ e. inl e }
 
   same_lose : (cs ds : List Component) → ds ≡ cs → OnlyLose cs ds
@@ -43,7 +43,7 @@ module _ (Off : ℕ → Type 0) where
     each = λ k b e. (b, ap (λ (l : List Component). slice_get l k) (sym same) ∙ e, lost_itself b);
   }
 
-  gone_then : (a b c : Component) → IsLost a b → IsLost b c → (b.missing ≡ true) ⊎ Off c.drive
+  gone_then : (a b c : Component) → MayBeLost a b → MayBeLost b c → (b.missing ≡ true) ⊎ Off c.drive
       → (a.missing ≡ true) ⊎ Off c.drive
   gone_then a b c x y (inr off) = inr off
   gone_then a b c x y (inl m) = by (x.gone m)
@@ -69,16 +69,16 @@ module _ (Off : ℕ → Type 0) where
         );
   }
 
-  more_lose : (a b : Component) (cs ds : List Component) → IsLost a b → OnlyLose cs ds → OnlyLose (a ∷ cs) (b ∷ ds)
+  more_lose : (a b : Component) (cs ds : List Component) → MayBeLost a b → OnlyLose cs ds → OnlyLose (a ∷ cs) (b ∷ ds)
   more_lose a b cs ds x y = record { count = ap suc y.count; each = λ k c e. at k c e }
     where
       at : (k : ℕ) (c : Component) → slice_get (b ∷ ds) k ≡ Some c
-          → (d : Component) × (slice_get (a ∷ cs) k ≡ Some d) × IsLost d c
-      at zero c e = let same : b ≡ c = cc e in (a, refl, subst (IsLost a) same x)
+          → (d : Component) × (slice_get (a ∷ cs) k ≡ Some d) × MayBeLost d c
+      at zero c e = let same : b ≡ c = cc e in (a, refl, subst (MayBeLost a) same x)
       at (suc k) c e = y.each k c e
 
   either_lost : (a : Component) (b : Bool) → (b ≡ true → Off a.drive)
-      → IsLost a (if b then record a { missing = true } else a)
+      → MayBeLost a (if b then record a { missing = true } else a)
   either_lost a true off = record { drive = refl; object = refl; missing = λ e. refl; gone = λ e. inr (off refl) }
   either_lost a false off = lost_itself a
 

@@ -43,7 +43,7 @@ stepped : (c : Client) (i : Input) → OwesNothing c → OwesNothing (step c i).
 stepped c i k = each_turn c i OwesStep (record {
   rests = k;
   nothing = λ op is e. k;
-  called = λ op is none. done _;
+  called = λ op is none can. done _;
   answered = λ a is. done _;
   replied = λ drive q call h a is. done _;
   unheld = done _;

@@ -26,7 +26,7 @@ use Rattle.world_history.specs.Reading.{sent_in}
 use Rattle.world_history.specs.Laws.{shown}
 use Rattle.history_law.proofs.DriveLines.{sent_read}
 use Rattle.history_law.specs.BookMoments.{IsMoment}
-use Rattle.exchange_law.specs.Awaited.{WasAwaited, AreFew, AwaitedAt, RefusalsWereAwaited}
+use Rattle.exchange_law.specs.Awaited.{WasAwaited, AreFewerThanNonces, AwaitedAt, RefusalsWereAwaited}
 use Rattle.exchange_law.proofs.Turning.{ComesTo}
 use Rattle.exchange_law.proofs.ReplyRead.{reply_read}
 use Rattle.exchange_law.proofs.RefusalVerdicts.{judged_agrees}
@@ -43,7 +43,7 @@ length_shown : (ps : List Posted) → length (map shown ps) ≡ length ps
 length_shown [] = refl
 length_shown (p ∷ ps) = ap suc (length_shown ps)
 
-pub few_at : (w : World) (h : List Line) → IsMoment w h → AreFew h → HasFew w
+pub few_at : (w : World) (h : List Line) → IsMoment w h → AreFewerThanNonces h → HasFew w
 few_at w h k few =
     let r = read_at w h k in
     let same : length (sent_in h) ≡ length (map shown w.network.messages) =
@@ -129,7 +129,7 @@ awaited_on h more c d v k = record {
 
 -- where there are few messages
 abbrev Awaits : List Line → (client drive number detail : ℕ) → Type 0
-Awaits h c d n e = AreFew h → WasAwaited h c d (verdict_with n e)
+Awaits h c d n e = AreFewerThanNonces h → WasAwaited h c d (verdict_with n e)
 
 line_awaited : (before : List Line) (l : Line) → LineSays (Awaits before) l → AwaitedAt before l
 line_awaited before (line.Ended c (Failed kind (Refused d v))) s =

@@ -1,21 +1,18 @@
 -- A client sends a request only where none is outstanding.
 use Rattle.std.proofs.Common.{◌≡◌, ◌⊎◌, ℕ, ◌==◌, Bool, true, false, List, [], ◌∷◌, ◌++◌, refl, sym, ap, ◌∙◌, inl, inr}
-use Rattle.std.specs.Prelude.{if◌then◌else◌, map, is_some, Option, Some, None, Result, Ok, Err}
+use Rattle.std.specs.Prelude.{if◌then◌else◌, map, is_some, Option, Some, None, Ok, Err}
 use Rattle.layout_ops.specs.declared.args.Args.{Args}
-use Rattle.layout_ops.specs.declared.statuses.TheConstants.{NFS4_OK}
-use Rattle.exchange_law.specs.ClientState.{Client, Call, CallOp, CallErr, Busy, BadRange, SlotSpent, Held, Due, Awaited, TimedOut, Need, First, Get, Commit, Report, Close, Phase, Starts, Needs, Waits, Reads, Probes, Gathers, Scatters, Outcome, WriteOk, Why, Turn, Goes, Ends, Forgets, Moved, Done, AnswersRecall, Asks, Request, Answer, Recall, RecallAnswer, Reply}
+use Rattle.exchange_law.specs.ClientState.{Client, Call, CallOp, CallErr, Busy, BadRange, SlotSpent, Held, Due, Awaited, Need, Phase, Starts, Needs, Waits, Outcome, WriteOk, Turn, Goes, Ends, Forgets, Moved, Done, AnswersRecall, Asks, Request, Answer, Recall, RecallAnswer, Reply}
 use Rattle.client_rules.specs.Calls.{file_of, span_of}
-use Rattle.client_rules.specs.Grants.{covers}
 use Rattle.client_rules.specs.Requests.{grant_in, get_args, args_of, return_args}
-use Rattle.client_rules.specs.Results.{status_of}
-use Rattle.client_rules.specs.Layouts.{taken}
 use Rattle.client_rules.specs.Replies.{replied, timed_out}
 use Rattle.client_rules.specs.Answers.{not_granted, on_commit}
-use Rattle.client_rules.specs.Going.{quiet, phased, over, with_held, by_turn, moved, begins, starts_with, starts_under, starts_at, starts_call, begun, request_of, requests, asks_under, returns, returns_due, progress_phase, progress_call, progress_free, progressed}
-use Rattle.client_rules.specs.Messages.{Step, still, to_drive, closed, finished, answered_get, commit_under, on_need, on_phase, on_call, no_match, obeys, recalled, reply_under, reply_call, Taken, TakesAnswer, TakesReply, TakesRecall, takes, on_taken, by_taken, hears}
+use Rattle.client_rules.specs.Going.{quiet, phased, over, with_held, by_turn, moved, begins, begun, request_of, requests, asks_under, returns, progressed}
+use Rattle.client_rules.specs.Messages.{Step, still, to_drive, closed, finished, on_call, no_match, obeys, recalled, reply_under, reply_call, Taken, TakesAnswer, TakesReply, TakesRecall, takes, on_taken, by_taken, hears}
 use Rattle.client_rules.specs.Steps.{timeout_under, timeout_call, times_out, is_bad_range, is_spent, writes_nothing, starts, calls, all_due, leaves}
 use Rattle.client_rules.specs.History.{Calls, Hears, TimesOut, Leaves, Resends, unless_refused}
 use Rattle.exchange_law.specs.Requests.{requests_in, left_by, IsAsked, OneRequest}
+use Rattle.history_law.proofs.Turns.{each_begin, each_progress, each_answer}
 
 -- no request was sent yet in this step
 record IsQuiet (n : ℕ) (o : Option Request) (d : Done) : Type 0 where
@@ -49,36 +46,13 @@ quiet_quiet c = record { requests = refl; outstanding = refl; next = refl }
 
 -- ---- a call begins
 
-starts_with_quiet : (n : ℕ) (o : Option Request) (d : Done) (op : CallOp) (need : Need) (r : Option Request) → IsQuiet n o d →
-    IsQuiet n o (starts_with d op need r)
-starts_with_quiet n o d op need None q = phased_quiet n o d op (Needs need) q
-starts_with_quiet n o d op need (Some r) q = q
-
-starts_under_quiet : (n : ℕ) (o : Option Request) (d : Done) (op : CallOp) (h : Option Held) → IsQuiet n o d →
-    IsQuiet n o (starts_under d op h)
-starts_under_quiet n o d op None q = starts_with_quiet n o d op (Get 0) _ q
-starts_under_quiet n o d op (Some h) q =
-    either_quiet n o (covers h op) (moved d op (begins h op)) (starts_with d op First d.client.outstanding)
-    (moved_quiet n o d op (begins h op) q) (starts_with_quiet n o d op First _ q)
-
-starts_at_quiet : (n : ℕ) (o : Option Request) (d : Done) (op : CallOp) (p : Phase) → IsQuiet n o d →
-    IsQuiet n o (starts_at d op p)
-starts_at_quiet n o d op Starts q = starts_under_quiet n o d op _ q
-starts_at_quiet n o d op (Needs need) q = q
-starts_at_quiet n o d op (Waits need) q = q
-starts_at_quiet n o d op (Reads io) q = q
-starts_at_quiet n o d op (Probes io) q = q
-starts_at_quiet n o d op (Gathers io) q = q
-starts_at_quiet n o d op (Scatters io queue) q = q
-
-starts_call_quiet : (n : ℕ) (o : Option Request) (d : Done) (call : Option Call) → IsQuiet n o d →
-    IsQuiet n o (starts_call d call)
-starts_call_quiet n o d None q = q
-starts_call_quiet n o d (Some call) q = starts_at_quiet n o d call.op call.phase q
-
 begun_quiet : (n : ℕ) (o : Option Request) (d : Done) → IsQuiet n o d → IsQuiet n o (begun d)
-unfolding begun
-begun_quiet n o d q = starts_call_quiet n o d d.client.call q
+begun_quiet n o d q =
+    each_begin d (IsQuiet n o) (record {
+      stays = q;
+      needs = λ op need is out first. phased_quiet n o d op (Needs need) q;
+      begun = λ op h is held covered. moved_quiet n o d op (begins h op) q;
+    })
 
 -- ---- a request goes out
 
@@ -90,11 +64,6 @@ requests_asked : (n : ℕ) (o : Option Request) (d : Done) (file : ℕ) (a : Arg
     AskedBy n o (requests d file a)
 unfolding requests
 requests_asked n o d file a e q = inr (e, request_of d.client file a, rw q.requests refl, refl, q.next)
-
-either_asked : (n : ℕ) (o : Option Request) (b : Bool) (d e : Done) → AskedBy n o d → AskedBy n o e →
-    AskedBy n o (if b then d else e)
-either_asked n o true d e x y = x
-either_asked n o false d e x y = y
 
 asks_under_asked : (n : ℕ) (o : Option Request) (d : Done) (op : CallOp) (need : Need) (h : Option Held) → o ≡ None →
     IsQuiet n o d → AskedBy n o (asks_under d op need h)
@@ -109,29 +78,15 @@ returns_asked n o d (Some u) e q =
     requests_asked n o _ u.file (return_args u.number []) e
     (record { requests = q.requests; outstanding = q.outstanding; next = q.next })
 
-returns_due_asked : (n : ℕ) (o : Option Request) (d : Done) → o ≡ None → IsQuiet n o d → AskedBy n o (returns_due d)
-unfolding returns_due
-returns_due_asked n o d e q = either_asked n o _ _ _ (inl q) (returns_asked n o d _ e q)
-
-progress_phase_asked : (n : ℕ) (o : Option Request) (d : Done) (op : CallOp) (p : Phase) → o ≡ None → IsQuiet n o d →
-    AskedBy n o (progress_phase d op p)
-progress_phase_asked n o d op (Needs need) e q = asks_under_asked n o d op need _ e q
-progress_phase_asked n o d op Starts e q = inl q
-progress_phase_asked n o d op (Waits need) e q = inl q
-progress_phase_asked n o d op (Reads io) e q = inl q
-progress_phase_asked n o d op (Probes io) e q = inl q
-progress_phase_asked n o d op (Gathers io) e q = inl q
-progress_phase_asked n o d op (Scatters io queue) e q = inl q
-
-progress_call_asked : (n : ℕ) (o : Option Request) (d : Done) (call : Option Call) → o ≡ None → IsQuiet n o d →
-    AskedBy n o (progress_call d call)
-progress_call_asked n o d None e q = returns_due_asked n o d e q
-progress_call_asked n o d (Some call) e q = progress_phase_asked n o d call.op call.phase e q
-
-progress_free_asked : (n : ℕ) (o : Option Request) (d : Done) (x : Option Request) → d.client.outstanding ≡ x → IsQuiet n o d →
-    AskedBy n o (progress_free d x)
-progress_free_asked n o d None e q = progress_call_asked n o d d.client.call (sym q.outstanding ∙ e) q
-progress_free_asked n o d (Some r) e q = inl q
+progressed_asked : (n : ℕ) (o : Option Request) (d : Done) → IsQuiet n o d → AskedBy n o (progressed d)
+progressed_asked n o d q =
+    each_progress d (AskedBy n o) (record {
+      waits = λ r out. inl q;
+      works = λ call is out. inl q;
+      spent = λ none out left. inl q;
+      asks = λ op need h is out held. asks_under_asked n o d op need h (sym q.outstanding ∙ out) q;
+      gives_back = λ u none out left due. returns_asked n o d u (sym q.outstanding ∙ out) q;
+    })
 
 -- ---- what a step leaves
 
@@ -156,50 +111,27 @@ closed_asks n o d (inl q) = inl (sends_ask d.recalls d.requests d.commands ∙ q
 closed_asks n o d (inr a) = inr (a.0, a.1, sends_ask d.recalls d.requests d.commands ∙ a.2, a.3, a.4)
 
 finished_asks : (n : ℕ) (o : Option Request) (d : Done) → IsQuiet n o d → StepAsks n o (finished d)
-unfolding finished progressed
-finished_asks n o d q =
-    closed_asks n o (progress_free (begun d) (begun d).client.outstanding)
-    (progress_free_asked n o (begun d) (begun d).client.outstanding refl (begun_quiet n o d q))
+unfolding finished
+finished_asks n o d q = closed_asks n o (progressed (begun d)) (progressed_asked n o (begun d) (begun_quiet n o d q))
 
 still_asks : (c : Client) → StepAsks c.next c.outstanding (still c)
 still_asks c = inl (refl, refl)
 
 -- ---- answers
 
-answered_get_quiet : (n : ℕ) (o : Option Request) (d : Done) (op : CallOp) (r : Result Held Why) → IsQuiet n o d →
-    IsQuiet n o (answered_get d op r)
-answered_get_quiet n o d op (Err w) q = over_quiet n o d _ q
-answered_get_quiet n o d op (Ok h) q = record { requests = q.requests; outstanding = q.outstanding; next = q.next }
-
-commit_under_quiet : (n : ℕ) (o : Option Request) (d : Done) (op : CallOp) (a : Answer) (timed : List TimedOut)
-    (h : Option Held) → IsQuiet n o d → IsQuiet n o (commit_under d op a (Commit timed) h)
-commit_under_quiet n o d op a timed None q = q
-commit_under_quiet n o d op a timed (Some h) q = moved_quiet n o d op (on_commit h op a timed) q
-
-on_need_quiet : (n : ℕ) (o : Option Request) (d : Done) (op : CallOp) (need : Need) (a : Answer) → IsQuiet n o d →
-    IsQuiet n o (on_need d op need a)
-on_need_quiet n o d op First a q = phased_quiet n o d op Starts q
-on_need_quiet n o d op (Get tries) a q =
-    either_quiet n o (status_of a.results == NFS4_OK) (answered_get d op (taken a op)) (by_turn d op (not_granted a tries))
-    (answered_get_quiet n o d op (taken a op) q) (turn_quiet n o d op (not_granted a tries) q)
-on_need_quiet n o d op (Commit timed) a q = commit_under_quiet n o d op a timed _ q
-on_need_quiet n o d op (Report timed) a q = over_quiet n o d _ q
-on_need_quiet n o d op (Close outcome report) a q = over_quiet n o d outcome q
-
-on_phase_quiet : (n : ℕ) (o : Option Request) (d : Done) (op : CallOp) (p : Phase) (a : Answer) → IsQuiet n o d →
-    IsQuiet n o (on_phase d op p a)
-on_phase_quiet n o d op (Waits need) a q = on_need_quiet n o d op need a q
-on_phase_quiet n o d op Starts a q = q
-on_phase_quiet n o d op (Needs need) a q = q
-on_phase_quiet n o d op (Reads io) a q = q
-on_phase_quiet n o d op (Probes io) a q = q
-on_phase_quiet n o d op (Gathers io) a q = q
-on_phase_quiet n o d op (Scatters io queue) a q = q
-
-on_call_quiet : (n : ℕ) (o : Option Request) (d : Done) (call : Option Call) (a : Answer) → IsQuiet n o d →
-    IsQuiet n o (on_call d call a)
-on_call_quiet n o d None a q = q
-on_call_quiet n o d (Some call) a q = on_phase_quiet n o d call.op call.phase a q
+answered_quiet : (n : ℕ) (o : Option Request) (d : Done) (a : Answer) → IsQuiet n o d →
+    IsQuiet n o (on_call d d.client.call a)
+answered_quiet n o d a q =
+    each_answer d a (IsQuiet n o) (record {
+      stays = q;
+      returned = λ op is. phased_quiet n o d op Starts q;
+      granted = λ op tries h is took. record { requests = q.requests; outstanding = q.outstanding; next = q.next };
+      unusable = λ op tries w is took. over_quiet n o d _ q;
+      refused = λ op tries is. turn_quiet n o d op (not_granted a tries) q;
+      committed = λ op timed h is held. moved_quiet n o d op (on_commit h op a timed) q;
+      reported = λ op timed is. over_quiet n o d _ q;
+      closed = λ op u report is. over_quiet n o d u q;
+    })
 
 -- ---- recalls and replies
 
@@ -227,7 +159,7 @@ taken_asks : (c : Client) (t : Option Taken) → StepAsks c.next (left_by t c.ou
 taken_asks c None = still_asks c
 taken_asks c (Some (TakesAnswer a)) =
     finished_asks c.next None (on_taken c (TakesAnswer a))
-    (on_call_quiet c.next None (quiet (record c { outstanding = None })) c.call a
+    (answered_quiet c.next None (quiet (record c { outstanding = None })) a
     (quiet_quiet (record c { outstanding = None })))
 taken_asks c (Some (TakesReply a r)) =
     finished_asks c.next c.outstanding (on_taken c (TakesReply a r)) (reply_call_quiet c a r c.call)

@@ -1,20 +1,21 @@
 -- A client in the middle of a step has counted what it sends.
 use Rattle.std.specs.List.{AllByRecursion}
-use Rattle.std.proofs.Common.{◌≡◌, ◌==◌, ℕ, ◌+◌, ◌≤◌, ◌++◌, Bool, true, false, List, [], ◌∷◌, Option, Some, None, length, nat_lt, refl, ap, subst, arith, inl, inr, if◌then◌else◌}
+use Rattle.std.proofs.Common.{◌≡◌, ◌==◌, ℕ, ◌+◌, ◌≤◌, ◌++◌, Bool, true, false, List, [], ◌∷◌, Option, Some, None, length, nat_lt, refl, ap, subst, arith, inl, inr, if◌then◌else◌, sym}
 use Rattle.std.proofs.lemmas.Bool.{cases_Bool}
 use Rattle.std.proofs.lemmas.Bool.Decides.{nat_tests}
 use Rattle.osd_lists.proofs.Slices.{length_more}
 use Rattle.layout_ops.specs.declared.args.Args.{Args}
 use Rattle.layout_ops.specs.declared.args.Args.TheVariants as args
 use Rattle.client_rules.specs.declared.limits.TheConstants.{GREATEST_SEQUENCE}
-use Rattle.history_law.specs.State.{Call, CallOp, Held, Due, Awaited, Need, First, Get, Phase, Starts, Needs, Waits, Reads, Probes, Gathers, Scatters, Turn, Goes, Ends, Forgets, Moved, Done, Request}
+use Rattle.history_law.specs.State.{Call, CallOp, Held, Due, Awaited, Need, Turn, Goes, Ends, Forgets, Moved, Done}
 use Rattle.client_rules.specs.Calls.{file_of}
-use Rattle.client_rules.specs.Grants.{covers, held_of, put_held, without_held}
+use Rattle.client_rules.specs.Grants.{held_of, put_held, without_held}
 use Rattle.client_rules.specs.Requests.{get_args, args_of, return_args}
 use Rattle.client_rules.specs.Laws.{IsNumbered}
-use Rattle.client_rules.specs.Going.{with_held, by_turn, moved, begins, starts_with, starts_under, starts_at, starts_call, begun, after_number, request_of, held_after, requests, asks_under, returns, returns_due, progress_phase, progress_call, progress_free, progressed}
+use Rattle.client_rules.specs.Going.{with_held, by_turn, moved, begins, after_number, request_of, held_after, requests, asks_under, returns}
 use Rattle.client_rules.proofs.Numbering.{nonces_rise}
 use Rattle.exchange_law.proofs.Settled.{BeginsAnew, IsSettled, begins_settled}
+use Rattle.history_law.specs.Turns.{IsBeginning, FinishCases}
 
 -- ---- held grants
 
@@ -81,10 +82,6 @@ pub record DoneCounts (n : ℕ) (d : Done) : Type 0 where
   pub commands : HeldsCount (n + length d.commands) d.client.held
   pub anew : IsAnew d.client.call → d.commands ≡ []
 
-pub either_done : (n : ℕ) (b : Bool) (d e : Done) → DoneCounts n d → DoneCounts n e → DoneCounts n (if b then d else e)
-either_done n true d e k l = k
-either_done n false d e k l = l
-
 by_turn_counts : (n : ℕ) (d : Done) (op : CallOp) (t : Turn) → Numbered (n + length d.requests) d.client.next
     → HeldsCount (n + length d.commands) d.client.held → (BeginsAnew t → d.commands ≡ [])
     → DoneCounts n (by_turn d op t)
@@ -116,41 +113,6 @@ none_yet : (n : ℕ) (d : Done) → d.commands ≡ [] → HeldsCount (n + length
 none_yet n d none k =
     more_held (n + length d.commands) n d.client.held
     (let zero : length d.commands ≡ 0 = ap (λ (xs : List Awaited). length xs) none in omega (arith, zero)) k
-
-starts_with_counts : (n : ℕ) (d : Done) (op : CallOp) (x : Need) (o : Option Request) → DoneCounts n d
-    → DoneCounts n (starts_with d op x o)
-starts_with_counts n d op x None k = record { requests = k.requests; commands = k.commands; anew = λ y. absurd y }
-starts_with_counts n d op x (Some r) k = k
-
-starts_under_counts : (n : ℕ) (d : Done) (op : CallOp) (o : Option Held) → DoneCounts n d → d.commands ≡ []
-    → FoundCounts n o → DoneCounts n (starts_under d op o)
-starts_under_counts n d op None k none f = starts_with_counts n d op (Get 0) d.client.outstanding k
-starts_under_counts n d op (Some h) k none f =
-    either_done n (covers h op) _ _
-    (moved_counts n d op h (begins h op) k.requests (none_yet n d none k.commands) f (nonces_rise.begun h op)
-    (begins_settled h op))
-    (starts_with_counts n d op First d.client.outstanding k)
-
-starts_at_counts : (n : ℕ) (d : Done) (op : CallOp) (p : Phase) → (BeginsAnew (Goes p) → d.commands ≡ [])
-    → DoneCounts n d → DoneCounts n (starts_at d op p)
-starts_at_counts n d op Starts anew k =
-    starts_under_counts n d op (held_of d.client.held (file_of op)) k (anew tt)
-    (found_counts n d.client.held (file_of op) (none_yet n d (anew tt) k.commands))
-starts_at_counts n d op (Needs x) anew k = k
-starts_at_counts n d op (Waits x) anew k = k
-starts_at_counts n d op (Reads io) anew k = k
-starts_at_counts n d op (Probes io) anew k = k
-starts_at_counts n d op (Gathers io) anew k = k
-starts_at_counts n d op (Scatters io queue) anew k = k
-
-starts_call_counts : (n : ℕ) (d : Done) (o : Option Call) → (IsAnew o → d.commands ≡ []) → DoneCounts n d
-    → DoneCounts n (starts_call d o)
-starts_call_counts n d None anew k = k
-starts_call_counts n d (Some call) anew k = starts_at_counts n d call.op call.phase anew k
-
-pub begun_counts : (n : ℕ) (d : Done) → DoneCounts n d → DoneCounts n (begun d)
-unfolding begun
-begun_counts n d k = starts_call_counts n d d.client.call k.anew k
 
 -- ---- a request goes out
 
@@ -190,28 +152,22 @@ returns_counts n d None k = record { requests = k.requests; commands = k.command
 returns_counts n d (Some u) k =
     requests_count n _ u.file (return_args u.number []) k.requests k.commands k.anew
 
-due_counts : (n : ℕ) (d : Done) → DoneCounts n d → DoneCounts n (returns_due d)
-unfolding returns_due
-due_counts n d k = either_done n _ _ _ k (returns_counts n d _ k)
+-- ---- to the end of a step
 
-progress_phase_counts : (n : ℕ) (d : Done) (op : CallOp) (p : Phase) → DoneCounts n d
-    → DoneCounts n (progress_phase d op p)
-progress_phase_counts n d op (Needs x) k = asks_counts n d op x _ k
-progress_phase_counts n d op Starts k = k
-progress_phase_counts n d op (Waits x) k = k
-progress_phase_counts n d op (Reads io) k = k
-progress_phase_counts n d op (Probes io) k = k
-progress_phase_counts n d op (Gathers io) k = k
-progress_phase_counts n d op (Scatters io queue) k = k
+-- a call that begins has sent no command
+begins_counts : (n : ℕ) (d : Done) (op : CallOp) (h : Held) → DoneCounts n d → IsBeginning d.client op
+    → held_of d.client.held (file_of op) ≡ Some h → DoneCounts n (moved d op (begins h op))
+begins_counts n d op h k is held =
+    let none : d.commands ≡ [] = k.anew (subst IsAnew (sym is) tt) in
+    let helds : HeldsCount n d.client.held = none_yet n d none k.commands in
+    moved_counts n d op h (begins h op) k.requests helds
+    (subst (FoundCounts n) held (found_counts n d.client.held (file_of op) helds)) (nonces_rise.begun h op)
+    (begins_settled h op)
 
-progress_call_counts : (n : ℕ) (d : Done) (o : Option Call) → DoneCounts n d → DoneCounts n (progress_call d o)
-progress_call_counts n d None k = due_counts n d k
-progress_call_counts n d (Some call) k = progress_phase_counts n d call.op call.phase k
-
-progress_free_counts : (n : ℕ) (d : Done) (o : Option Request) → DoneCounts n d → DoneCounts n (progress_free d o)
-progress_free_counts n d None k = progress_call_counts n d d.client.call k
-progress_free_counts n d (Some r) k = k
-
-pub progressed_counts : (n : ℕ) (d : Done) → DoneCounts n d → DoneCounts n (progressed d)
-unfolding progressed
-progressed_counts n d k = progress_free_counts n d d.client.outstanding k
+pub finishes : (n : ℕ) → FinishCases (DoneCounts n)
+finishes n = record {
+  needs = λ d op x k is out first. record { requests = k.requests; commands = k.commands; anew = λ y. absurd y };
+  begun = λ d op h k is held covered. begins_counts n d op h k is held;
+  asks = λ d op x h k is out held. asks_counts n d op x h k;
+  gives_back = λ d u k none out. returns_counts n d u k;
+}

@@ -1,32 +1,32 @@
 -- A client has counted what it sends behind each step, and a line can name each drive to which it sends.
-use Rattle.std.proofs.Common.{◌≡◌, ◌==◌, ℕ, ◌+◌, ◌≤◌, ◌++◌, Bool, true, false, List, [], ◌∷◌, Option, Some, None, Result, Ok, Err, is_some, length, map, refl, sym, ap, subst, ◌∙◌, arith, inl, inr, if◌then◌else◌}
+use Rattle.std.proofs.Common.{◌≡◌, ℕ, ◌+◌, ◌≤◌, ◌++◌, Bool, true, false, List, [], ◌∷◌, Option, Some, None, Result, Ok, Err, length, map, refl, sym, ap, subst, ◌∙◌, arith, inl, inr, if◌then◌else◌}
 use Rattle.layout_types.specs.declared.layout.Layout.{Layout}
 use Rattle.layout_ops.specs.declared.results.LayoutGetOk.{LayoutGetOk}
 use Rattle.layout_ops.specs.declared.results.LayoutSegment.{LayoutSegment}
-use Rattle.layout_ops.specs.declared.statuses.TheConstants.{NFS4_OK, NFS4ERR_NOENT, NFS4ERR_LAYOUTTRYLATER, NFS4ERR_RECALLCONFLICT, NFS4ERR_LAYOUTUNAVAILABLE}
 use Rattle.layout_types.specs.declared.err.LayoutErr.{LayoutErr}
 use Rattle.layout_types.specs.Grammar.{whole}
 use Rattle.layout_types.specs.Reading.{layout_in}
 use Rattle.server_rules.specs.Laws.{In}
 use Rattle.client_rules.specs.declared.limits.TheConstants.{GREATEST_SEQUENCE}
-use Rattle.history_law.specs.State.{Client, Call, CallOp, Held, Listed, Reach, Awaited, Need, First, Get, Commit, Report, Close, Phase, Starts, Needs, Waits, Reads, Probes, Gathers, Scatters, Turn, Goes, Ends, Done, Outgoing, AnswersRecall, Asks, Request, RecallAnswer, Recall, Answer, Reply, Outcome, WriteOk, NoFile, HeldBy, Fencing, Status, Why, BadCredential, CallErr, Busy, BadRange, SlotSpent}
-use Rattle.client_rules.specs.Calls.{file_of, span_of}
+use Rattle.history_law.specs.State.{Client, Call, CallOp, Held, Listed, Reach, Awaited, Done, AnswersRecall, Asks, Request, RecallAnswer, Answer, Outcome, Moved, Why, BadCredential, Outgoing}
+use Rattle.client_rules.specs.Calls.{file_of}
 use Rattle.client_rules.specs.Grants.{held_of}
 use Rattle.client_rules.specs.Requests.{grant_in}
-use Rattle.client_rules.specs.Results.{status_of, layouts_in}
-use Rattle.client_rules.specs.Commands.{of_component}
-use Rattle.client_rules.specs.Io.{awaited_in}
+use Rattle.client_rules.specs.Results.{layouts_in}
 use Rattle.client_rules.specs.Layouts.{all_listed, enough, fresh, first_why, reach_of, with_listed, unless_why, with_body, one_layout, in_layouts, taken}
-use Rattle.client_rules.specs.Answers.{busy, refused_with, unavailable, not_granted, on_commit}
+use Rattle.client_rules.specs.Answers.{not_granted, on_commit}
 use Rattle.client_rules.specs.Replies.{replied, timed_out}
-use Rattle.client_rules.specs.Going.{quiet, over, begun, progressed}
-use Rattle.client_rules.specs.Messages.{Step, still, to_drive, sends_of, closed, finished, answered_get, commit_under, on_need, on_phase, on_call, recalled, obeys, no_match, reply_under, reply_call, Taken, TakesAnswer, TakesReply, TakesRecall, by_taken, takes, hears}
-use Rattle.client_rules.specs.Steps.{new_client, is_bad_range, is_spent, writes_nothing, starts, calls, timeout_under, timeout_call, times_out, leaves, all_due}
-use Rattle.client_rules.specs.History.{Input, Calls, Hears, TimesOut, Leaves, Resends, unless_refused, step}
+use Rattle.client_rules.specs.Going.{quiet, over, moved, begun, progressed}
+use Rattle.client_rules.specs.Messages.{Step, still, to_drive, sends_of, closed, finished, on_call}
+use Rattle.client_rules.specs.Steps.{new_client, resent, all_due}
+use Rattle.client_rules.specs.History.{Input, step}
 use Rattle.client_rules.proofs.Numbering.{nonces_rise}
 use Rattle.exchange_law.specs.Counters.{ClientCounts}
-use Rattle.exchange_law.proofs.Settled.{BeginsAnew, replied_settled, timed_out_settled, on_commit_settled}
-use Rattle.exchange_law.proofs.CountAsking.{HeldsCount, more_held, put_counts, FoundCounts, found_counts, Numbered, DoneCounts, either_done, moved_counts, turned_counts, begun_counts, progressed_counts}
+use Rattle.exchange_law.proofs.Settled.{BeginsAnew, IsSettled, replied_settled, timed_out_settled, on_commit_settled}
+use Rattle.exchange_law.proofs.CountAsking.{HeldsCount, more_held, put_counts, FoundCounts, found_counts, Numbered, DoneCounts, moved_counts, turned_counts, finishes}
+use Rattle.client_rules.specs.Laws.{IsNumbered}
+use Rattle.history_law.specs.Turns.{with_start, TurnCases}
+use Rattle.history_law.proofs.Turns.{each_refusal, each_answer, each_finish, each_turn}
 
 -- ---- what a step sends
 
@@ -71,7 +71,7 @@ closed_counts n d k =
 
 finished_counts : (n : ℕ) (d : Done) → DoneCounts n d → StepCounts n (finished d)
 unfolding finished
-finished_counts n d k = closed_counts n (progressed (begun d)) (progressed_counts n (begun d) (begun_counts n d k))
+finished_counts n d k = closed_counts n (progressed (begun d)) (each_finish (DoneCounts n) (finishes n) d k)
 
 -- ---- what comes
 
@@ -138,157 +138,71 @@ taken_new a op h e = results_new a op (layouts_in a.results) h e
 
 -- ---- answers
 
-either_turn : (b : Bool) (t u : Turn) → (BeginsAnew t → ⊥) → (BeginsAnew u → ⊥) → BeginsAnew (if b then t else u) → ⊥
-either_turn true t u p q = p
-either_turn false t u p q = q
+answered_counts : (n : ℕ) (d : Done) (a : Answer) → d.commands ≡ [] → HeldsCount n d.client.held → DoneCounts n d
+    → DoneCounts n (on_call d d.client.call a)
+answered_counts n d a none helds k =
+    each_answer d a (DoneCounts n) (record {
+      stays = k;
+      returned = λ op is. record { requests = k.requests; commands = k.commands; anew = λ y. none };
+      granted = λ op tries h is took. record {
+        requests = k.requests;
+        commands = put_counts (n + length d.commands) d.client.held h k.commands (omega (arith, taken_new a op h took));
+        anew = λ x. none;
+      };
+      unusable = λ op tries w is took. over_counts n d _ k;
+      refused = λ op tries is.
+          turned_counts n d op (not_granted a tries) k (each_refusal a tries (λ t. BeginsAnew t → ⊥) (record {
+            again = λ few x. x;
+            no_file = λ x. x;
+            is_held = λ x. x;
+            is_fenced = λ x. x;
+            none_given = λ x. x;
+            other = λ x. x;
+          }));
+      committed = λ op timed h is held.
+          moved_counts n d op h (on_commit h op a timed) k.requests helds
+          (subst (FoundCounts n) held (found_counts n d.client.held (file_of op) helds))
+          (nonces_rise.committed h op a timed) (on_commit_settled h op a timed);
+      reported = λ op timed is. over_counts n d _ k;
+      closed = λ op o report is. over_counts n d o k;
+    })
 
-busy_settled : (tries : ℕ) (o : Outcome) → BeginsAnew (busy tries o) → ⊥
-unfolding busy
-busy_settled tries o = either_turn _ (Goes (Needs (Get (tries + 1)))) (Ends o) (λ x. x) (λ x. x)
+-- ---- any step
 
-refused_settled : (status detail tries : ℕ) → BeginsAnew (refused_with status detail tries) → ⊥
-refused_settled status detail tries =
-    either_turn (status == NFS4ERR_NOENT) (Ends NoFile) _ (λ x. x)
-    (either_turn (status == NFS4ERR_LAYOUTTRYLATER) (busy tries (HeldBy detail)) _ (busy_settled tries (HeldBy detail))
-    (either_turn (status == NFS4ERR_RECALLCONFLICT) (busy tries (Fencing detail)) _
-    (busy_settled tries (Fencing detail))
-    (either_turn (status == NFS4ERR_LAYOUTUNAVAILABLE) (Ends (unavailable detail)) (Ends (Status status detail))
-    (λ x. x) (λ x. x))))
+-- what the call does with the drives under its grant
+under_grant : (n : ℕ) (c : Client) (call : Call) (h : Held) (m : Moved) → Counted n c
+    → held_of c.held (file_of call.op) ≡ Some h → IsNumbered h m → IsSettled m
+    → StepCounts n (finished (moved (quiet c) call.op m))
+under_grant n c call h m k held numbered settled =
+    finished_counts n _ (moved_counts n (quiet c) call.op h m (quiet_counts n c c k refl refl).requests k.commands
+    (subst (FoundCounts n) held (found_counts n c.held (file_of call.op) k.commands)) numbered settled)
 
-not_granted_settled : (a : Answer) (tries : ℕ) → BeginsAnew (not_granted a tries) → ⊥
-unfolding not_granted
-not_granted_settled a tries = refused_settled (status_of a.results) a.detail tries
-
-get_counts : (n : ℕ) (d : Done) (op : CallOp) (r : Result Held Why) → ((h : Held) → r ≡ Ok h → h.count ≡ 0)
-    → d.commands ≡ [] → DoneCounts n d → DoneCounts n (answered_get d op r)
-get_counts n d op (Err w) new none k = over_counts n d _ k
-get_counts n d op (Ok h) new none k = record {
-  requests = k.requests;
-  commands = put_counts (n + length d.commands) d.client.held h k.commands (omega (arith, new h refl));
-  anew = λ x. none;
+cases : (n : ℕ) (c : Client) (i : Input) → Counted n c → TurnCases c i (StepCounts n)
+cases n c i k = let q = quiet_counts n c c k refl refl in record {
+  rests = still_counts n c k;
+  nothing = λ op is e. let s = still_counts n c k in record { requests = s.requests; commands = s.commands };
+  called = λ op is none can. finished_counts n _ (quiet_counts n c (with_start c op) k refl refl);
+  answered = λ a is.
+      finished_counts n _ (answered_counts n (quiet (record c { outstanding = None })) a refl k.commands
+      (quiet_counts n c (record c { outstanding = None }) k refl refl));
+  replied = λ drive r call h a is.
+      under_grant n c call h (replied h call.op call.phase a r) k is.held (nonces_rise.replied h call.op call.phase a r)
+      (replied_settled h call.op call.phase a r);
+  unheld = finished_counts n _ q;
+  recalled = λ r is. finished_counts n _ (record { requests = q.requests; commands = q.commands; anew = q.anew });
+  unmatched = λ r is. finished_counts n _ (record { requests = q.requests; commands = q.commands; anew = q.anew });
+  timed = λ j call h a xs is.
+      under_grant n c call h (timed_out h call.op call.phase j a xs) k is.held
+      (nonces_rise.timed h call.op call.phase j a xs) (timed_out_settled h call.op call.phase j a xs);
+  leaves = λ is. finished_counts n _ (quiet_counts n c (record c { due = all_due c.due c.held }) k refl refl);
+  resends = λ is. record {
+    requests = more_numbered n (n + length (resent c)) c.next (omega arith) k.requests;
+    commands = more_held n (n + length (resent c)) c.held (omega arith) k.commands;
+  };
 }
-
-commit_counts : (n : ℕ) (d : Done) (op : CallOp) (a : Answer) (x : Need) (o : Option Held) → d.commands ≡ []
-    → HeldsCount n d.client.held → DoneCounts n d → FoundCounts n o → DoneCounts n (commit_under d op a x o)
-commit_counts n d op a (Commit timed) (Some h) none held k f =
-    moved_counts n d op h (on_commit h op a timed) k.requests held f (nonces_rise.committed h op a timed)
-    (on_commit_settled h op a timed)
-commit_counts n d op a (Commit timed) None none held k f = k
-commit_counts n d op a First o none held k f = k
-commit_counts n d op a (Get tries) o none held k f = k
-commit_counts n d op a (Report timed) o none held k f = k
-commit_counts n d op a (Close outcome report) o none held k f = k
-
-on_need_counts : (n : ℕ) (d : Done) (op : CallOp) (x : Need) (a : Answer) → d.commands ≡ []
-    → HeldsCount n d.client.held → DoneCounts n d → DoneCounts n (on_need d op x a)
-on_need_counts n d op First a none held k =
-    record { requests = k.requests; commands = k.commands; anew = λ y. none }
-on_need_counts n d op (Get tries) a none held k =
-    either_done n (status_of a.results == NFS4_OK) _ _ (get_counts n d op (taken a op) (taken_new a op) none k)
-    (turned_counts n d op (not_granted a tries) k (not_granted_settled a tries))
-on_need_counts n d op (Commit timed) a none held k =
-    commit_counts n d op a (Commit timed) (held_of d.client.held (file_of op)) none held k
-    (found_counts n d.client.held (file_of op) held)
-on_need_counts n d op (Report timed) a none held k = over_counts n d _ k
-on_need_counts n d op (Close outcome report) a none held k = over_counts n d outcome k
-
-on_phase_counts : (n : ℕ) (d : Done) (op : CallOp) (p : Phase) (a : Answer) → d.commands ≡ []
-    → HeldsCount n d.client.held → DoneCounts n d → DoneCounts n (on_phase d op p a)
-on_phase_counts n d op (Waits x) a none held k = on_need_counts n d op x a none held k
-on_phase_counts n d op Starts a none held k = k
-on_phase_counts n d op (Needs x) a none held k = k
-on_phase_counts n d op (Reads io) a none held k = k
-on_phase_counts n d op (Probes io) a none held k = k
-on_phase_counts n d op (Gathers io) a none held k = k
-on_phase_counts n d op (Scatters io queue) a none held k = k
-
-on_call_counts : (n : ℕ) (d : Done) (o : Option Call) (a : Answer) → d.commands ≡ [] → HeldsCount n d.client.held
-    → DoneCounts n d → DoneCounts n (on_call d o a)
-on_call_counts n d None a none held k = k
-on_call_counts n d (Some call) a none held k = on_phase_counts n d call.op call.phase a none held k
-
--- ---- recalls and replies
-
-recalled_counts : (n : ℕ) (c : Client) (r : Recall) (o : Option Held) → Counted n c → DoneCounts n (recalled c r o)
-recalled_counts n c r None k =
-    let q = quiet_counts n c c k refl refl in
-    record { requests = q.requests; commands = q.commands; anew = q.anew }
-recalled_counts n c r (Some h) k =
-    let q = quiet_counts n c c k refl refl in
-    either_done n (h.number == grant_in r.args.stateid) (obeys c r) (no_match c r)
-    (record { requests = q.requests; commands = q.commands; anew = q.anew })
-    (record { requests = q.requests; commands = q.commands; anew = q.anew })
-
-reply_under_counts : (n : ℕ) (c : Client) (call : Call) (a : Awaited) (r : Reply) (o : Option Held) → Counted n c
-    → FoundCounts n o → DoneCounts n (reply_under c call a r o)
-reply_under_counts n c call a r None k f = quiet_counts n c c k refl refl
-reply_under_counts n c call a r (Some h) k f =
-    let q = quiet_counts n c c k refl refl in
-    moved_counts n (quiet c) call.op h (replied h call.op call.phase a r) q.requests k.commands f
-    (nonces_rise.replied h call.op call.phase a r) (replied_settled h call.op call.phase a r)
-
-reply_call_counts : (n : ℕ) (c : Client) (a : Awaited) (r : Reply) (o : Option Call) → Counted n c
-    → DoneCounts n (reply_call c a r o)
-reply_call_counts n c a r None k = quiet_counts n c c k refl refl
-reply_call_counts n c a r (Some call) k =
-    reply_under_counts n c call a r (held_of c.held (file_of call.op)) k
-    (found_counts n c.held (file_of call.op) k.commands)
-
-by_taken_counts : (n : ℕ) (c : Client) (o : Option Taken) → Counted n c → StepCounts n (by_taken c o)
-by_taken_counts n c None k = still_counts n c k
-by_taken_counts n c (Some (TakesAnswer a)) k =
-    let q = quiet_counts n c (record c { outstanding = None }) k refl refl in
-    finished_counts n _ (on_call_counts n (quiet (record c { outstanding = None })) c.call a refl k.commands q)
-by_taken_counts n c (Some (TakesReply a r)) k = finished_counts n _ (reply_call_counts n c a r c.call k)
-by_taken_counts n c (Some (TakesRecall r)) k = finished_counts n _ (recalled_counts n c r _ k)
-
--- ---- timeouts and calls
-
-timeout_under_counts : (n : ℕ) (c : Client) (call : Call) (j : ℕ) (o : Option Held) (xs : List Awaited) → Counted n c
-    → FoundCounts n o → StepCounts n (timeout_under c call j o xs)
-timeout_under_counts n c call j (Some h) (a ∷ xs) k f =
-    let q = quiet_counts n c c k refl refl in
-    finished_counts n _ (moved_counts n (quiet c) call.op h (timed_out h call.op call.phase j a xs) q.requests
-    k.commands f (nonces_rise.timed h call.op call.phase j a xs) (timed_out_settled h call.op call.phase j a xs))
-timeout_under_counts n c call j None xs k f = still_counts n c k
-timeout_under_counts n c call j (Some h) [] k f = still_counts n c k
-
-timeout_call_counts : (n : ℕ) (c : Client) (j : ℕ) (o : Option Call) → Counted n c → StepCounts n (timeout_call c j o)
-timeout_call_counts n c j None k = still_counts n c k
-timeout_call_counts n c j (Some call) k =
-    timeout_under_counts n c call j (held_of c.held (file_of call.op)) (of_component j (awaited_in call.phase)) k
-    (found_counts n c.held (file_of call.op) k.commands)
-
-starts_counts : (n : ℕ) (c : Client) (op : CallOp) (b : Bool) → Counted n c
-    → StepCounts n (if b then record (still c) { outcome = Some (WriteOk 0) }
-    else finished (quiet (record c { call = Some (record { op = op; phase = Starts }) })))
-starts_counts n c op true k =
-    let s = still_counts n c k in record { requests = s.requests; commands = s.commands }
-starts_counts n c op false k = finished_counts n _ (quiet_counts n c _ k refl refl)
-
-refuses_counts : (n : ℕ) (c : Client) (a b d : Bool) (x y z : CallErr) (s : Step) → Counted n c → StepCounts n s
-    → StepCounts n (unless_refused c (if a then Err x else if b then Err y else if d then Err z else Ok s))
-refuses_counts n c true b d x y z s k t = still_counts n c k
-refuses_counts n c false true d x y z s k t = still_counts n c k
-refuses_counts n c false false true x y z s k t = still_counts n c k
-refuses_counts n c false false false x y z s k t = t
-
-calls_counts : (n : ℕ) (c : Client) (op : CallOp) → Counted n c → StepCounts n (unless_refused c (calls c op))
-unfolding calls
-calls_counts n c op k =
-    refuses_counts n c (is_some c.call) (is_bad_range (span_of op)) (is_spent c.next) Busy BadRange SlotSpent
-    (starts c op) k (starts_counts n c op (writes_nothing op) k)
 
 pub step_counts : (n : ℕ) (c : Client) (i : Input) → Counted n c → StepCounts n (step c i)
-unfolding hears times_out leaves
-step_counts n c (Calls op) k = calls_counts n c op k
-step_counts n c (Hears from m) k = by_taken_counts n c (takes c from m) k
-step_counts n c (TimesOut j) k = timeout_call_counts n c j c.call k
-step_counts n c Leaves k = finished_counts n _ (quiet_counts n c (record c { due = all_due c.due c.held }) k refl refl)
-step_counts n c Resends k = record {
-  requests = more_numbered n _ c.next (omega arith) k.requests;
-  commands = more_held n _ c.held (omega arith) k.commands;
-}
+step_counts n c i k = each_turn c i (StepCounts n) (cases n c i k)
 
 pub new_counts : (n number : ℕ) → Counted n (new_client number 1)
 new_counts n number = record { requests = record { few = omega arith; spent = λ e. absurd (cc e) }; commands = tt }

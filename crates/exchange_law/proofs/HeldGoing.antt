@@ -1,16 +1,18 @@
 -- A client in the middle of a step: its grants, its call and its outcome stay as they should be.
-use Rattle.std.proofs.Common.{◌≡◌, ◌==◌, ℕ, Bool, true, false, List, Option, Some, None, find, nat_lt, inl, inr, refl, sym, subst, ◌∙◌, if◌then◌else◌}
-use Rattle.world_history.specs.ClientNames.{Call, CallOp, Held, Due, Request, Need, First, Get, Commit, Report, Close, Phase, Starts, Needs, Waits, Reads, Probes, Gathers, Scatters, Turn, Goes, Ends, Forgets, Moved, Done}
+use Rattle.std.proofs.Common.{◌≡◌, ℕ, Bool, true, false, List, Option, Some, None, nat_lt, inl, inr, refl, sym, subst, ◌∙◌, if◌then◌else◌}
+use Rattle.world_history.specs.ClientNames.{CallOp, Held, Due, Request, Need, First, Get, Commit, Report, Close, Phase, Needs, Turn, Goes, Ends, Forgets, Moved, Done}
 use Rattle.client_rules.specs.declared.limits.TheConstants.{MAX_COUNT}
 use Rattle.client_rules.specs.Calls.{file_of}
-use Rattle.client_rules.specs.Going.{phased, with_held, by_turn, moved, begins, starts_with, starts_under, starts_at, starts_call, begun, requests, asks_under, is_held, returns, returns_due, progress_phase, progress_call, progress_free, progressed}
+use Rattle.client_rules.specs.Going.{phased, with_held, by_turn, moved, begins, begun, requests, asks_under, returns, progressed}
 use Rattle.client_rules.specs.Grants.{held_of, put_held, without_held, is_for, covers}
 use Rattle.client_rules.specs.Messages.{Step, finished}
 use Rattle.client_rules.specs.Requests.{args_of}
 use Rattle.client_rules.proofs.HeldGrants.{held_file, put_found}
 use Rattle.exchange_law.proofs.ClientKeeping.{put_read, without_read}
-use Rattle.exchange_law.specs.Calls.{EndsFair, NoGet, Has, NeedFine, Knows, Writes, Passes, PhaseFine, IsCall, CallFine, ClientFine}
+use Rattle.exchange_law.specs.Calls.{EndsFair, NoGet, NeedFine, Knows, Writes, Passes, PhaseFine, IsCall, CallFine, ClientFine}
 use Rattle.exchange_law.proofs.HeldMoving.{IsSame, TurnFine, MoveFine, begins_fine}
+use Rattle.history_law.specs.Turns.{IsBeginning, IsNeeding, IsFirstNeed}
+use Rattle.history_law.proofs.Turns.{each_begin, each_progress}
 
 pub record StepFine (P : ℕ → Held → Type 0) (K : Knows) (s : Step) : Type 0 where
   pub client : ClientFine P K s.client
@@ -71,18 +73,9 @@ module _ (P : ℕ → Held → Type 0) (K : Knows) (n : ℕ) where
   -- ---- a call begins
 
   module _ (r : Rules) where
-    either : (b : Bool) (d e : Done) → (b ≡ true → DoneFine d) → DoneFine e → DoneFine (if b then d else e)
-    either true d e x y = x refl
-    either false d e x y = y
-
     phased_fine : (d : Done) (op : CallOp) (p : Phase) → DoneFine d → IsCall op
         → PhaseFine K (held_of d.client.held (file_of op)) d.client.outstanding op p → DoneFine (phased d op p)
     phased_fine d op p k is x = record { helds = k.helds; call = (is, x); outcome = k.outcome; next = k.next }
-
-    with_fine : (d : Done) (op : CallOp) (need : Need) (out : Option Request) → d.client.outstanding ≡ out → DoneFine d
-        → IsCall op → NeedFine (held_of d.client.held (file_of op)) op need → DoneFine (starts_with d op need out)
-    with_fine d op need None e k is x = phased_fine d op (Needs need) k is (x, subst NoGet (sym e) tt)
-    with_fine d op need (Some q) e k is x = k
 
     for_it : (a b : Bool) → (if a then false else b) ≡ true → b ≡ true
     for_it true b e = absurd (cc e)
@@ -92,33 +85,30 @@ module _ (P : ℕ → Held → Type 0) (K : Knows) (n : ℕ) where
     unfolding covers
     covered h op e = for_it (nat_lt MAX_COUNT h.count) (is_for h.reach h.size op) e
 
-    under_fine : (d : Done) (op : CallOp) (o : Option Held) → held_of d.client.held (file_of op) ≡ o → DoneFine d
-        → IsCall op → NoGet d.client.outstanding → DoneFine (starts_under d op o)
-    under_fine d op None e k is none = with_fine d op (Get 0) d.client.outstanding refl k is e
-    under_fine d op (Some h) e k is none =
-        either (covers h op) _ _
-        (λ t. moved_fine r d op h (begins h op) k.helds is k.outcome k.next none e
-        (begins_fine K d.client.outstanding none h op (covered h op t)))
-        (with_fine d op First d.client.outstanding refl k is (subst Has (sym e) tt))
+    first_fine : (op : CallOp) (need : Need) (o : Option Held) → IsFirstNeed op need o → NeedFine o op need
+    first_fine op (Get tries) None first = refl
+    first_fine op (Get tries) (Some h) first = absurd first
+    first_fine op First None first = absurd first
+    first_fine op First (Some h) first = tt
+    first_fine op (Commit timed) o first = absurd first
+    first_fine op (Report timed) o first = absurd first
+    first_fine op (Close u report) o first = absurd first
 
-    at_fine : (d : Done) (op : CallOp) (p : Phase) → DoneFine d → IsCall op
-        → PhaseFine K (held_of d.client.held (file_of op)) d.client.outstanding op p → DoneFine (starts_at d op p)
-    at_fine d op Starts k is x = under_fine d op (held_of d.client.held (file_of op)) refl k is x
-    at_fine d op (Needs need) k is x = k
-    at_fine d op (Waits need) k is x = k
-    at_fine d op (Reads io) k is x = k
-    at_fine d op (Probes io) k is x = k
-    at_fine d op (Gathers io) k is x = k
-    at_fine d op (Scatters io queue) k is x = k
-
-    call_fine : (d : Done) (o : Option Call) → DoneFine d → CallFine K d.client.held d.client.outstanding o
-        → DoneFine (starts_call d o)
-    call_fine d None k x = k
-    call_fine d (Some call) k x = at_fine d call.op call.phase k x.0 x.1
+    begins_as : (d : Done) (op : CallOp) → DoneFine d → IsBeginning d.client op → IsCall op × NoGet d.client.outstanding
+    begins_as d op k is = subst (CallFine K d.client.held d.client.outstanding) is k.call
 
     begun_fine : (d : Done) → DoneFine d → DoneFine (begun d)
-    unfolding begun
-    begun_fine d k = call_fine d d.client.call k k.call
+    begun_fine d k =
+        each_begin d DoneFine (record {
+          stays = k;
+          needs = λ op need is out first.
+              phased_fine d op (Needs need) k (begins_as d op k is).0
+              (first_fine op need (held_of d.client.held (file_of op)) first, subst NoGet (sym out) tt);
+          begun = λ op h is held covers_it.
+              let it = begins_as d op k is in
+              moved_fine r d op h (begins h op) k.helds it.0 k.outcome k.next it.1 held
+              (begins_fine K d.client.outstanding it.1 h op (covered h op covers_it));
+        })
 
     -- ---- a request goes out
 
@@ -128,10 +118,6 @@ module _ (P : ℕ → Held → Type 0) (K : Knows) (n : ℕ) where
 
     left : (d : Done) → DoneFine d → LeftFine d
     left d k = record { client = record { helds = k.helds; call = k.call }; outcome = k.outcome }
-
-    either_left : (b : Bool) (d e : Done) → LeftFine d → LeftFine e → LeftFine (if b then d else e)
-    either_left true d e x y = x
-    either_left false d e x y = y
 
     -- where no grant is held, only a LAYOUTGET is needed
     asks_none : (d : Done) (op : CallOp) (need : Need) → held_of d.client.held (file_of op) ≡ None → DoneFine d
@@ -218,33 +204,26 @@ module _ (P : ℕ → Held → Type 0) (K : Knows) (n : ℕ) where
       outcome = k.outcome;
     }
 
-    due_fine : (d : Done) → d.client.call ≡ None → DoneFine d → LeftFine (returns_due d)
-    unfolding returns_due
-    due_fine d e k =
-        either_left (d.client.next == 0) _ _ (left d k)
-        (returns_fine d (find (is_held d.client.held) d.client.due) e k)
+    needs_as : (d : Done) (op : CallOp) (need : Need) (o : Option Held) → held_of d.client.held (file_of op) ≡ o
+        → DoneFine d → IsNeeding d.client op need → IsCall op × NeedFine o op need
+    needs_as d op need o held k is =
+        let x : CallFine K d.client.held d.client.outstanding (Some (record { op = op; phase = Needs need })) =
+        subst (CallFine K d.client.held d.client.outstanding) is k.call in
+        (x.0, subst (λ (h : Option Held). NeedFine h op need) held x.1.0)
 
-    phase_goes : (d : Done) (op : CallOp) (p : Phase) → DoneFine d → IsCall op
-        → PhaseFine K (held_of d.client.held (file_of op)) d.client.outstanding op p → LeftFine (progress_phase d op p)
-    phase_goes d op (Needs need) k is x = asks_fine d op need (held_of d.client.held (file_of op)) refl k is x.0
-    phase_goes d op Starts k is x = left d k
-    phase_goes d op (Waits need) k is x = left d k
-    phase_goes d op (Reads io) k is x = left d k
-    phase_goes d op (Probes io) k is x = left d k
-    phase_goes d op (Gathers io) k is x = left d k
-    phase_goes d op (Scatters io queue) k is x = left d k
-
-    call_goes : (d : Done) (o : Option Call) → d.client.call ≡ o → DoneFine d
-        → CallFine K d.client.held d.client.outstanding o → LeftFine (progress_call d o)
-    call_goes d None e k x = due_fine d e k
-    call_goes d (Some call) e k x = phase_goes d call.op call.phase k x.0 x.1
-
-    free_goes : (d : Done) (o : Option Request) → DoneFine d → LeftFine (progress_free d o)
-    free_goes d None k = call_goes d d.client.call refl k k.call
-    free_goes d (Some q) k = left d k
+    progressed_fine : (d : Done) → DoneFine d → LeftFine (progressed d)
+    progressed_fine d k =
+        each_progress d LeftFine (record {
+          waits = λ q out. left d k;
+          works = λ call is out. left d k;
+          spent = λ none out zero. left d k;
+          asks = λ op need h is out held.
+              let x = needs_as d op need h held k is in asks_fine d op need h held k x.0 x.1;
+          gives_back = λ u none out some due. returns_fine d u none k;
+        })
 
     pub finished_fine : (d : Done) → DoneFine d → StepFine P K (finished d)
-    unfolding finished progressed
+    unfolding finished
     finished_fine d k =
-        let l = free_goes (begun d) (begun d).client.outstanding (begun_fine d k) in
+        let l = progressed_fine (begun d) (begun_fine d k) in
         record { client = l.client; outcome = l.outcome }

@@ -1,25 +1,25 @@
 -- Whatever comes to a client: it goes on as it should, and its call ends fairly, where answers are good.
-use Rattle.std.proofs.Common.{◌≡◌, ◌==◌, ℕ, Bool, true, false, List, [], ◌∷◌, Option, Some, None, Ok, Err, find, is_some, inl, inr, refl, sym, subst, if◌then◌else◌}
+use Rattle.std.proofs.Common.{◌≡◌, ℕ, Bool, true, false, List, ◌∷◌, Option, Some, None, find, inl, inr, refl, sym, subst, if◌then◌else◌}
 use Rattle.std.proofs.lemmas.Bool.{eq-eqb, ne_eqb}
 use Rattle.osd_lists.specs.declared.node.Node.{Node}
-use Rattle.osd_lists.specs.declared.node.Node.TheVariants.{Server as FromServer, Drive as FromDrive}
 use Rattle.layout_ops.specs.declared.messages.Answer.{Answer}
 use Rattle.layout_ops.specs.declared.statuses.TheConstants.{NFS4_OK}
-use Rattle.world_history.specs.ClientNames.{Client, Call, CallOp, Busy, BadRange, SlotSpent, Held, Awaited, TimedOut, Request, Recall, Reply, Need, First, Get, Commit, Report, Close, Phase, Starts, Needs, Waits, Reads, Probes, Gathers, Scatters, Outcome, WriteOk, Status, BadLayout, Turn, Goes, Ends, Forgets, Moved, Done}
+use Rattle.world_history.specs.ClientNames.{Client, Call, CallOp, Held, Awaited, TimedOut, Request, Recall, Need, First, Get, Commit, Report, Close, Phase, Starts, Needs, Waits, Reads, Probes, Gathers, Scatters, Outcome, Status, BadLayout, Turn, Goes, Ends, Forgets, Moved, Done}
 use Rattle.client_rules.specs.Answers.{not_granted, is_loss_taken, on_report, on_commit}
-use Rattle.client_rules.specs.Calls.{file_of, span_of}
+use Rattle.client_rules.specs.Calls.{file_of}
 use Rattle.client_rules.specs.Commands.{of_component}
 use Rattle.client_rules.specs.Going.{quiet, over, moved}
 use Rattle.client_rules.specs.Grants.{held_of}
-use Rattle.client_rules.specs.History.{Input, Calls, Hears, TimesOut, Leaves, Resends, unless_refused, step}
+use Rattle.client_rules.specs.History.{Input, Hears, step}
 use Rattle.client_rules.specs.Io.{awaited_in}
-use Rattle.client_rules.specs.Messages.{Message, Answers, Replies, Recalls, answer_taken, reply_taken, is_awaited, TakesAnswer, TakesRecall, still, finished, commit_under, on_need, on_phase, on_call, no_match, obeys, recalled, reply_under, reply_call, awaited_of, takes, by_taken, hears}
+use Rattle.client_rules.specs.Messages.{Message, TakesAnswer, still, finished, commit_under, on_need, on_phase, on_call, no_match, obeys, takes}
 use Rattle.client_rules.specs.Replies.{answers, replied, timed_out}
 use Rattle.client_rules.specs.Results.{status_of}
-use Rattle.client_rules.specs.Steps.{is_bad_range, is_spent, writes_nothing, starts, calls, timeout_under, timeout_call, times_out, leaves}
-use Rattle.exchange_law.specs.Calls.{IsFair, IsPlain, NoGet, WaitFine, Knows, PhaseFine, IsCall, CallFine, ClientFine, TurnFair, GoodAnswer}
+use Rattle.exchange_law.specs.Calls.{IsFair, IsPlain, WaitFine, Knows, PhaseFine, IsCall, CallFine, ClientFine, TurnFair, GoodAnswer}
 use Rattle.exchange_law.proofs.HeldMoving.{IsWorking, none_asked, TurnFine, MoveFine, replied_fine, timed_fine, commit_fine}
 use Rattle.exchange_law.proofs.HeldGoing.{StepFine, Rules, DoneFine, put_fine, turn_fine, moved_fine, finished_fine}
+use Rattle.history_law.specs.Turns.{TurnCases}
+use Rattle.history_law.proofs.Turns.{each_turn}
 
 module _ (P : ℕ → Held → Type 0) (K : Knows) (n : ℕ) (r : Rules P K n) where
   still_fine : (c : Client) → ClientFine P K c → StepFine P K (still c)
@@ -60,36 +60,6 @@ module _ (P : ℕ → Held → Type 0) (K : Knows) (n : ℕ) (r : Rules P K n) w
         moved_fine P K n r (quiet c) op h m k.helds is tt next
         (none_asked K c.outstanding (held_of c.held (file_of op)) op p works x) e
         (moves (subst (λ (o : Option Held). PhaseFine K o c.outstanding op p) e x))
-
-    reply_held : (call : Call) (a : Awaited) (q : Reply) (o : Option Held) → held_of c.held (file_of call.op) ≡ o
-        → IsWorking K None call.phase → CallFine K c.held c.outstanding (Some call)
-        → DoneFine P K n (reply_under c call a q o)
-    reply_held call a q None e works x = quiet_fine c next k
-    reply_held call a q (Some h) e works x =
-        under call.op call.phase h (replied h call.op call.phase a q) e x.0 works x.1
-        (λ y. replied_fine K c.outstanding h call.op call.phase a q works y)
-
-    reply_goes : (f : Awaited → Bool) (a : Awaited) (q : Reply) (o : Option Call) → find f (awaited_of o) ≡ Some a
-        → CallFine K c.held c.outstanding o → DoneFine P K n (reply_call c a q o)
-    reply_goes f a q None e x = absurd (cc e)
-    reply_goes f a q (Some call) e x =
-        reply_held call a q (held_of c.held (file_of call.op)) refl (working call.phase f a e) x
-
-    timeout_held : (call : Call) (j : ℕ) (o : Option Held) (xs : List Awaited)
-        → held_of c.held (file_of call.op) ≡ o → of_component j (awaited_in call.phase) ≡ xs
-        → CallFine K c.held c.outstanding (Some call) → StepFine P K (timeout_under c call j o xs)
-    timeout_held call j None xs e f x = still_fine c k
-    timeout_held call j (Some h) [] e f x = still_fine c k
-    timeout_held call j (Some h) (a ∷ xs) e f x =
-        let works = timing call.phase j a xs f in
-        finished_fine P K n r _
-        (under call.op call.phase h (timed_out h call.op call.phase j a xs) e x.0 works x.1
-        (λ y. timed_fine K c.outstanding h call.op call.phase j a xs works y))
-
-    timeout_goes : (j : ℕ) (o : Option Call) → CallFine K c.held c.outstanding o → StepFine P K (timeout_call c j o)
-    timeout_goes j None x = still_fine c k
-    timeout_goes j (Some call) x =
-        timeout_held call j (held_of c.held (file_of call.op)) (of_component j (awaited_in call.phase)) refl refl x
 
     -- ---- answers
 
@@ -193,14 +163,6 @@ module _ (P : ℕ → Held → Type 0) (K : Knows) (n : ℕ) (r : Rules P K n) w
     refuses_goes : (q : Recall) → DoneFine P K n (no_match c q)
     refuses_goes q = record { helds = k.helds; call = k.call; outcome = tt; next = next }
 
-    either_recall : (q : Recall) (b : Bool) → DoneFine P K n (if b then obeys c q else no_match c q)
-    either_recall q true = obeys_goes q
-    either_recall q false = refuses_goes q
-
-    recall_goes : (q : Recall) (o : Option Held) → DoneFine P K n (recalled c q o)
-    recall_goes q None = refuses_goes q
-    recall_goes q (Some h) = either_recall q _
-
     -- ---- whatever comes
 
     step_of : (d : Done) → DoneFine P K n d → StepFine P K (finished d)
@@ -210,67 +172,49 @@ module _ (P : ℕ → Held → Type 0) (K : Knows) (n : ℕ) (r : Rules P K n) w
     abbrev pub IsGood : Node → Message → Type 0
     IsGood from m = (a : Answer) → takes c from m ≡ Some (TakesAnswer a) → GoodFor a
 
-    reply_fine : (d : ℕ) (q : Reply) (o : Option Awaited) → find (answers d q) (awaited_of c.call) ≡ o
-        → StepFine P K (by_taken c (reply_taken q o))
-    reply_fine d q None e = still_fine c k
-    reply_fine d q (Some a) e = step_of _ (reply_goes (answers d q) a q c.call e k.call)
-
-    answer_fine : (a : Answer) (b : Bool)
-        → ((if b then Some (TakesAnswer a) else None) ≡ Some (TakesAnswer a) → GoodFor a)
-        → StepFine P K (by_taken c (if b then Some (TakesAnswer a) else None))
-    answer_fine a true good = step_of _ (answer_goes a c.call refl (good refl) k.call)
-    answer_fine a false good = still_fine c k
-
-    outstanding_fine : (a : Answer) (o : Option Request) → (answer_taken c a o ≡ Some (TakesAnswer a) → GoodFor a)
-        → StepFine P K (by_taken c (answer_taken c a o))
-    outstanding_fine a None good = still_fine c k
-    outstanding_fine a (Some q) good = answer_fine a (is_awaited c a q) good
-
-    recall_fine : (q : Recall) (b : Bool) → StepFine P K (by_taken c (if b then Some (TakesRecall q) else None))
-    recall_fine q true = step_of _ (recall_goes q (held_of c.held q.file))
-    recall_fine q false = still_fine c k
-
-    hears_fine : (from : Node) (m : Message) → IsGood from m → StepFine P K (hears c from m)
-    unfolding hears takes
-    hears_fine (FromDrive d) (Replies q) good = reply_fine d q (find (answers d q) (awaited_of c.call)) refl
-    hears_fine FromServer (Answers a) good = outstanding_fine a c.outstanding (good a)
-    hears_fine FromServer (Recalls q) good = recall_fine q (q.client == c.number)
-    hears_fine from m good = still_fine c k
-
-    no_call : (o : Option Call) → is_some o ≡ false → CallFine K c.held c.outstanding o → NoGet c.outstanding
-    no_call None e x = x
-    no_call (Some call) e x = absurd (cc e)
-
-    begins_call : (op : CallOp) → is_some c.call ≡ false → is_bad_range (span_of op) ≡ false → (b : Bool)
-        → writes_nothing op ≡ b
-        → StepFine P K (if b then record (still c) { outcome = Some (WriteOk 0) }
-        else finished (quiet (record c { call = Some (record { op = op; phase = Starts }) })))
-    begins_call op none fine true e = record { client = k; outcome = tt }
-    begins_call op none fine false e = step_of _ (record {
-      helds = k.helds;
-      call = (record { range = fine; some = e }, no_call c.call none k.call);
-      outcome = tt;
-      next = next;
-    })
-
-    called : (op : CallOp) (a b s : Bool) → is_some c.call ≡ a → is_bad_range (span_of op) ≡ b
-        → StepFine P K (unless_refused c (if a then Err Busy else if b then Err BadRange else if s then Err SlotSpent
-        else Ok (starts c op)))
-    called op true b s e f = still_fine c k
-    called op false true s e f = still_fine c k
-    called op false false true e f = still_fine c k
-    called op false false false e f = begins_call op e f (writes_nothing op) refl
-
     -- in any step of it
     abbrev pub IsGoodInput : Input → Type 0
     IsGoodInput (Hears from m) = IsGood from m
     IsGoodInput i = Unit {0}
 
+    -- what the call does with the drives under its grant
+    under_grant : (call : Call) (h : Held) (m : Moved) → c.call ≡ Some call → held_of c.held (file_of call.op) ≡ Some h
+        → IsWorking K None call.phase
+        → (PhaseFine K (Some h) c.outstanding call.op call.phase → MoveFine K c.outstanding h call.op m)
+        → StepFine P K (finished (moved (quiet c) call.op m))
+    under_grant call h m is held works moves =
+        let x : CallFine K c.held c.outstanding (Some call) = subst (CallFine K c.held c.outstanding) is k.call in
+        step_of _ (under call.op call.phase h m held x.0 works x.1 moves)
+
+    cases : (i : Input) → IsGoodInput i → TurnCases c i (StepFine P K)
+    cases i good = record {
+      rests = still_fine c k;
+      nothing = λ op is e. record { client = k; outcome = tt };
+      called = λ op is none can.
+          step_of _ (record {
+            helds = k.helds;
+            call = (
+              record { range = can.range; some = can.some },
+              subst (CallFine K c.held c.outstanding) none k.call,
+            );
+            outcome = tt;
+            next = next;
+          });
+      answered = λ a is. step_of _ (answer_goes a c.call refl (subst IsGoodInput is.is good a is.takes_it) k.call);
+      replied = λ drive q call h a is.
+          let works = working call.phase (answers drive q) a is.awaits in
+          under_grant call h (replied h call.op call.phase a q) is.call_is is.held works
+          (λ y. replied_fine K c.outstanding h call.op call.phase a q works y);
+      unheld = step_of _ (quiet_fine c next k);
+      recalled = λ q is. step_of _ (obeys_goes q);
+      unmatched = λ q is. step_of _ (refuses_goes q);
+      timed = λ j call h a xs is.
+          let works = timing call.phase j a xs is.awaits in
+          under_grant call h (timed_out h call.op call.phase j a xs) is.call_is is.held works
+          (λ y. timed_fine K c.outstanding h call.op call.phase j a xs works y);
+      leaves = λ is. step_of _ (record { helds = k.helds; call = k.call; outcome = tt; next = next });
+      resends = λ is. record { client = k; outcome = tt };
+    }
+
     pub step_fine : (i : Input) → IsGoodInput i → StepFine P K (step c i)
-    unfolding calls times_out leaves
-    step_fine (Calls op) good = called op (is_some c.call) (is_bad_range (span_of op)) (is_spent c.next) refl refl
-    step_fine (Hears from m) good = hears_fine from m good
-    step_fine (TimesOut j) good = timeout_goes j c.call k.call
-    step_fine Leaves good =
-        step_of _ (record { helds = k.helds; call = k.call; outcome = tt; next = next })
-    step_fine Resends good = record { client = k; outcome = tt }
+    step_fine i good = each_turn c i (StepFine P K) (cases i good)

@@ -1,13 +1,13 @@
 -- A client in the middle of a step keeps what holds of its grants and of what its call awaits.
-use Rattle.std.proofs.Common.{◌≡◌, ℕ, Bool, true, false, List, [], map, Option, Some, None, refl, sym, subst, ◌∙◌, inl, inr, if◌then◌else◌}
+use Rattle.std.proofs.Common.{◌≡◌, ℕ, List, [], map, Option, Some, None, refl, sym, subst, ◌∙◌, inl, inr}
 use Rattle.server_rules.specs.Laws.{In}
 use Rattle.server_rules.proofs.Members.{in_either, in_mapped}
-use Rattle.exchange_law.specs.ClientState.{Client, Call, CallOp, Held, Due, Awaited, Need, First, Get, Phase, Starts, Needs, Waits, Reads, Probes, Gathers, Scatters, Turn, Goes, Ends, Forgets, Moved, Done, AnswersRecall, Asks, ToDrive, Request, Command}
+use Rattle.exchange_law.specs.ClientState.{Client, Call, CallOp, Held, Due, Awaited, Need, Phase, Starts, Needs, Waits, Turn, Goes, Ends, Forgets, Moved, Done, AnswersRecall, Asks, ToDrive, Command}
 use Rattle.client_rules.specs.Calls.{file_of}
-use Rattle.client_rules.specs.Grants.{covers, held_of, put_held}
+use Rattle.client_rules.specs.Grants.{held_of, put_held}
 use Rattle.client_rules.specs.Requests.{get_args, args_of, return_args}
 use Rattle.client_rules.specs.Io.{awaited_in}
-use Rattle.client_rules.specs.Going.{quiet, with_held, by_turn, moved, begins, starts_with, starts_under, starts_at, starts_call, begun, requests, asks_under, returns, returns_due, progress_phase, progress_call, progress_free, progressed}
+use Rattle.client_rules.specs.Going.{quiet, with_held, by_turn, moved, begins, requests, asks_under, returns}
 use Rattle.client_rules.specs.Messages.{Step, still, to_drive, sends_of, closed, finished}
 use Rattle.client_rules.specs.Laws.{IsNumbered}
 use Rattle.client_rules.proofs.Numbering.{nonces_rise}
@@ -16,6 +16,8 @@ use Rattle.exchange_law.proofs.Kept.{FairPhase, FairTurn, IsKept, begins_kept}
 use Rattle.exchange_law.proofs.LaneMoves.{IsOf, AreOf, PhaseFine, PhaseWell, TurnWell, MovedWell, phase_well, begins_well}
 use Rattle.exchange_law.proofs.LaneGrowing.{With, AreLatest, of_same, all_of, moved_latest}
 use Rattle.exchange_law.proofs.Fine.{HeldsFine, CallFine, AreSent, ClientFine, fewer, fewer_helds, without_fine, after_fine, moved_helds}
+use Rattle.history_law.specs.Turns.{FinishCases}
+use Rattle.history_law.proofs.Turns.{each_finish}
 
 -- a call that hasn't begun has sent nothing
 abbrev pub FairCall : Option Call → List Awaited → Type 0
@@ -87,10 +89,6 @@ module _ (S : Command → Type 0) where
   pub quiet_fine : (c : Client) → ClientFine S c.held c.call → DoneFine S (quiet c)
   quiet_fine c f = record { client = none_sent c.held c.call f; fair = call_still c.call }
 
-  pub either_done : (b : Bool) (d e : Done) → DoneFine S d → DoneFine S e → DoneFine S (if b then d else e)
-  either_done true d e x y = x
-  either_done false d e x y = y
-
   -- ---- what becomes of a call
 
   abbrev TurnFine : Done → CallOp → Turn → Type 0
@@ -155,43 +153,7 @@ module _ (S : Command → Type 0) where
         (moved_helds S d.client.held (file_of op) h m old there file_is numbers well helds) (turned m.turn well.turn)
         kept.fair
 
-  -- ---- a call begins
-
-  starts_with_fine : (d : Done) (op : CallOp) (n : Need) (o : Option Request) → DoneFine S d
-      → DoneFine S (starts_with d op n o)
-  starts_with_fine d op n None f = record {
-    client = empty_client (With S d.commands) d.client.held op (Needs n) refl tt f.client.helds;
-    fair = tt;
-  }
-  starts_with_fine d op n (Some r) f = f
-
-  starts_under_fine : (d : Done) (op : CallOp) (o : Option Held) → held_of d.client.held (file_of op) ≡ o
-      → DoneFine S d → DoneFine S (starts_under d op o)
-  starts_under_fine d op None e f = starts_with_fine d op (Get 0) _ f
-  starts_under_fine d op (Some h) e f =
-      either_done (covers h op) (moved d op (begins h op)) (starts_with d op First d.client.outstanding)
-      (moved_fine d op h (begins h op) [] e (nonces_rise.begun h op) (begins_kept h op) (begins_well h [] op)
-      (λ x i. absurd i) (λ x i w b. absurd i) (λ x i. absurd i) (plain_helds d.commands d.client.held f.client.helds))
-      (starts_with_fine d op First _ f)
-
-  starts_at_fine : (d : Done) (op : CallOp) (p : Phase) → DoneFine S d → DoneFine S (starts_at d op p)
-  starts_at_fine d op Starts f = starts_under_fine d op _ refl f
-  starts_at_fine d op (Needs n) f = f
-  starts_at_fine d op (Waits n) f = f
-  starts_at_fine d op (Reads io) f = f
-  starts_at_fine d op (Probes io) f = f
-  starts_at_fine d op (Gathers io) f = f
-  starts_at_fine d op (Scatters io queue) f = f
-
-  starts_call_fine : (d : Done) (o : Option Call) → DoneFine S d → DoneFine S (starts_call d o)
-  starts_call_fine d None f = f
-  starts_call_fine d (Some call) f = starts_at_fine d call.op call.phase f
-
-  begun_fine : (d : Done) → DoneFine S d → DoneFine S (begun d)
-  unfolding begun
-  begun_fine d f = starts_call_fine d d.client.call f
-
-  -- ---- a request goes out
+  -- ---- to the end of a step
 
   asks_fine : (d : Done) (op : CallOp) (n : Need) (o : Option Held) → DoneFine S d → DoneFine S (asks_under d op n o)
   unfolding requests
@@ -227,26 +189,19 @@ module _ (S : Command → Type 0) where
     fair = f.fair;
   }
 
-  due_fine : (d : Done) → IsIdle d → DoneFine S d → DoneFine S (returns_due d)
-  unfolding returns_due
-  due_fine d none f = either_done _ _ _ f (returns_fine d _ none f)
-
-  progress_phase_fine : (d : Done) (op : CallOp) (p : Phase) → DoneFine S d → DoneFine S (progress_phase d op p)
-  progress_phase_fine d op (Needs n) f = asks_fine d op n _ f
-  progress_phase_fine d op Starts f = f
-  progress_phase_fine d op (Waits n) f = f
-  progress_phase_fine d op (Reads io) f = f
-  progress_phase_fine d op (Probes io) f = f
-  progress_phase_fine d op (Gathers io) f = f
-  progress_phase_fine d op (Scatters io queue) f = f
-
-  progress_call_fine : (d : Done) (o : Option Call) → d.client.call ≡ o → DoneFine S d → DoneFine S (progress_call d o)
-  progress_call_fine d None e f = due_fine d e f
-  progress_call_fine d (Some call) e f = progress_phase_fine d call.op call.phase f
-
-  progress_free_fine : (d : Done) (o : Option Request) → DoneFine S d → DoneFine S (progress_free d o)
-  progress_free_fine d None f = progress_call_fine d d.client.call refl f
-  progress_free_fine d (Some r) f = f
+  kept : FinishCases (DoneFine S)
+  kept = record {
+    needs = λ d op n f is out first. record {
+      client = empty_client (With S d.commands) d.client.held op (Needs n) refl tt f.client.helds;
+      fair = tt;
+    };
+    begun = λ d op h f is held covered.
+        moved_fine d op h (begins h op) [] held (nonces_rise.begun h op) (begins_kept h op) (begins_well h [] op)
+        (λ x i. absurd i) (λ x i w b. absurd i) (λ x i. absurd i)
+        (plain_helds d.commands d.client.held f.client.helds);
+    asks = λ d op n h f is out held. asks_fine d op n h f;
+    gives_back = λ d u f none out. returns_fine d u none f;
+  }
 
   -- ---- what is sent
 
@@ -274,8 +229,8 @@ module _ (S : Command → Type 0) where
   closed_fine d f = record { commands = d.commands; client = f.client; sends = λ k y i. in_sends d k y i }
 
   pub finished_fine : (d : Done) → DoneFine S d → StepFine S (finished d)
-  unfolding finished progressed
-  finished_fine d f = closed_fine _ (progress_free_fine (begun d) (begun d).client.outstanding (begun_fine d f))
+  unfolding finished
+  finished_fine d f = closed_fine _ (each_finish (DoneFine S) kept d f)
 
   pub still_fine : (c : Client) → ClientFine S c.held c.call → StepFine S (still c)
   still_fine c f = record { commands = []; client = none_sent c.held c.call f; sends = λ d y i. absurd i }

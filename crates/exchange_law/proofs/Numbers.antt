@@ -1,21 +1,19 @@
 -- Whatever comes to a client, its nonces rise in their grants.
-use Rattle.std.proofs.Common.{◌≡◌, ◌<◌, ℕ, ◌+◌, ◌==◌, Bool, true, false, List, [], ◌∷◌, ◌++◌, length, refl, sym, ap, ◌∙◌, arith}
-use Rattle.std.specs.Prelude.{if◌then◌else◌, map, is_some, Option, Some, None, Result, Ok, Err}
+use Rattle.std.proofs.Common.{◌≡◌, ◌<◌, ℕ, ◌+◌, ◌==◌, Bool, true, false, List, [], ◌∷◌, ◌++◌, length, refl, sym, ap, subst, ◌∙◌, arith}
+use Rattle.std.specs.Prelude.{if◌then◌else◌, map, is_some, Option, Some, None, Ok, Err}
 use Rattle.std.proofs.lemmas.List.{append-nil, append_assoc, length-append, length-map}
 use Rattle.layout_ops.specs.declared.args.Args.{Args}
-use Rattle.layout_ops.specs.declared.statuses.TheConstants.{NFS4_OK}
 use Rattle.layout_ops.specs.declared.results.LayoutGetOk.{LayoutGetOk}
 use Rattle.client_rules.specs.declared.limits.TheConstants.{NONCES}
-use Rattle.exchange_law.specs.ClientState.{Client, Call, CallOp, CallErr, Busy, BadRange, SlotSpent, Held, Due, Awaited, TimedOut, Need, First, Get, Commit, Report, Close, Phase, Starts, Needs, Waits, Reads, Probes, Gathers, Scatters, Outcome, WriteOk, Why, Turn, Goes, Ends, Forgets, Moved, Done, AnswersRecall, Asks, Request, Answer, Recall, RecallAnswer, Reply}
+use Rattle.exchange_law.specs.ClientState.{Client, Call, CallOp, CallErr, Busy, BadRange, SlotSpent, Held, Due, Awaited, Need, Phase, Starts, Needs, Waits, Outcome, WriteOk, Turn, Goes, Ends, Forgets, Moved, Done, AnswersRecall, Asks, Request, Answer, Recall, RecallAnswer, Reply}
 use Rattle.client_rules.specs.Calls.{file_of, span_of}
-use Rattle.client_rules.specs.Grants.{covers, held_of, put_held}
+use Rattle.client_rules.specs.Grants.{held_of, put_held}
 use Rattle.client_rules.specs.Requests.{grant_in, get_args, args_of, return_args}
-use Rattle.client_rules.specs.Results.{status_of, layouts_in}
-use Rattle.client_rules.specs.Layouts.{taken}
+use Rattle.client_rules.specs.Results.{layouts_in}
 use Rattle.client_rules.specs.Replies.{replied, timed_out}
 use Rattle.client_rules.specs.Answers.{not_granted, on_commit}
-use Rattle.client_rules.specs.Going.{quiet, phased, over, with_held, by_turn, moved, begins, starts_with, starts_under, starts_at, starts_call, begun, requests, asks_under, returns, returns_due, progress_phase, progress_call, progress_free, progressed}
-use Rattle.client_rules.specs.Messages.{Step, still, to_drive, sends_of, closed, finished, answered_get, commit_under, on_need, on_phase, on_call, no_match, obeys, recalled, reply_under, reply_call, Taken, TakesAnswer, TakesReply, TakesRecall, takes, on_taken, by_taken, hears}
+use Rattle.client_rules.specs.Going.{quiet, phased, over, with_held, by_turn, moved, begins, begun, requests, asks_under, returns, progressed}
+use Rattle.client_rules.specs.Messages.{Step, still, to_drive, sends_of, closed, finished, on_call, no_match, obeys, recalled, reply_under, reply_call, Taken, TakesAnswer, TakesReply, TakesRecall, takes, on_taken, by_taken, hears}
 use Rattle.client_rules.specs.Steps.{timeout_under, timeout_call, times_out, is_bad_range, is_spent, writes_nothing, starts, calls, all_due, leaves, new_client}
 use Rattle.client_rules.specs.History.{Input, Calls, Hears, TimesOut, Leaves, Resends, unless_refused, step}
 use Rattle.client_rules.specs.Laws.{nonce_of, IsNumbered}
@@ -27,6 +25,8 @@ use Rattle.exchange_law.proofs.Kept.{FairPhase, FairTurn, IsKept, replied_kept, 
 use Rattle.exchange_law.proofs.ClientGiven.{IsGiven, taken_given}
 use Rattle.exchange_law.proofs.ClientKeeping.{IsKeeping, without_keeping, after_keeping, more_keeping, given_keeping, sent_keeping}
 use Rattle.exchange_law.proofs.LaneGoing.{turn_still, FairCall, call_still}
+use Rattle.history_law.specs.Turns.{IsBeginning, FinishCases}
+use Rattle.history_law.proofs.Turns.{each_answer, each_finish}
 
 -- ---- a client in the middle of a step
 
@@ -92,38 +92,6 @@ moved_counts before xs d op h m q e n kept k =
 
 -- ---- what follows in a step
 
-starts_with_counts : (before xs : List ℕ) (d : Done) (op : CallOp) (n : Need) (o : Option Request) → IsCounting before xs d →
-    IsCounting before xs (starts_with d op n o)
-starts_with_counts before xs d op n None k = phased_counts before xs d op (Needs n) tt k
-starts_with_counts before xs d op n (Some r) k = k
-
-starts_under_counts : (before xs : List ℕ) (d : Done) (op : CallOp) (o : Option Held) → held_of d.client.held (file_of op) ≡ o →
-    d.commands ≡ [] → IsCounting before xs d → IsCounting before xs (starts_under d op o)
-starts_under_counts before xs d op None e q k = starts_with_counts before xs d op (Get 0) _ k
-starts_under_counts before xs d op (Some h) e q k =
-    either_done before xs (covers h op) (moved d op (begins h op)) (starts_with d op First d.client.outstanding)
-    (moved_counts before xs d op h (begins h op) q e (nonces_rise.begun h op) (begins_kept h op) k)
-    (starts_with_counts before xs d op First _ k)
-
-starts_at_counts : (before xs : List ℕ) (d : Done) (op : CallOp) (p : Phase) → FairPhase p d.commands → IsCounting before xs d →
-    IsCounting before xs (starts_at d op p)
-starts_at_counts before xs d op Starts f k = starts_under_counts before xs d op _ refl f k
-starts_at_counts before xs d op (Needs n) f k = k
-starts_at_counts before xs d op (Waits n) f k = k
-starts_at_counts before xs d op (Reads io) f k = k
-starts_at_counts before xs d op (Probes io) f k = k
-starts_at_counts before xs d op (Gathers io) f k = k
-starts_at_counts before xs d op (Scatters io queue) f k = k
-
-starts_call_counts : (before xs : List ℕ) (d : Done) (o : Option Call) → FairCall o d.commands → IsCounting before xs d →
-    IsCounting before xs (starts_call d o)
-starts_call_counts before xs d None f k = k
-starts_call_counts before xs d (Some call) f k = starts_at_counts before xs d call.op call.phase f k
-
-begun_counts : (before xs : List ℕ) (d : Done) → IsCounting before xs d → IsCounting before xs (begun d)
-unfolding begun
-begun_counts before xs d k = starts_call_counts before xs d d.client.call k.fair k
-
 requests_counts : (before xs : List ℕ) (d : Done) (file : ℕ) (a : Args) → IsCounting before xs d →
     IsCounting before xs (requests d file a)
 unfolding requests
@@ -142,29 +110,19 @@ returns_counts before xs d None k = record { holds = k.holds; fair = k.fair }
 returns_counts before xs d (Some u) k =
     requests_counts before xs _ u.file (return_args u.number []) (record { holds = k.holds; fair = k.fair })
 
-returns_due_counts : (before xs : List ℕ) (d : Done) → IsCounting before xs d → IsCounting before xs (returns_due d)
-unfolding returns_due
-returns_due_counts before xs d k = either_done before xs _ _ _ k (returns_counts before xs d _ k)
+-- a call that hasn't begun has sent nothing
+none_sent : (before xs : List ℕ) (d : Done) (op : CallOp) → IsCounting before xs d → IsBeginning d.client op → d.commands ≡ []
+none_sent before xs d op k is = subst (λ (o : Option Call). FairCall o d.commands) is k.fair
 
-progress_phase_counts : (before xs : List ℕ) (d : Done) (op : CallOp) (p : Phase) → IsCounting before xs d →
-    IsCounting before xs (progress_phase d op p)
-progress_phase_counts before xs d op (Needs n) k = asks_under_counts before xs d op n _ k
-progress_phase_counts before xs d op Starts k = k
-progress_phase_counts before xs d op (Waits n) k = k
-progress_phase_counts before xs d op (Reads io) k = k
-progress_phase_counts before xs d op (Probes io) k = k
-progress_phase_counts before xs d op (Gathers io) k = k
-progress_phase_counts before xs d op (Scatters io queue) k = k
-
-progress_call_counts : (before xs : List ℕ) (d : Done) (o : Option Call) → IsCounting before xs d →
-    IsCounting before xs (progress_call d o)
-progress_call_counts before xs d None k = returns_due_counts before xs d k
-progress_call_counts before xs d (Some call) k = progress_phase_counts before xs d call.op call.phase k
-
-progress_free_counts : (before xs : List ℕ) (d : Done) (o : Option Request) → IsCounting before xs d →
-    IsCounting before xs (progress_free d o)
-progress_free_counts before xs d None k = progress_call_counts before xs d d.client.call k
-progress_free_counts before xs d (Some r) k = k
+kept : (before xs : List ℕ) → FinishCases (IsCounting before xs)
+kept before xs = record {
+  needs = λ d op n k is out first. phased_counts before xs d op (Needs n) tt k;
+  begun = λ d op h k is held covered.
+      moved_counts before xs d op h (begins h op) (none_sent before xs d op k is) held (nonces_rise.begun h op)
+      (begins_kept h op) k;
+  asks = λ d op n h k is out held. asks_under_counts before xs d op n h k;
+  gives_back = λ d u k none out. returns_counts before xs d u k;
+}
 
 -- ---- what a step leaves
 
@@ -191,10 +149,9 @@ closed_counts before xs d k b =
     rw same (k.holds (rw same at b))
 
 finished_counts : (before xs : List ℕ) (d : Done) → IsCounting before xs d → AreKept before xs (finished d)
-unfolding finished progressed
+unfolding finished
 finished_counts before xs d k =
-    closed_counts before xs (progress_free (begun d) (begun d).client.outstanding)
-    (progress_free_counts before xs (begun d) (begun d).client.outstanding (begun_counts before xs d k))
+    closed_counts before xs (progressed (begun d)) (each_finish (IsCounting before xs) (kept before xs) d k)
 
 still_counts : (before xs : List ℕ) (c : Client) → (length xs < NONCES → IsKeeping c.held before xs) → AreKept before xs (still c)
 still_counts before xs c k b = rw (append-nil xs) (k (rw (append-nil xs) at b))
@@ -217,51 +174,25 @@ given_counts before xs d op o h q differ g k = record {
   fair = q;
 }
 
-answered_get_counts : (before xs : List ℕ) (d : Done) (op : CallOp) (o : Option LayoutGetOk) (r : Result Held Why) →
-    d.commands ≡ [] → AllDiffer (before ++ given o) → ((h : Held) → r ≡ Ok h → IsGiven o h) → IsCounting before xs d →
-    IsCounting (before ++ given o) xs (answered_get d op r)
-answered_get_counts before xs d op o (Err w) q differ g k =
-    over_counts (before ++ given o) xs d _ (more_counts before (given o) xs d k)
-answered_get_counts before xs d op o (Ok h) q differ g k = given_counts before xs d op o h q differ (g h refl) k
-
-commit_under_counts : (before xs : List ℕ) (d : Done) (op : CallOp) (a : Answer) (timed : List TimedOut) (o : Option Held) →
-    held_of d.client.held (file_of op) ≡ o → d.commands ≡ [] → IsCounting before xs d →
-    IsCounting before xs (commit_under d op a (Commit timed) o)
-commit_under_counts before xs d op a timed None e q k = k
-commit_under_counts before xs d op a timed (Some h) e q k =
-    moved_counts before xs d op h (on_commit h op a timed) q e (nonces_rise.committed h op a timed)
-    (on_commit_kept h op a timed) k
-
-on_need_counts : (before xs : List ℕ) (d : Done) (op : CallOp) (n : Need) (a : Answer) → d.commands ≡ [] →
+answered_counts : (before xs : List ℕ) (d : Done) (a : Answer) → d.commands ≡ [] →
     AllDiffer (before ++ given (layouts_in a.results)) → IsCounting before xs d →
-    IsCounting (before ++ given (layouts_in a.results)) xs (on_need d op n a)
-on_need_counts before xs d op First a q differ k = phased_counts _ xs d op Starts q (more_counts before _ xs d k)
-on_need_counts before xs d op (Get tries) a q differ k =
-    either_done (before ++ given (layouts_in a.results)) xs (status_of a.results == NFS4_OK) (answered_get d op (taken a op))
-    (by_turn d op (not_granted a tries))
-    (answered_get_counts before xs d op (layouts_in a.results) (taken a op) q differ (λ h e. taken_given a op h e) k)
-    (not_granted_counts (before ++ given (layouts_in a.results)) xs d op a tries q (more_counts before _ xs d k))
-on_need_counts before xs d op (Commit timed) a q differ k =
-    commit_under_counts _ xs d op a timed _ refl q (more_counts before _ xs d k)
-on_need_counts before xs d op (Report timed) a q differ k = over_counts _ xs d _ (more_counts before _ xs d k)
-on_need_counts before xs d op (Close outcome report) a q differ k = over_counts _ xs d outcome (more_counts before _ xs d k)
-
-on_phase_counts : (before xs : List ℕ) (d : Done) (op : CallOp) (p : Phase) (a : Answer) → d.commands ≡ [] →
-    AllDiffer (before ++ given (layouts_in a.results)) → IsCounting before xs d →
-    IsCounting (before ++ given (layouts_in a.results)) xs (on_phase d op p a)
-on_phase_counts before xs d op (Waits n) a q differ k = on_need_counts before xs d op n a q differ k
-on_phase_counts before xs d op Starts a q differ k = more_counts before _ xs d k
-on_phase_counts before xs d op (Needs n) a q differ k = more_counts before _ xs d k
-on_phase_counts before xs d op (Reads io) a q differ k = more_counts before _ xs d k
-on_phase_counts before xs d op (Probes io) a q differ k = more_counts before _ xs d k
-on_phase_counts before xs d op (Gathers io) a q differ k = more_counts before _ xs d k
-on_phase_counts before xs d op (Scatters io queue) a q differ k = more_counts before _ xs d k
-
-on_call_counts : (before xs : List ℕ) (d : Done) (o : Option Call) (a : Answer) → d.commands ≡ [] →
-    AllDiffer (before ++ given (layouts_in a.results)) → IsCounting before xs d →
-    IsCounting (before ++ given (layouts_in a.results)) xs (on_call d o a)
-on_call_counts before xs d None a q differ k = more_counts before _ xs d k
-on_call_counts before xs d (Some call) a q differ k = on_phase_counts before xs d call.op call.phase a q differ k
+    IsCounting (before ++ given (layouts_in a.results)) xs (on_call d d.client.call a)
+answered_counts before xs d a q differ k =
+    let all : List ℕ = before ++ given (layouts_in a.results) in
+    let more : IsCounting all xs d = more_counts before (given (layouts_in a.results)) xs d k in
+    each_answer d a (IsCounting all xs) (record {
+      stays = more;
+      returned = λ op is. phased_counts all xs d op Starts q more;
+      granted = λ op tries h is took.
+          given_counts before xs d op (layouts_in a.results) h q differ (taken_given a op h took) k;
+      unusable = λ op tries w is took. over_counts all xs d _ more;
+      refused = λ op tries is. not_granted_counts all xs d op a tries q more;
+      committed = λ op timed h is held.
+          moved_counts all xs d op h (on_commit h op a timed) q held (nonces_rise.committed h op a timed)
+          (on_commit_kept h op a timed) more;
+      reported = λ op timed is. over_counts all xs d _ more;
+      closed = λ op o report is. over_counts all xs d o more;
+    })
 
 -- ---- recalls and replies
 
@@ -298,7 +229,7 @@ by_taken_counts : (before xs : List ℕ) (c : Client) (t : Option Taken) → All
 by_taken_counts before xs c None differ k = still_counts _ xs c (none_more before xs c.held k)
 by_taken_counts before xs c (Some (TakesAnswer a)) differ k =
     finished_counts _ xs (on_taken c (TakesAnswer a))
-    (on_call_counts before xs (quiet (record c { outstanding = None })) c.call a refl differ
+    (answered_counts before xs (quiet (record c { outstanding = None })) a refl differ
     (quiet_counts before xs (record c { outstanding = None }) k))
 by_taken_counts before xs c (Some (TakesReply a r)) differ k =
     finished_counts _ xs (on_taken c (TakesReply a r)) (reply_call_counts _ xs c a r c.call (none_more before xs c.held k))

@@ -62,7 +62,7 @@ stays_returning o d (Some u) q = q
 finished_ends : (o : Option CallOp) (d : Done) → Stays o d → EndsAs o (finished d).outcome (finished d).client.call
 unfolding finished
 finished_ends o d q = each_finish (Stays o) (record {
-  needs = λ e op n s is out.
+  needs = λ e op n s is out first.
       let r = running o e.outcome e.client.call (record { op = op; phase = Starts }) is s in
       stays_at o e op (Needs n) r.1 r.0;
   begun = λ e op h s is held covered.
@@ -137,7 +137,7 @@ pub turn_ends : (c : Client) (i : Input) → ((op : CallOp) → i ≡ Calls op �
 turn_ends c i other = each_turn c i (Ended (pending_op c)) (record {
   rests = refl;
   nothing = λ op is nothing. absurd (other op is);
-  called = λ op is free. absurd (other op is);
+  called = λ op is free can. absurd (other op is);
   answered = λ a is. finished_ends (pending_op c) _ (answer_stays (quiet (record c { outstanding = None })) c.call a refl refl);
   replied = λ drive q call h a is. moved_ends c call _ is.call_is;
   unheld = finished_ends (pending_op c) (quiet c) refl;

@@ -1,22 +1,24 @@
 -- A client in the middle of a step sends drives commands that are placed, under grants that the server gave it.
-use Rattle.std.proofs.Common.{◌≡◌, ◌==◌, ℕ, Bool, true, false, List, [], ◌∷◌, ◌++◌, Option, Some, None, map, nat_lt, refl, sym, ap, subst, ◌∙◌, inl, inr, arith, if◌then◌else◌}
+use Rattle.std.proofs.Common.{◌≡◌, ◌==◌, ℕ, true, List, [], ◌∷◌, ◌++◌, Option, Some, None, map, nat_lt, sym, ap, subst, ◌∙◌, inl, inr, arith}
 use Rattle.std.specs.List.{AllByRecursion}
 use Rattle.std.proofs.lemmas.Bool.{cases_Bool}
 use Rattle.std.proofs.lemmas.Bool.Decides.{nat_tests}
 use Rattle.layout_ops.specs.declared.args.Args.{Args}
 use Rattle.layout_ops.specs.declared.args.Args.TheVariants as args
-use Rattle.exchange_law.specs.PlaceState.{Client, Call, CallOp, Held, Due, Awaited, Need, First, Get, Phase, Starts, Needs, Waits, Reads, Probes, Gathers, Scatters, Turn, Goes, Ends, Forgets, Moved, Done, Outgoing, AnswersRecall, Asks, ToDrive, Request, RecallAnswer}
+use Rattle.exchange_law.specs.PlaceState.{Client, Call, CallOp, Held, Due, Awaited, Need, Phase, Needs, Waits, Turn, Goes, Ends, Forgets, Moved, Done, Outgoing, AnswersRecall, Asks, ToDrive, Request, RecallAnswer}
 use Rattle.client_rules.specs.Calls.{file_of}
-use Rattle.client_rules.specs.Grants.{covers, held_of, put_held, without_held}
+use Rattle.client_rules.specs.Grants.{held_of, put_held, without_held}
 use Rattle.client_rules.specs.Requests.{get_args, args_of, return_args}
 use Rattle.client_rules.specs.Io.{awaited_in}
-use Rattle.client_rules.specs.Going.{quiet, with_held, by_turn, moved, begins, starts_with, starts_under, starts_at, starts_call, begun, held_after, requests, asks_under, returns, returns_due, progress_phase, progress_call, progress_free, progressed}
+use Rattle.client_rules.specs.Going.{quiet, phased, with_held, by_turn, moved, begins, held_after, requests, asks_under, returns}
 use Rattle.client_rules.specs.Messages.{Step, still, to_drive, closed, finished}
 use Rattle.client_rules.proofs.HeldGrants.{put_found}
 use Rattle.exchange_law.specs.Kept.{IsOwnGrant}
 use Rattle.exchange_law.proofs.Commands.{MaySend}
 use Rattle.exchange_law.proofs.PlaceSending.{ArePlaced, PhaseFits, TurnFits, MovedFits}
 use Rattle.exchange_law.proofs.PlaceMoving.{begins_fits}
+use Rattle.history_law.specs.Turns.{FinishCases}
+use Rattle.history_law.proofs.Turns.{each_finish}
 
 -- ---- a client between steps
 
@@ -106,10 +108,6 @@ phase_at hs call h k e = subst (λ (o : Option Held). UnderFits o call.op call.p
 module _ (c : ℕ) where
   -- ---- what becomes of a call
 
-  pub either_done : (b : Bool) (d e : Done) → DoneFits c d → DoneFits c e → DoneFits c (if b then d else e)
-  either_done true d e k l = k
-  either_done false d e k l = l
-
   pub quiet_fits : (x : Client) → ClientFits c x → DoneFits c (quiet x)
   quiet_fits x k = record { helds = k.helds; call = k.call; commands = tt }
 
@@ -136,48 +134,7 @@ module _ (c : ℕ) where
       by_turn_fits (record (with_held d m.held) { commands = m.sent }) op m.held m.turn
       (put_all (IsOwnGrant c) d.client.held m.held k l.held) l.sent put l.turn
 
-  -- ---- a call begins
-
-  starts_with_fits : (d : Done) (op : CallOp) (n : Need) (o : Option Request) → DoneFits c d
-      → DoneFits c (starts_with d op n o)
-  starts_with_fits d op n None k = record {
-    helds = k.helds;
-    call = (tt, under_any (held_of d.client.held (file_of op)) op (Needs n) (λ h. tt));
-    commands = k.commands;
-  }
-  starts_with_fits d op n (Some r) k = k
-
-  by_cover : (d : Done) (op : CallOp) (h : Held) (b : Bool) → covers h op ≡ b → DoneFits c d
-      → held_of d.client.held (file_of op) ≡ Some h
-      → DoneFits c (if b then moved d op (begins h op) else starts_with d op First d.client.outstanding)
-  by_cover d op h true e k found =
-      let own = found_all (IsOwnGrant c) d.client.held (file_of op) h k.helds found in
-      moved_fits d op h (begins h op) k.helds own.1 (begins_fits c h own.0 op e)
-  by_cover d op h false e k found = starts_with_fits d op First d.client.outstanding k
-
-  starts_under_fits : (d : Done) (op : CallOp) (o : Option Held) → held_of d.client.held (file_of op) ≡ o
-      → DoneFits c d → DoneFits c (starts_under d op o)
-  starts_under_fits d op None found k = starts_with_fits d op (Get 0) d.client.outstanding k
-  starts_under_fits d op (Some h) found k = by_cover d op h (covers h op) refl k found
-
-  starts_at_fits : (d : Done) (op : CallOp) (p : Phase) → DoneFits c d → DoneFits c (starts_at d op p)
-  starts_at_fits d op Starts k = starts_under_fits d op (held_of d.client.held (file_of op)) refl k
-  starts_at_fits d op (Needs n) k = k
-  starts_at_fits d op (Waits n) k = k
-  starts_at_fits d op (Reads io) k = k
-  starts_at_fits d op (Probes io) k = k
-  starts_at_fits d op (Gathers io) k = k
-  starts_at_fits d op (Scatters io queue) k = k
-
-  starts_call_fits : (d : Done) (o : Option Call) → DoneFits c d → DoneFits c (starts_call d o)
-  starts_call_fits d None k = k
-  starts_call_fits d (Some call) k = starts_at_fits d call.op call.phase k
-
-  begun_fits : (d : Done) → DoneFits c d → DoneFits c (begun d)
-  unfolding begun
-  begun_fits d k = starts_call_fits d d.client.call k
-
-  -- ---- a request goes out
+  -- ---- to the end of a step
 
   asked_fits : (d : Done) (op : CallOp) (n : Need) (a : Args) (file : ℕ) → DoneFits c d
       → CallFits (held_after d.client.held file a) (Some (record { op = op; phase = Waits n }))
@@ -210,26 +167,22 @@ module _ (c : ℕ) where
     commands = k.commands;
   }
 
-  due_fits : (d : Done) → d.client.call ≡ None → DoneFits c d → DoneFits c (returns_due d)
-  unfolding returns_due
-  due_fits d none k = either_done _ _ _ k (returns_fits d _ none k)
+  pub needs_fits : (d : Done) (op : CallOp) (n : Need) → DoneFits c d → DoneFits c (phased d op (Needs n))
+  needs_fits d op n k = record {
+    helds = k.helds;
+    call = (tt, under_any (held_of d.client.held (file_of op)) op (Needs n) (λ h. tt));
+    commands = k.commands;
+  }
 
-  progress_phase_fits : (d : Done) (op : CallOp) (p : Phase) → DoneFits c d → DoneFits c (progress_phase d op p)
-  progress_phase_fits d op (Needs n) k = asks_fits d op n _ k
-  progress_phase_fits d op Starts k = k
-  progress_phase_fits d op (Waits n) k = k
-  progress_phase_fits d op (Reads io) k = k
-  progress_phase_fits d op (Probes io) k = k
-  progress_phase_fits d op (Gathers io) k = k
-  progress_phase_fits d op (Scatters io queue) k = k
-
-  progress_call_fits : (d : Done) (o : Option Call) → d.client.call ≡ o → DoneFits c d → DoneFits c (progress_call d o)
-  progress_call_fits d None is k = due_fits d is k
-  progress_call_fits d (Some call) is k = progress_phase_fits d call.op call.phase k
-
-  progress_free_fits : (d : Done) (o : Option Request) → DoneFits c d → DoneFits c (progress_free d o)
-  progress_free_fits d None k = progress_call_fits d d.client.call refl k
-  progress_free_fits d (Some r) k = k
+  kept : FinishCases (DoneFits c)
+  kept = record {
+    needs = λ d op n k is out first. needs_fits d op n k;
+    begun = λ d op h k is held covered.
+        let own = found_all (IsOwnGrant c) d.client.held (file_of op) h k.helds held in
+        moved_fits d op h (begins h op) k.helds own.1 (begins_fits c h own.0 op covered);
+    asks = λ d op n h k is out held. asks_fits d op n h k;
+    gives_back = λ d u k none out. returns_fits d u none k;
+  }
 
   -- ---- what is sent
 
@@ -255,8 +208,8 @@ module _ (c : ℕ) where
   }
 
   pub finished_fits : (d : Done) → DoneFits c d → StepFits c (finished d)
-  unfolding finished progressed
-  finished_fits d k = closed_fits _ (progress_free_fits (begun d) (begun d).client.outstanding (begun_fits d k))
+  unfolding finished
+  finished_fits d k = closed_fits _ (each_finish (DoneFits c) kept d k)
 
   pub still_fits : (x : Client) → ClientFits c x → StepFits c (still x)
   still_fits x k = record { client = k; sends = tt }

@@ -1,19 +1,17 @@
 -- Whatever comes to a client, an answered read has the bytes of all data that agree with the READs that its call took.
-use Rattle.std.proofs.Common.{◌≡◌, ℕ, ◌==◌, Bool, true, false, List, [], ◌∷◌, refl, sym, ◌∙◌}
-use Rattle.std.specs.Prelude.{if◌then◌else◌, is_some, Option, Some, None, Result, Ok, Err}
+use Rattle.std.proofs.Common.{◌≡◌, ℕ, ◌==◌, Bool, true, false, List, [], ◌∷◌, refl, sym, subst, ◌∙◌}
+use Rattle.std.specs.Prelude.{if◌then◌else◌, is_some, Option, Some, None, Ok, Err}
 use Rattle.data_map.specs.Check.{IsChecked}
-use Rattle.layout_ops.specs.declared.statuses.TheConstants.{NFS4_OK}
-use Rattle.exchange_law.specs.ClientState.{Client, Call, CallOp, CallErr, Busy, BadRange, SlotSpent, Held, Due, Awaited, TimedOut, Need, First, Get, Commit, Report, Close, Phase, Starts, Needs, Waits, Reads, Probes, Gathers, Scatters, Outcome, WriteOk, Why, Turn, Goes, Ends, Forgets, Moved, Done, Request, Answer, Recall, Reply, Column}
+use Rattle.exchange_law.specs.ClientState.{Client, Call, CallOp, CallErr, Busy, BadRange, SlotSpent, Held, Due, Awaited, TimedOut, Need, First, Get, Commit, Report, Close, Phase, Starts, Needs, Waits, Reads, Probes, Gathers, Scatters, Outcome, WriteOk, Turn, Goes, Ends, Forgets, Moved, Done, Answer, Recall, Reply, Column}
 use Rattle.client_rules.specs.Calls.{file_of, span_of}
-use Rattle.client_rules.specs.Grants.{covers, held_of, put_held}
+use Rattle.client_rules.specs.Grants.{held_of, put_held}
 use Rattle.client_rules.specs.Requests.{grant_in, get_args, args_of, return_args}
 use Rattle.client_rules.specs.Results.{status_of}
-use Rattle.client_rules.specs.Layouts.{taken}
 use Rattle.client_rules.specs.Io.{awaited_in}
 use Rattle.client_rules.specs.Replies.{replied, timed_out}
 use Rattle.client_rules.specs.Answers.{refused_with, not_granted, on_commit}
-use Rattle.client_rules.specs.Going.{quiet, phased, over, with_held, by_turn, moved, begins, starts_with, starts_under, starts_at, starts_call, begun, requests, asks_under, returns, returns_due, progress_phase, progress_call, progress_free, progressed}
-use Rattle.client_rules.specs.Messages.{Step, still, finished, answered_get, commit_under, on_need, on_phase, on_call, no_match, obeys, recalled, reply_under, reply_call, Taken, TakesAnswer, TakesReply, TakesRecall, awaited_of, takes, by_taken, hears}
+use Rattle.client_rules.specs.Going.{quiet, phased, over, with_held, by_turn, moved, begins, requests, asks_under, returns}
+use Rattle.client_rules.specs.Messages.{Step, still, finished, on_call, no_match, obeys, recalled, reply_under, reply_call, Taken, TakesAnswer, TakesReply, TakesRecall, awaited_of, takes, by_taken, hears}
 use Rattle.client_rules.specs.Steps.{timeout_under, timeout_call, times_out, is_bad_range, is_spent, writes_nothing, starts, calls, all_due, leaves, new_client}
 use Rattle.client_rules.specs.History.{Input, Calls, Hears, TimesOut, Leaves, Resends, unless_refused, step, state_after}
 use Rattle.client_rules.specs.Laws.{with_reply, kept_by, read_after, read_by, AreApart}
@@ -24,6 +22,8 @@ use Rattle.client_rules.proofs.ReadMoves.{FitsOutcome, weaker, GoodNeed}
 use Rattle.client_rules.proofs.HeldGrants.{AreChecked, put_checked, without_checked, after_checked, held_checked, held_file, put_at}
 use Rattle.client_rules.proofs.ReadSteps.{Fits, Refuses, refused_with_refuses, report_fits, any_fits, Fair, takes_fair, none_pending, fits_answer}
 use Rattle.exchange_law.proofs.RightMoves.{GoodPhase, Follows, GoodTurn, GoodMoved, replied_good, timed_good, begins_good, on_commit_good}
+use Rattle.history_law.specs.Turns.{IsBeginning, IsFirstNeed, IsWaiting, FinishCases}
+use Rattle.history_law.proofs.Turns.{each_finish, each_answer}
 
 -- ---- held grants
 
@@ -112,39 +112,6 @@ moved_good Fit d op h m got x e g f o =
 
 -- ---- what follows in a step
 
-starts_with_good : (Fit : List ℕ → Type 0) (d : Done) (op : CallOp) (n : Need) (o : Option Request) (got : List Column) →
-    GoodDone Fit d got → GoodNeed n got → GoodDone Fit (starts_with d op n o) got
-starts_with_good Fit d op n None got g x = record { checked = g.checked; call = x; outcome = g.outcome }
-starts_with_good Fit d op n (Some r) got g x = g
-
-starts_under_good : (Fit : List ℕ → Type 0) (d : Done) (op : CallOp) (o : Option Held) → held_of d.client.held (file_of op) ≡ o →
-    GoodDone Fit d [] → GoodDone Fit (starts_under d op o) []
-starts_under_good Fit d op None e g = starts_with_good Fit d op (Get 0) _ [] g refl
-starts_under_good Fit d op (Some h) e g =
-    either_done Fit [] (covers h op) (moved d op (begins h op)) (starts_with d op First d.client.outstanding)
-    (moved_good Fit d op h (begins h op) [] g.checked e (begins_good h op (held_checked d.client.held (file_of op) h g.checked e))
-    (λ bytes. λ x. absurd (x.0 refl)) g.outcome)
-    (starts_with_good Fit d op First _ [] g refl)
-
-starts_at_good : (Fit : List ℕ → Type 0) (d : Done) (op : CallOp) (p : Phase) (got : List Column) →
-    GoodAt d.client.held op p got → GoodDone Fit d got → GoodDone Fit (starts_at d op p) got
-starts_at_good Fit d op Starts got w g = rw w (starts_under_good Fit d op _ refl (rw w at g))
-starts_at_good Fit d op (Needs n) got w g = g
-starts_at_good Fit d op (Waits n) got w g = g
-starts_at_good Fit d op (Reads io) got w g = g
-starts_at_good Fit d op (Probes io) got w g = g
-starts_at_good Fit d op (Gathers io) got w g = g
-starts_at_good Fit d op (Scatters io queue) got w g = g
-
-starts_call_good : (Fit : List ℕ → Type 0) (d : Done) (o : Option Call) (got : List Column) → GoodCall d.client.held o got →
-    GoodDone Fit d got → GoodDone Fit (starts_call d o) got
-starts_call_good Fit d None got w g = g
-starts_call_good Fit d (Some call) got w g = starts_at_good Fit d call.op call.phase got w g
-
-begun_good : (Fit : List ℕ → Type 0) (d : Done) (got : List Column) → GoodDone Fit d got → GoodDone Fit (begun d) got
-unfolding begun
-begun_good Fit d got g = starts_call_good Fit d d.client.call got g.call g
-
 asks_under_good : (Fit : List ℕ → Type 0) (d : Done) (op : CallOp) (n : Need) (o : Option Held) (got : List Column) →
     GoodNeed n got → GoodDone Fit d got → GoodDone Fit (asks_under d op n o) got
 unfolding requests
@@ -161,31 +128,36 @@ returns_good Fit d (Some u) got e g =
     record
     { checked = after_checked d.client.held u.file (return_args u.number []) g.checked; call = rw e tt; outcome = g.outcome }
 
-returns_due_good : (Fit : List ℕ → Type 0) (d : Done) (got : List Column) → d.client.call ≡ None → GoodDone Fit d got →
-    GoodDone Fit (returns_due d) got
-unfolding returns_due
-returns_due_good Fit d got e g = either_done Fit got _ _ _ g (returns_good Fit d _ got e g)
+-- a call begins, or a first request goes out, only if nothing was read
+first_need : (op : CallOp) (n : Need) (o : Option Held) → IsFirstNeed op n o → (got : List Column) → got ≡ [] → GoodNeed n got
+first_need op First o first got none = none
+first_need op (Get tries) o first got none = none
+first_need op (Commit timed) o first got none = absurd first
+first_need op (Report timed) o first got none = absurd first
+first_need op (Close u report) o first got none = absurd first
 
-progress_phase_good : (Fit : List ℕ → Type 0) (d : Done) (op : CallOp) (p : Phase) (got : List Column) →
-    GoodAt d.client.held op p got → GoodDone Fit d got → GoodDone Fit (progress_phase d op p) got
-progress_phase_good Fit d op (Needs n) got w g = asks_under_good Fit d op n _ got w g
-progress_phase_good Fit d op Starts got w g = g
-progress_phase_good Fit d op (Waits n) got w g = g
-progress_phase_good Fit d op (Reads io) got w g = g
-progress_phase_good Fit d op (Probes io) got w g = g
-progress_phase_good Fit d op (Gathers io) got w g = g
-progress_phase_good Fit d op (Scatters io queue) got w g = g
+nothing_read : (Fit : List ℕ → Type 0) (d : Done) (op : CallOp) (got : List Column) → GoodDone Fit d got →
+    IsBeginning d.client op → got ≡ []
+nothing_read Fit d op got g is = subst (λ (o : Option Call). GoodCall d.client.held o got) is g.call
 
-progress_call_good : (Fit : List ℕ → Type 0) (d : Done) (o : Option Call) (got : List Column) → d.client.call ≡ o →
-    GoodDone Fit d got → GoodDone Fit (progress_call d o) got
-progress_call_good Fit d None got e g = returns_due_good Fit d got e g
-progress_call_good Fit d (Some call) got e g =
-    let w : GoodCall d.client.held (Some call) got = rw e at g.call in progress_phase_good Fit d call.op call.phase got w g
+begins_done : (Fit : List ℕ → Type 0) (d : Done) (op : CallOp) (h : Held) (got : List Column) → got ≡ [] →
+    held_of d.client.held (file_of op) ≡ Some h → GoodDone Fit d got → GoodDone Fit (moved d op (begins h op)) got
+begins_done Fit d op h got none e g =
+    rw none (moved_good Fit d op h (begins h op) [] g.checked e
+    (begins_good h op (held_checked d.client.held (file_of op) h g.checked e)) (λ bytes. λ x. absurd (x.0 refl)) g.outcome)
 
-progress_free_good : (Fit : List ℕ → Type 0) (d : Done) (o : Option Request) (got : List Column) → GoodDone Fit d got →
-    GoodDone Fit (progress_free d o) got
-progress_free_good Fit d None got g = progress_call_good Fit d d.client.call got refl g
-progress_free_good Fit d (Some r) got g = g
+kept : (Fit : List ℕ → Type 0) (got : List Column) → FinishCases (λ d. GoodDone Fit d got)
+kept Fit got = record {
+  needs = λ d op n g is out first. record {
+    checked = g.checked;
+    call = first_need op n (held_of d.client.held (file_of op)) first got (nothing_read Fit d op got g is);
+    outcome = g.outcome;
+  };
+  begun = λ d op h g is held covered. begins_done Fit d op h got (nothing_read Fit d op got g is) held g;
+  asks = λ d op n h g is out held.
+      asks_under_good Fit d op n h got (subst (λ (o : Option Call). GoodCall d.client.held o got) is g.call) g;
+  gives_back = λ d u g none out. returns_good Fit d u got none g;
+}
 
 -- what a step leaves
 record GoodStep (Fit : List ℕ → Type 0) (s : Step) (got : List Column) : Type 0 where
@@ -193,9 +165,9 @@ record GoodStep (Fit : List ℕ → Type 0) (s : Step) (got : List Column) : Typ
   outcome : Fits Fit s.outcome
 
 finished_good : (Fit : List ℕ → Type 0) (d : Done) (got : List Column) → GoodDone Fit d got → GoodStep Fit (finished d) got
-unfolding finished progressed
+unfolding finished
 finished_good Fit d got g =
-    let e = progress_free_good Fit (begun d) (begun d).client.outstanding got (begun_good Fit d got g) in
+    let e = each_finish (λ x. GoodDone Fit x got) (kept Fit got) d g in
     record { client = record { checked = e.checked; call = e.call }; outcome = e.outcome }
 
 still_good : (Fit : List ℕ → Type 0) (c : Client) (got : List Column) → IsGood c got → GoodStep Fit (still c) got
@@ -224,17 +196,10 @@ not_granted_good Fit d op a tries got e g =
     turn_good Fit d op (refused_with (status_of a.results) a.detail tries) got e
     (refused_with_refuses (status_of a.results) a.detail tries) g
 
-answered_get_good : (Fit : List ℕ → Type 0) (d : Done) (op : CallOp) (r : Result Held Why) (got : List Column) →
-    ((h : Held) → r ≡ Ok h → IsChecked h.map) → got ≡ [] → GoodDone Fit d got → GoodDone Fit (answered_get d op r) got
-answered_get_good Fit d op (Err w) got ch e g = over_good Fit d _ got tt g
-answered_get_good Fit d op (Ok h) got ch e g =
-    record { checked = put_checked d.client.held h g.checked (ch h refl); call = e; outcome = g.outcome }
-
-commit_under_good : (Fit : List ℕ → Type 0) (d : Done) (op : CallOp) (a : Answer) (timed : List TimedOut) (o : Option Held)
-    (got : List Column) → held_of d.client.held (file_of op) ≡ o →
-    GoodDone Fit d got → GoodDone Fit (commit_under d op a (Commit timed) o) got
-commit_under_good Fit d op a timed None got e g = g
-commit_under_good Fit d op a timed (Some h) got e g =
+commit_good : (Fit : List ℕ → Type 0) (d : Done) (op : CallOp) (a : Answer) (timed : List TimedOut) (h : Held)
+    (got : List Column) → held_of d.client.held (file_of op) ≡ Some h →
+    GoodDone Fit d got → GoodDone Fit (moved d op (on_commit h op a timed)) got
+commit_good Fit d op a timed h got e g =
     let x =
     moved_good Fit d op h (on_commit h op a timed) [] g.checked e (on_commit_good h op a timed [])
     (λ bytes. λ z. absurd (z.0 refl)) g.outcome in
@@ -243,31 +208,30 @@ commit_under_good Fit d op a timed (Some h) got e g =
     (λ bytes. λ z. tt) (any_fits d.outcome) in
     record { checked = x.checked; call = y.call; outcome = x.outcome }
 
-on_need_good : (Fit : List ℕ → Type 0) (d : Done) (op : CallOp) (n : Need) (a : Answer) (got : List Column) → GoodNeed n got →
-    GoodDone Fit d got → GoodDone Fit (on_need d op n a) got
-on_need_good Fit d op First a got w g = phased_good Fit d op Starts got w g
-on_need_good Fit d op (Get tries) a got w g =
-    either_done Fit got (status_of a.results == NFS4_OK) (answered_get d op (taken a op)) (by_turn d op (not_granted a tries))
-    (answered_get_good Fit d op (taken a op) got (λ h e. taken_checked a op h e) w g) (not_granted_good Fit d op a tries got w g)
-on_need_good Fit d op (Commit timed) a got w g = commit_under_good Fit d op a timed _ got refl g
-on_need_good Fit d op (Report timed) a got w g = over_good Fit d _ got (report_fits Fit op a timed) g
-on_need_good Fit d op (Close outcome report) a got w g =
-    over_good Fit d outcome got (weaker (λ bytes. ⊥) Fit (λ bytes. λ z. absurd z) outcome w) g
+-- what a call that waits relies on
+waits_good : (Fit : List ℕ → Type 0) (d : Done) (op : CallOp) (n : Need) (got : List Column) → GoodDone Fit d got →
+    IsWaiting d.client op n → GoodNeed n got
+waits_good Fit d op n got g is = subst (λ (o : Option Call). GoodCall d.client.held o got) is g.call
 
-on_phase_good : (Fit : List ℕ → Type 0) (d : Done) (op : CallOp) (p : Phase) (a : Answer) (got : List Column) →
-    GoodAt d.client.held op p got → GoodDone Fit d got → GoodDone Fit (on_phase d op p a) got
-on_phase_good Fit d op (Waits n) a got w g = on_need_good Fit d op n a got w g
-on_phase_good Fit d op Starts a got w g = g
-on_phase_good Fit d op (Needs n) a got w g = g
-on_phase_good Fit d op (Reads io) a got w g = g
-on_phase_good Fit d op (Probes io) a got w g = g
-on_phase_good Fit d op (Gathers io) a got w g = g
-on_phase_good Fit d op (Scatters io queue) a got w g = g
-
-on_call_good : (Fit : List ℕ → Type 0) (d : Done) (o : Option Call) (a : Answer) (got : List Column) →
-    GoodCall d.client.held o got → GoodDone Fit d got → GoodDone Fit (on_call d o a) got
-on_call_good Fit d None a got w g = g
-on_call_good Fit d (Some call) a got w g = on_phase_good Fit d call.op call.phase a got w g
+answered_good : (Fit : List ℕ → Type 0) (d : Done) (a : Answer) (got : List Column) → GoodDone Fit d got →
+    GoodDone Fit (on_call d d.client.call a) got
+answered_good Fit d a got g =
+    each_answer d a (λ x. GoodDone Fit x got) (record {
+      stays = g;
+      returned = λ op is. phased_good Fit d op Starts got (waits_good Fit d op First got g is) g;
+      granted = λ op tries h is took. record {
+        checked = put_checked d.client.held h g.checked (taken_checked a op h took);
+        call = waits_good Fit d op (Get tries) got g is;
+        outcome = g.outcome;
+      };
+      unusable = λ op tries w is took. over_good Fit d _ got tt g;
+      refused = λ op tries is. not_granted_good Fit d op a tries got (waits_good Fit d op (Get tries) got g is) g;
+      committed = λ op timed h is held. commit_good Fit d op a timed h got held g;
+      reported = λ op timed is. over_good Fit d _ got (report_fits Fit op a timed) g;
+      closed = λ op o report is.
+          over_good Fit d o got
+          (weaker (λ bytes. ⊥) Fit (λ bytes. λ z. absurd z) o (waits_good Fit d op (Close o report) got g is)) g;
+    })
 
 -- ---- recalls
 
@@ -322,7 +286,7 @@ by_taken_good : (c : Client) (t : Option Taken) (got : List Column) → IsGood c
 by_taken_good c None got g f = still_good _ c got g
 by_taken_good c (Some (TakesAnswer a)) got g f =
     finished_good _ _ got
-    (on_call_good _ (quiet (record c { outstanding = None })) c.call a got g.call
+    (answered_good _ (quiet (record c { outstanding = None })) a got
     (quiet_good _ (record c { outstanding = None }) got g.checked g.call))
 by_taken_good c (Some (TakesReply a r)) got g f = finished_good _ _ _ (reply_call_good c a r c.call got refl g.checked g.call f)
 by_taken_good c (Some (TakesRecall r)) got g f = finished_good _ _ got (recalled_good _ c r _ got g)

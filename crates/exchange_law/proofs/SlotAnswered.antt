@@ -22,7 +22,7 @@ use Rattle.world_history.specs.Handed.{is_addressed, server_post}
 use Rattle.world_history.specs.Spelled.{spelled}
 use Rattle.history_law.specs.State.{Client, Request}
 use Rattle.exchange_law.specs.Doing.{posted}
-use Rattle.exchange_law.specs.Messages.{EachMessage, last_before, WasAsked, IsAsked, AsksOf, WasAnswered, IsAnswered, AnswersOf, IsSlotOf}
+use Rattle.exchange_law.specs.Messages.{EachMessage, last_before, WasAsked, IsAsked, AsksOf, WasAnswered, IsToldBySlot, AnswersOf, IsSlotOf}
 use Rattle.exchange_law.specs.Made.{WasMade, answer_at, answer_to}
 use Rattle.exchange_law.specs.InStep.{IsAwaiting, StandsAt}
 use Rattle.exchange_law.proofs.Admitting.{is_next, is_last, is_earlier}
@@ -118,8 +118,8 @@ module _ (ms : List Message) (h ls : List Line) (c : ℕ) (x : Client) (o : Opti
   abbrev made_slot : ℕ → Answer → Slot
   made_slot n a = record { client = c; last = n; kept = a }
 
-  earlier_answers : (n : ℕ) (a : Answer) → last_of o < n → (b : Body) → IsAnswered c o b
-      → IsAnswered c (Some (made_slot n a)) b
+  earlier_answers : (n : ℕ) (a : Answer) → last_of o < n → (b : Body) → IsToldBySlot c o b
+      → IsToldBySlot c (Some (made_slot n a)) b
   earlier_answers n a less (OfEnvelope (envelope.Answer b)) k =
       let l : last_of o ≡ k.slot.last = ap last_of k.kept in
       record {

@@ -1,16 +1,16 @@
 -- A step of a client sends at most one request, with the next number, once none is outstanding.
-use Rattle.std.proofs.Common.{◌≡◌, ◌≤◌, ◌+◌, ◌==◌, ◌⊎◌, ℕ, Bool, true, false, List, [], ◌∷◌, ◌++◌, Option, Some, None, find, refl, sym, ap, subst, ◌∙◌, arith, inl, inr, ne_eqb, if◌then◌else◌}
-use Rattle.std.proofs.lemmas.Bool.{cases_Bool}
-use Rattle.std.proofs.lemmas.Bool.Decides.{nat_tests}
+use Rattle.std.proofs.Common.{◌≡◌, ◌≢◌, ◌≤◌, ◌+◌, ◌⊎◌, ℕ, zero, suc, Bool, true, List, [], ◌∷◌, ◌++◌, Option, Some, None, refl, sym, ap, subst, ◌∙◌, arith, inl, inr, ne_eqb, if◌then◌else◌}
 use Rattle.layout_ops.specs.declared.args.Args.{Args}
 use Rattle.client_rules.specs.declared.limits.TheConstants.{GREATEST_SEQUENCE}
 use Rattle.history_law.specs.State.{Client, Call, CallOp, Held, Due, Need, First, Get, Commit, Report, Close, Phase, Starts, Needs, Waits, Reads, Probes, Gathers, Scatters, Turn, Goes, Ends, Forgets, Moved, Done, Request}
 use Rattle.client_rules.specs.Calls.{file_of}
 use Rattle.client_rules.specs.Grants.{covers, held_of, without_held}
 use Rattle.client_rules.specs.Requests.{get_args, args_of, return_args}
-use Rattle.client_rules.specs.Going.{phased, with_held, by_turn, moved, begins, starts_with, starts_under, starts_at, starts_call, begun, after_number, request_of, held_after, requests, asks_under, returns, returns_due, is_held, due_behind, progress_phase, progress_call, progress_free, progressed}
+use Rattle.client_rules.specs.Going.{phased, with_held, by_turn, moved, begins, begun, after_number, request_of, held_after, requests, asks_under, returns, due_behind, progressed}
 use Rattle.exchange_law.proofs.Few.{rank_behind, IsLate, FewTurn, FewMoved, turn_few, begins_few}
 use Rattle.exchange_law.proofs.ClientKeeping.{none_left}
+use Rattle.history_law.specs.Turns.{IsBeginning, IsFirstNeed}
+use Rattle.history_law.proofs.Turns.{each_begin, each_progress}
 
 -- ---- numbers that are left
 
@@ -138,47 +138,37 @@ module _ (own first : ℕ) (o : Option Request) where
 
   -- ---- a call begins
 
-  starts_with_calm : (d : Done) (op : CallOp) (n : Need) (r : Option Request) → C d
-      → HasRoom d.client.next (rank_behind n + 1) → C (starts_with d op n r)
-  starts_with_calm d op n None c h = (c.0, h)
-  starts_with_calm d op n (Some r) c h = c
+  -- of the numbers that a call needs that begins
+  first_room : (n : ℕ) (op : CallOp) (need : Need) (h : Option Held) → IsFirstNeed op need h → HasRoom n (rank_at op h)
+      → HasRoom n (rank_behind need + 1)
+  first_room n op (Get tries) None first room = subst (λ (k : ℕ). HasRoom n (rank_behind (Get k) + 1)) (sym first) room
+  first_room n op (Get tries) (Some h) first room = absurd first
+  first_room n op First None first room = absurd first
+  first_room n op First (Some h) first room = subst (λ (b : Bool). HasRoom n (if b then 2 else 6)) first room
+  first_room n op (Commit timed) h first room = absurd first
+  first_room n op (Report timed) h first room = absurd first
+  first_room n op (Close u report) h first room = absurd first
 
-  either_rank : (b : Bool) (n : ℕ) → HasRoom n (if b then 2 else 6)
-      → (b ≡ true → HasRoom n 2) × (b ≡ false → HasRoom n 6)
-  either_rank true n h = (λ e. h, λ e. absurd (cc e))
-  either_rank false n h = (λ e. absurd (cc e), λ e. h)
+  covered_room : (n : ℕ) (op : CallOp) (h : Held) (o : Option Held) → o ≡ Some h → covers h op ≡ true
+      → HasRoom n (rank_at op o) → HasRoom n 2
+  covered_room n op h o held covered room =
+      subst (λ (b : Bool). HasRoom n (if b then 2 else 6)) covered
+      (subst (λ (x : Option Held). HasRoom n (rank_at op x)) held room)
 
-  starts_covered : (d : Done) (op : CallOp) (h : Held) (b : Bool) → C d → (b ≡ true → HasRoom d.client.next 2)
-      → (b ≡ false → HasRoom d.client.next 6)
-      → C (if b then moved d op (begins h op) else starts_with d op First d.client.outstanding)
-  starts_covered d op h true c two six = moved_calm d op (begins h op) c.0 (begins_few h op) (two refl)
-  starts_covered d op h false c two six = starts_with_calm d op First d.client.outstanding c (six refl)
-
-  starts_under_calm : (d : Done) (op : CallOp) (h : Option Held) → C d → HasRoom d.client.next (rank_at op h)
-      → C (starts_under d op h)
-  starts_under_calm d op None c room = starts_with_calm d op (Get 0) d.client.outstanding c room
-  starts_under_calm d op (Some h) c room =
-      let x = either_rank (covers h op) d.client.next room in
-      starts_covered d op h (covers h op) c x.0 x.1
-
-  starts_at_calm : (d : Done) (op : CallOp) (p : Phase) → C d → RoomPhase d.client.held op d.client.next p
-      → C (starts_at d op p)
-  starts_at_calm d op Starts c room = starts_under_calm d op (held_of d.client.held (file_of op)) c room
-  starts_at_calm d op (Needs n) c room = c
-  starts_at_calm d op (Waits n) c room = c
-  starts_at_calm d op (Reads io) c room = c
-  starts_at_calm d op (Probes io) c room = c
-  starts_at_calm d op (Gathers io) c room = c
-  starts_at_calm d op (Scatters io queue) c room = c
-
-  starts_call_calm : (d : Done) (call : Option Call) → C d → RoomCall d.client.held d.client.next call
-      → C (starts_call d call)
-  starts_call_calm d None c room = c
-  starts_call_calm d (Some call) c room = starts_at_calm d call.op call.phase c room
+  begins_room : (d : Done) (op : CallOp) → C d → IsBeginning d.client op
+      → HasRoom d.client.next (rank_at op (held_of d.client.held (file_of op)))
+  begins_room d op c is = subst (RoomCall d.client.held d.client.next) is c.1
 
   begun_calm : (d : Done) → C d → C (begun d)
-  unfolding begun
-  begun_calm d c = starts_call_calm d d.client.call c c.1
+  begun_calm d c =
+      each_begin d C (record {
+        stays = c;
+        needs = λ op n is out first.
+            (c.0, first_room d.client.next op n (held_of d.client.held (file_of op)) first (begins_room d op c is));
+        begun = λ op h is held covered.
+            moved_calm d op (begins h op) c.0 (begins_few h op)
+            (covered_room d.client.next op h (held_of d.client.held (file_of op)) held covered (begins_room d op c is));
+      })
 
   -- ---- a request goes out
 
@@ -243,40 +233,22 @@ module _ (own first : ℕ) (o : Option Request) where
       one_request (record d { client = record d.client { due = due_behind d.client.held d.client.due } }) u.file
       (return_args u.number []) c.0 free some (subst (RoomCall _ _) (sym idle) tt)
 
-  returns_due_asked : (d : Done) → C d → d.client.call ≡ None → o ≡ None → A (returns_due d)
-  unfolding returns_due
-  returns_due_asked d c idle free = elim (cases_Bool (d.client.next == 0)) [
-    | inl t ↦ rw t (none_asked d c)
-    | inr f ↦
-        rw f
-        (returns_asked d (find (is_held d.client.held) d.client.due) c idle free (some d.client.next f (c.0.next)))
-  ]
-    where
-      some : (n : ℕ) → (n == 0) ≡ false → n ≡ first → 1 ≤ first
-      some n f e = grind (arith, nat_tests, f, e)
+  some_left : (n : ℕ) → n ≢ 0 → n ≡ first → 1 ≤ first
+  some_left zero left is = absurd (left refl)
+  some_left (suc n) left is = omega (arith, is)
 
-  progress_phase_asked : (d : Done) (op : CallOp) (p : Phase) → C d → RoomPhase d.client.held op d.client.next p
-      → o ≡ None → A (progress_phase d op p)
-  progress_phase_asked d op (Needs n) c room free =
-      asks_under_asked d op n (held_of d.client.held (file_of op)) refl c.0 free room
-  progress_phase_asked d op Starts c room free = none_asked d c
-  progress_phase_asked d op (Waits n) c room free = none_asked d c
-  progress_phase_asked d op (Reads io) c room free = none_asked d c
-  progress_phase_asked d op (Probes io) c room free = none_asked d c
-  progress_phase_asked d op (Gathers io) c room free = none_asked d c
-  progress_phase_asked d op (Scatters io queue) c room free = none_asked d c
-
-  progress_call_asked : (d : Done) (call : Option Call) → d.client.call ≡ call → C d → o ≡ None
-      → A (progress_call d call)
-  progress_call_asked d None is c free = returns_due_asked d c is free
-  progress_call_asked d (Some call) is c free =
-      progress_phase_asked d call.op call.phase c
-      (subst (RoomCall d.client.held d.client.next) is c.1) free
-
-  progress_free_asked : (d : Done) (r : Option Request) → d.client.outstanding ≡ r → C d → A (progress_free d r)
-  progress_free_asked d None is c = progress_call_asked d d.client.call refl c (sym c.0.outstanding ∙ is)
-  progress_free_asked d (Some r) is c = none_asked d c
+  asked_by : (d : Done) → C d → A (progressed d)
+  asked_by d c =
+      each_progress d A (record {
+        waits = λ r out. none_asked d c;
+        works = λ call is out. none_asked d c;
+        spent = λ none out left. none_asked d c;
+        asks = λ op n h is out held.
+            asks_under_asked d op n h held c.0 (sym c.0.outstanding ∙ out)
+            (subst (RoomCall d.client.held d.client.next) is c.1);
+        gives_back = λ u none out left due.
+            returns_asked d u c none (sym c.0.outstanding ∙ out) (some_left d.client.next left c.0.next);
+      })
 
   pub progressed_asked : (d : Done) → C d → A (progressed (begun d))
-  unfolding progressed
-  progressed_asked d c = progress_free_asked (begun d) (begun d).client.outstanding refl (begun_calm d c)
+  progressed_asked d c = asked_by (begun d) (begun_calm d c)

@@ -1,24 +1,23 @@
 -- Each step of a client asks nothing, or one request once none is outstanding.
-use Rattle.std.proofs.Common.{◌≡◌, ◌≤◌, ◌<◌, ◌+◌, ◌-◌, ◌==◌, ◌⊎◌, nat_lt, ℕ, Bool, true, false, List, [], ◌∷◌, ◌++◌, Option, Some, None, Result, Ok, Err, map, find, is_some, refl, sym, ap, subst, arith, inl, inr, if◌then◌else◌}
+use Rattle.std.proofs.Common.{◌≡◌, ◌≤◌, ◌<◌, ◌+◌, ◌-◌, ◌==◌, ◌⊎◌, nat_lt, ℕ, Bool, true, false, List, [], ◌∷◌, ◌++◌, Option, Some, None, Ok, Err, map, find, is_some, refl, sym, ap, subst, arith, inl, inr, if◌then◌else◌}
 use Rattle.std.proofs.lemmas.Bool.{cases_Bool}
 use Rattle.std.proofs.lemmas.Bool.Decides.{nat_tests}
 use Rattle.osd_lists.specs.declared.node.Node.{Node}
 use Rattle.osd_lists.specs.declared.node.Node.TheVariants.{Server as FromServer, Drive as FromDrive}
-use Rattle.layout_ops.specs.declared.statuses.TheConstants.{NFS4_OK, NFS4ERR_NOENT, NFS4ERR_BADLAYOUT, NFS4ERR_LAYOUTTRYLATER, NFS4ERR_LAYOUTUNAVAILABLE, NFS4ERR_RECALLCONFLICT}
+use Rattle.layout_ops.specs.declared.statuses.TheConstants.{NFS4_OK, NFS4ERR_BADLAYOUT}
 use Rattle.client_rules.specs.declared.limits.TheConstants.{MAX_TRIES}
-use Rattle.history_law.specs.State.{Client, Call, CallOp, CallErr, Busy, BadRange, SlotSpent, Held, Awaited, TimedOut, Need, First, Get, Commit, Report, Close, Phase, Starts, Needs, Waits, Reads, Probes, Gathers, Scatters, Outcome, WriteOk, HeldBy, Fencing, Why, Moved, Done, Outgoing, AnswersRecall, Asks, Request, Answer, Recall, RecallAnswer, Reply}
+use Rattle.history_law.specs.State.{Client, Call, CallOp, CallErr, Busy, BadRange, SlotSpent, Held, Awaited, TimedOut, Need, First, Get, Commit, Phase, Starts, Needs, Waits, Reads, Probes, Gathers, Scatters, WriteOk, Moved, Done, Outgoing, AnswersRecall, Asks, Request, Answer, Recall, RecallAnswer, Reply}
 use Rattle.client_rules.specs.Calls.{file_of, span_of}
 use Rattle.client_rules.specs.Grants.{held_of, put_held, covers}
 use Rattle.client_rules.specs.Requests.{grant_in}
 use Rattle.client_rules.specs.Results.{status_of}
 use Rattle.client_rules.specs.Commands.{of_component}
-use Rattle.client_rules.specs.Layouts.{taken}
 use Rattle.client_rules.specs.Io.{awaited_in}
 use Rattle.client_rules.specs.Writes.{accounted}
 use Rattle.client_rules.specs.Replies.{answers, replied, timed_out}
-use Rattle.client_rules.specs.Answers.{busy, refused_with, not_granted, not_committed, on_commit}
-use Rattle.client_rules.specs.Going.{quiet, with_held, moved, begun, progressed}
-use Rattle.client_rules.specs.Messages.{Message, Replies, Answers, Recalls, Taken, TakesAnswer, TakesReply, TakesRecall, Step, still, to_drive, finished, answered_get, on_get, commit_under, on_need, on_phase, on_call, is_awaited, recalled, reply_under, reply_call, answer_taken, reply_taken, awaited_of, takes, on_taken, by_taken, hears}
+use Rattle.client_rules.specs.Answers.{not_granted, not_committed, on_commit}
+use Rattle.client_rules.specs.Going.{quiet, phased, with_held, moved, begun, progressed}
+use Rattle.client_rules.specs.Messages.{Message, Replies, Answers, Recalls, Taken, TakesAnswer, TakesReply, TakesRecall, Step, still, to_drive, finished, on_call, is_awaited, no_match, obeys, recalled, reply_under, reply_call, answer_taken, reply_taken, awaited_of, takes, on_taken, by_taken, hears}
 use Rattle.client_rules.specs.Steps.{is_bad_range, is_spent, writes_nothing, starts, calls, timeout_under, timeout_call, times_out, all_due, leaves, outstanding_sends, resent}
 use Rattle.client_rules.specs.History.{Input, Calls, Hears, TimesOut, Leaves, Resends, unless_refused, step}
 use Rattle.client_rules.specs.Commands.{in_order}
@@ -26,6 +25,8 @@ use Rattle.client_rules.proofs.HeldGrants.{put_at}
 use Rattle.exchange_law.proofs.Few.{rank_behind, IsDriving, replied_few, timed_out_few}
 use Rattle.exchange_law.proofs.Granted.{taken_covers}
 use Rattle.exchange_law.proofs.SlotAsking.{HasRoom, room_less, rank_at, RoomPhase, RoomCall, Unasked, Calm, AsksNone, AsksOne, AreOutstanding, RoomTurn, by_turn_calm, moved_calm, progressed_asked}
+use Rattle.history_law.specs.Turns.{IsWaiting}
+use Rattle.history_law.proofs.Turns.{each_refusal, each_answer}
 
 -- ---- a step
 
@@ -86,15 +87,9 @@ module _ (own first : ℕ) (o : Option Request) where
   abbrev U : Done → Type 0
   U d = Unasked own first o d
 
-  either_done : (b : Bool) (d e : Done) → C d → C e → C (if b then d else e)
-  either_done true d e x y = x
-  either_done false d e x y = y
-
-  answered_get_calm : (d : Done) (op : CallOp) (r : Result Held Why) → ((h : Held) → r ≡ Ok h
-      → (h.file ≡ file_of op) × (covers h op ≡ true)) → U d → HasRoom d.client.next 2 → C (answered_get d op r)
-  answered_get_calm d op (Err w) for u room = (u, tt)
-  answered_get_calm d op (Ok h) for u room =
-      let it = for h refl in
+  granted_calm : (d : Done) (op : CallOp) (h : Held) → (h.file ≡ file_of op) × (covers h op ≡ true) → U d
+      → HasRoom d.client.next 2 → C (phased (with_held d h) op Starts)
+  granted_calm d op h it u room =
       let found : held_of (put_held d.client.held h) (file_of op) ≡ Some h =
       put_at d.client.held h (file_of op) it.0 in (
         u,
@@ -102,42 +97,21 @@ module _ (own first : ℕ) (o : Option Request) where
             (subst (λ (b : Bool). HasRoom d.client.next (if b then 2 else 6)) (sym it.1) room),
       )
 
-  busy_room : (n tries : ℕ) (x : Outcome) → HasRoom n (rank_behind (Get tries)) → RoomTurn own first o n (busy tries x)
-  unfolding busy
-  busy_room n tries x room = elim (cases_Bool (nat_lt (tries + 1) MAX_TRIES)) [
-    | inl t ↦ rw t (λ hs op. room_less n (rank_behind (Get tries)) (rank_behind (Get (tries + 1)) + 1) (less t) room)
-    | inr f ↦ rw f tt
-  ]
-    where
-      less : nat_lt (tries + 1) MAX_TRIES ≡ true → (2 - (tries + 1)) + 2 + 1 ≤ (2 - tries) + 2
-      less t = let l : tries + 1 < 3 = grind (arith, nat_tests, t) in omega (arith, l)
-
-  refused_room : (n status detail tries : ℕ) → HasRoom n (rank_behind (Get tries))
-      → RoomTurn own first o n (refused_with status detail tries)
-  refused_room n status detail tries room = elim (cases_Bool (status == NFS4ERR_NOENT)) [
-    | inl t ↦ rw t tt
-    | inr f ↦ rw f (elim (cases_Bool (status == NFS4ERR_LAYOUTTRYLATER)) [
-      | inl t ↦ rw t (busy_room n tries (HeldBy detail) room)
-      | inr g ↦ rw g (elim (cases_Bool (status == NFS4ERR_RECALLCONFLICT)) [
-        | inl t ↦ rw t (busy_room n tries (Fencing detail) room)
-        | inr k ↦ rw k (elim (cases_Bool (status == NFS4ERR_LAYOUTUNAVAILABLE)) [ inl t ↦ rw t tt | inr l ↦ rw l tt ])
-      ])
-    ])
-  ]
+  fewer_tries : (tries : ℕ) → nat_lt (tries + 1) MAX_TRIES ≡ true → (2 - (tries + 1)) + 2 + 1 ≤ (2 - tries) + 2
+  fewer_tries tries few = let l : tries + 1 < 3 = grind (arith, nat_tests, few) in omega (arith, l)
 
   not_granted_room : (n : ℕ) (a : Answer) (tries : ℕ) → HasRoom n (rank_behind (Get tries))
       → RoomTurn own first o n (not_granted a tries)
-  unfolding not_granted
-  not_granted_room n a tries room = refused_room n (status_of a.results) a.detail tries room
-
-  on_get_calm : (d : Done) (op : CallOp) (tries : ℕ) (a : Answer) → U d
-      → HasRoom d.client.next (rank_behind (Get tries))
-      → C (on_get d op tries a)
-  on_get_calm d op tries a u room =
-      either_done (status_of a.results == NFS4_OK) _ _
-      (answered_get_calm d op (taken a op) (λ h e. taken_covers a op h e) u
-      (room_less d.client.next (rank_behind (Get tries)) 2 (omega arith) room))
-      (by_turn_calm own first o d op (not_granted a tries) u (not_granted_room d.client.next a tries room))
+  not_granted_room n a tries room =
+      each_refusal a tries (RoomTurn own first o n) (record {
+        again = λ few hs op.
+            room_less n (rank_behind (Get tries)) (rank_behind (Get (tries + 1)) + 1) (fewer_tries tries few) room;
+        no_file = tt;
+        is_held = tt;
+        is_fenced = tt;
+        none_given = tt;
+        other = tt;
+      })
 
   accounted_room : (n : ℕ) (op : CallOp) (timed : List TimedOut) → HasRoom n 1
       → RoomTurn own first o n (accounted op timed)
@@ -160,48 +134,41 @@ module _ (own first : ℕ) (o : Option Request) where
   commit_room n h op a timed room =
       either_moved n (status_of a.results == NFS4_OK) _ _ (accounted_room n op timed room) (not_committed_room n _ _)
 
-  commit_calm : (d : Done) (op : CallOp) (a : Answer) (timed : List TimedOut) (h : Option Held) → C d
-      → HasRoom d.client.next 1 → C (commit_under d op a (Commit timed) h)
-  commit_calm d op a timed None c room = c
-  commit_calm d op a timed (Some h) c room =
-      let m : Moved = on_commit h op a timed in
-      by_turn_calm own first o (record (with_held d m.held) { commands = m.sent }) op m.turn c.0
-      (commit_room d.client.next h op a timed room)
-
-  on_need_calm : (d : Done) (op : CallOp) (n : Need) (a : Answer) → C d
-      → RoomPhase d.client.held op d.client.next (Waits n)
-      → C (on_need d op n a)
-  on_need_calm d op First a c room =
-      (c.0, subst (λ (x : Option Held). HasRoom d.client.next (rank_at op x)) (sym room.0) room.1)
-  on_need_calm d op (Get tries) a c room = on_get_calm d op tries a c.0 room.1
-  on_need_calm d op (Commit timed) a c room = commit_calm d op a timed (held_of d.client.held (file_of op)) c room.1
-  on_need_calm d op (Report timed) a c room = (c.0, tt)
-  on_need_calm d op (Close outcome report) a c room = (c.0, tt)
-
-  on_phase_calm : (d : Done) (op : CallOp) (p : Phase) (a : Answer) → C d → RoomPhase d.client.held op d.client.next p
-      → C (on_phase d op p a)
-  on_phase_calm d op (Waits n) a c room = on_need_calm d op n a c room
-  on_phase_calm d op Starts a c room = c
-  on_phase_calm d op (Needs n) a c room = c
-  on_phase_calm d op (Reads io) a c room = c
-  on_phase_calm d op (Probes io) a c room = c
-  on_phase_calm d op (Gathers io) a c room = c
-  on_phase_calm d op (Scatters io queue) a c room = c
-
-  on_call_calm : (d : Done) (call : Option Call) (a : Answer) → C d → RoomCall d.client.held d.client.next call
-      → C (on_call d call a)
-  on_call_calm d None a c room = c
-  on_call_calm d (Some call) a c room = on_phase_calm d call.op call.phase a c room
+  answered_calm : (d : Done) (a : Answer) → C d → C (on_call d d.client.call a)
+  answered_calm d a c =
+      each_answer d a C (record {
+        stays = c;
+        returned = λ op is.
+            let r = room_of op First is in
+            (c.0, subst (λ (x : Option Held). HasRoom d.client.next (rank_at op x)) (sym r.0) r.1);
+        granted = λ op tries h is took.
+            granted_calm d op h (taken_covers a op h took) c.0
+            (room_less d.client.next (rank_behind (Get tries)) 2 (omega arith) (room_of op (Get tries) is).1);
+        unusable = λ op tries w is took. (c.0, tt);
+        refused = λ op tries is.
+            by_turn_calm own first o d op (not_granted a tries) c.0
+            (not_granted_room d.client.next a tries (room_of op (Get tries) is).1);
+        committed = λ op timed h is held.
+            let m : Moved = on_commit h op a timed in
+            by_turn_calm own first o (record (with_held d m.held) { commands = m.sent }) op m.turn c.0
+            (commit_room d.client.next h op a timed (room_of op (Commit timed) is).1);
+        reported = λ op timed is. (c.0, tt);
+        closed = λ op u report is. (c.0, tt);
+      })
+    where
+      room_of : (op : CallOp) (n : Need) → IsWaiting d.client op n → RoomPhase d.client.held op d.client.next (Waits n)
+      room_of op n is = subst (RoomCall d.client.held d.client.next) is c.1
 
 -- ---- recalls, replies and timeouts
 
 recalled_calm : (c : Client) (r : Recall) (h : Option Held) → HasRoomIn c
     → Calm c.number c.next c.outstanding (recalled c r h)
 recalled_calm c r None room = (record { number = refl; next = refl; outstanding = refl; requests = refl }, room)
-recalled_calm c r (Some h) room =
-    either_done c.number c.next c.outstanding (h.number == grant_in r.args.stateid) _ _
-    (record { number = refl; next = refl; outstanding = refl; requests = refl }, room)
-    (record { number = refl; next = refl; outstanding = refl; requests = refl }, room)
+recalled_calm c r (Some h) room = by_number (h.number == grant_in r.args.stateid)
+  where
+    by_number : (b : Bool) → Calm c.number c.next c.outstanding (if b then obeys c r else no_match c r)
+    by_number true = (record { number = refl; next = refl; outstanding = refl; requests = refl }, room)
+    by_number false = (record { number = refl; next = refl; outstanding = refl; requests = refl }, room)
 
 -- a call that awaits commands drives
 abbrev DrivesCall : Option Call → Type 0
@@ -355,8 +322,8 @@ on_taken_calm : (c : Client) (t : Taken) → HasRoomIn c
     → ((a : Awaited) (r : Reply) → t ≡ TakesReply a r → DrivesCall c.call)
     → Calm c.number c.next (unless_answered c.outstanding (Some t)) (on_taken c t)
 on_taken_calm c (TakesAnswer a) room w =
-    on_call_calm c.number c.next None (quiet (record c { outstanding = None })) c.call a
-    (record { number = refl; next = refl; outstanding = refl; requests = refl }, room) room
+    answered_calm c.number c.next None (quiet (record c { outstanding = None })) a
+    (record { number = refl; next = refl; outstanding = refl; requests = refl }, room)
 on_taken_calm c (TakesReply a r) room w = reply_call_calm c a r c.call room (w a r refl) room
 on_taken_calm c (TakesRecall r) room w = recalled_calm c r (held_of c.held r.file) room
 

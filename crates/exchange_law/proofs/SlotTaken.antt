@@ -16,7 +16,7 @@ use Rattle.world_history.specs.declared.messages.Body.{Body}
 use Rattle.world_history.specs.declared.messages.Body.TheVariants.{Command as OfCommand, Reply as OfReply, Envelope as OfEnvelope}
 use Rattle.world_history.specs.Spelled.{spelled}
 use Rattle.history_law.specs.State.{Client, Request, Answer}
-use Rattle.exchange_law.specs.Messages.{WasAnswered, IsAnswered, IsSlotOf}
+use Rattle.exchange_law.specs.Messages.{WasAnswered, IsToldBySlot, IsSlotOf}
 use Rattle.exchange_law.specs.Made.{WasMade}
 use Rattle.exchange_law.specs.InStep.{IsAwaiting}
 use Rattle.exchange_law.proofs.SlotReading.{client_reads, client_reads_none}
@@ -108,7 +108,7 @@ module _ (h : List Line) (c : ℕ) (o : Option Slot) (last : ℕ) (r : Request) 
       let s = slots k.slot k.kept in
       sym (client_reads a b (omega (arith, k.client, s.named), omega (arith, k.last, s.last)) e).1
 
-  pub kept_for : (body : Body) → IsAnswered c o body → message_in node.Server (spelled body) ≡ Some (Answers b)
+  pub kept_for : (body : Body) → IsToldBySlot c o body → message_in node.Server (spelled body) ≡ Some (Answers b)
       → IsKeptFor h c o r body
   kept_for (OfEnvelope (envelope.Answer a)) k e = kept_answer a k (read_same a k e)
   kept_for (OfEnvelope (envelope.Recall v)) k e = absurd (client_reads_none v b e)

@@ -35,7 +35,7 @@ use Rattle.world_history.specs.State.{World}
 use Rattle.world_history.specs.Spelled.{spelled}
 use Rattle.scenario_text.specs.declared.line.Line.{Line}
 use Rattle.exchange_law.specs.Doing.{said}
-use Rattle.exchange_law.specs.Messages.{EachMessage, last_before, AnswersOf, IsAnswered}
+use Rattle.exchange_law.specs.Messages.{EachMessage, last_before, AnswersOf, IsToldBySlot}
 use Rattle.exchange_law.specs.InStep.{StandsAt, IsInStep}
 use Rattle.exchange_law.proofs.Turning.{sent_by, bodies, WasPosted}
 use Rattle.exchange_law.proofs.Gives.{last_in}
@@ -115,7 +115,7 @@ each_in P [] m all i = absurd i
 each_in P (p ∷ ps) m all (inl e) = subst P (sym e) all.0
 each_in P (p ∷ ps) m all (inr i) = each_in P ps m all.1 i
 
-answered_body : (c : ℕ) (o : Option Slot) (b : Body) → IsAnswered c o b → (e : Envelope) × (b ≡ OfEnvelope e)
+answered_body : (c : ℕ) (o : Option Slot) (b : Body) → IsToldBySlot c o b → (e : Envelope) × (b ≡ OfEnvelope e)
 answered_body c o (OfEnvelope e) k = (e, refl)
 answered_body c o (OfCommand x) k = absurd k
 answered_body c o (OfReply r) k = absurd k
@@ -181,7 +181,7 @@ module _ (w : World) (h : List Line) (o : AreOrdered w) (own : AreOwn w h) (c : 
         server_says bytes a (ap (λ (n : Node). message_in n bytes) (sym t.sender) ∙ read
         ∙ ap (λ (z : ClientMessage). Some z) t.is) in
         let sender : m.message.from ≡ node.Server = m.sender ∙ t.sender in
-        let answered : IsAnswered c (slot_of w.server.slots c) m.message.body =
+        let answered : IsToldBySlot c (slot_of w.server.slots c) m.message.body =
         each_in (AnswersOf c
         (slot_of w.server.slots c)) w.network.messages m.message s.answers m.there sender m.receiver in
         let body = answered_body c (slot_of w.server.slots c) m.message.body answered in

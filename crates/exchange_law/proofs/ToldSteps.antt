@@ -1,19 +1,16 @@
 -- Whatever comes to a client, each refusal that it keeps or tells is one that a reply said.
-use Rattle.std.proofs.Common.{◌≡◌, ◌==◌, ℕ, Bool, true, false, List, [], ◌∷◌, Option, Some, None, Result, Ok, Err, is_some, refl, if◌then◌else◌}
-use Rattle.layout_ops.specs.declared.statuses.TheConstants.{NFS4_OK}
-use Rattle.history_law.specs.State.{Client, Call, CallOp, CallErr, Busy, BadRange, SlotSpent, Held, Due, Awaited, Need, First, Get, Commit, Report, Close, Phase, Starts, Needs, Waits, Reads, Probes, Gathers, Scatters, Outcome, WriteOk, ReadOk, NoFile, HeldBy, Fencing, Degraded, Spent, Status, Refused, Silent, Lost, BadLayout, Why, Turn, Goes, Ends, Forgets, Moved, Done, Request, Answer, Recall, Reply}
-use Rattle.client_rules.specs.Calls.{file_of, span_of}
-use Rattle.client_rules.specs.Grants.{covers, held_of}
-use Rattle.client_rules.specs.Requests.{grant_in}
-use Rattle.client_rules.specs.Results.{status_of}
-use Rattle.client_rules.specs.Layouts.{taken}
+use Rattle.std.proofs.Common.{◌≡◌, ℕ, Option, Some, None, subst}
+use Rattle.history_law.specs.State.{Client, Call, CallOp, Held, Due, Awaited, Need, First, Get, Commit, Report, Close, Phase, Starts, Needs, Waits, Reads, Probes, Gathers, Scatters, Outcome, WriteOk, ReadOk, NoFile, HeldBy, Fencing, Degraded, Spent, Status, Refused, Silent, Lost, BadLayout, Turn, Goes, Ends, Forgets, Moved, Done, Answer, Reply}
+use Rattle.client_rules.specs.Calls.{file_of}
+use Rattle.client_rules.specs.Grants.{held_of}
 use Rattle.client_rules.specs.Replies.{replied, timed_out}
-use Rattle.client_rules.specs.Answers.{not_granted, on_commit}
-use Rattle.client_rules.specs.Going.{quiet, over, with_held, by_turn, moved, begins, starts_with, starts_under, starts_at, starts_call, begun, requests, asks_under, returns, returns_due, progress_phase, progress_call, progress_free, progressed}
-use Rattle.client_rules.specs.Messages.{Step, still, finished, answered_get, commit_under, on_need, on_phase, on_call, no_match, obeys, recalled, reply_under, reply_call, Taken, TakesAnswer, TakesReply, TakesRecall, takes, by_taken, hears}
-use Rattle.client_rules.specs.Steps.{timeout_under, timeout_call, times_out, is_bad_range, is_spent, writes_nothing, starts, calls, leaves}
-use Rattle.client_rules.specs.History.{Input, Calls, Hears, TimesOut, Leaves, Resends, unless_refused, step}
+use Rattle.client_rules.specs.Answers.{not_granted, on_commit, on_report}
+use Rattle.client_rules.specs.Going.{quiet, over, with_held, by_turn, moved, begins, requests, asks_under, returns}
+use Rattle.client_rules.specs.Messages.{Step, still, finished, on_call, TakesReply, takes}
+use Rattle.client_rules.specs.History.{Input, Hears, step}
 use Rattle.exchange_law.proofs.Told.{OutcomeTold, NeedTold, PhaseTold, CallTold, EndTold, TurnTold, MovedTold, Says, replied_told, timed_out_told, begins_told, on_commit_told, not_granted_told, on_report_told}
+use Rattle.history_law.specs.Turns.{IsFirstNeed, FinishCases, TurnCases}
+use Rattle.history_law.proofs.Turns.{reply_is_taken, each_finish, each_answer, each_turn}
 
 -- what a step leaves and tells
 pub record StepTold (Q : ℕ → ℕ → ℕ → Type 0) (s : Step) : Type 0 where
@@ -30,10 +27,6 @@ InputSays Q c (Hears from m) = (a : Awaited) (r : Reply) → takes c from m ≡ 
 InputSays Q c i = Unit {0}
 
 module _ (Q : ℕ → ℕ → ℕ → Type 0) where
-  either_done : (b : Bool) (d e : Done) → DoneTold Q d → DoneTold Q e → DoneTold Q (if b then d else e)
-  either_done true d e k l = k
-  either_done false d e k l = l
-
   quiet_told : (c : Client) → CallTold Q c.call → DoneTold Q (quiet c)
   quiet_told c k = record { call = k; outcome = tt }
 
@@ -48,37 +41,7 @@ module _ (Q : ℕ → ℕ → ℕ → Type 0) where
   moved_told : (d : Done) (op : CallOp) (m : Moved) → EndTold Q d.outcome → MovedTold Q m → DoneTold Q (moved d op m)
   moved_told d op m k t = by_turn_told (record (with_held d m.held) { commands = m.sent }) op m.turn k t.turn
 
-  -- ---- a call begins
-
-  starts_with_told : (d : Done) (op : CallOp) (n : Need) (o : Option Request) → NeedTold Q n → DoneTold Q d
-      → DoneTold Q (starts_with d op n o)
-  starts_with_told d op n None t k = record { call = t; outcome = k.outcome }
-  starts_with_told d op n (Some r) t k = k
-
-  starts_under_told : (d : Done) (op : CallOp) (o : Option Held) → DoneTold Q d → DoneTold Q (starts_under d op o)
-  starts_under_told d op None k = starts_with_told d op (Get 0) d.client.outstanding tt k
-  starts_under_told d op (Some h) k =
-      either_done (covers h op) _ _ (moved_told d op (begins h op) k.outcome (begins_told Q h op))
-      (starts_with_told d op First d.client.outstanding tt k)
-
-  starts_at_told : (d : Done) (op : CallOp) (p : Phase) → DoneTold Q d → DoneTold Q (starts_at d op p)
-  starts_at_told d op Starts k = starts_under_told d op (held_of d.client.held (file_of op)) k
-  starts_at_told d op (Needs n) k = k
-  starts_at_told d op (Waits n) k = k
-  starts_at_told d op (Reads io) k = k
-  starts_at_told d op (Probes io) k = k
-  starts_at_told d op (Gathers io) k = k
-  starts_at_told d op (Scatters io queue) k = k
-
-  starts_call_told : (d : Done) (o : Option Call) → DoneTold Q d → DoneTold Q (starts_call d o)
-  starts_call_told d None k = k
-  starts_call_told d (Some call) k = starts_at_told d call.op call.phase k
-
-  begun_told : (d : Done) → DoneTold Q d → DoneTold Q (begun d)
-  unfolding begun
-  begun_told d k = starts_call_told d d.client.call k
-
-  -- ---- a request goes out
+  -- ---- to the end of a step
 
   asks_told : (d : Done) (op : CallOp) (n : Need) (o : Option Held) → NeedTold Q n → DoneTold Q d
       → DoneTold Q (asks_under d op n o)
@@ -91,32 +54,28 @@ module _ (Q : ℕ → ℕ → ℕ → Type 0) where
   returns_told d None k = record { call = k.call; outcome = k.outcome }
   returns_told d (Some u) k = record { call = k.call; outcome = k.outcome }
 
-  due_told : (d : Done) → DoneTold Q d → DoneTold Q (returns_due d)
-  unfolding returns_due
-  due_told d k = either_done _ _ _ k (returns_told d _ k)
+  first_told : (op : CallOp) (n : Need) (o : Option Held) → IsFirstNeed op n o → NeedTold Q n
+  first_told op First o first = tt
+  first_told op (Get tries) o first = tt
+  first_told op (Commit timed) o first = absurd first
+  first_told op (Report timed) o first = absurd first
+  first_told op (Close u report) o first = absurd first
 
-  progress_phase_told : (d : Done) (op : CallOp) (p : Phase) → PhaseTold Q p → DoneTold Q d
-      → DoneTold Q (progress_phase d op p)
-  progress_phase_told d op (Needs n) t k = asks_told d op n _ t k
-  progress_phase_told d op Starts t k = k
-  progress_phase_told d op (Waits n) t k = k
-  progress_phase_told d op (Reads io) t k = k
-  progress_phase_told d op (Probes io) t k = k
-  progress_phase_told d op (Gathers io) t k = k
-  progress_phase_told d op (Scatters io queue) t k = k
-
-  progress_call_told : (d : Done) (o : Option Call) → CallTold Q o → DoneTold Q d → DoneTold Q (progress_call d o)
-  progress_call_told d None t k = due_told d k
-  progress_call_told d (Some call) t k = progress_phase_told d call.op call.phase t k
-
-  progress_free_told : (d : Done) (o : Option Request) → DoneTold Q d → DoneTold Q (progress_free d o)
-  progress_free_told d None k = progress_call_told d d.client.call k.call k
-  progress_free_told d (Some r) k = k
+  kept : FinishCases (DoneTold Q)
+  kept = record {
+    needs = λ d op n k is out first. record {
+      call = first_told op n (held_of d.client.held (file_of op)) first;
+      outcome = k.outcome;
+    };
+    begun = λ d op h k is held covered. moved_told d op (begins h op) k.outcome (begins_told Q h op);
+    asks = λ d op n h k is out held. asks_told d op n h (subst (CallTold Q) is k.call) k;
+    gives_back = λ d u k none out. returns_told d u k;
+  }
 
   finished_told : (d : Done) → DoneTold Q d → StepTold Q (finished d)
-  unfolding finished progressed
+  unfolding finished
   finished_told d k =
-      let all = progress_free_told (begun d) (begun d).client.outstanding (begun_told d k) in
+      let all = each_finish (DoneTold Q) kept d k in
       record { call = all.call; outcome = all.outcome }
 
   still_told : (c : Client) → CallTold Q c.call → StepTold Q (still c)
@@ -124,114 +83,45 @@ module _ (Q : ℕ → ℕ → ℕ → Type 0) where
 
   -- ---- answers
 
-  get_told : (d : Done) (op : CallOp) (r : Result Held Why) → DoneTold Q d → DoneTold Q (answered_get d op r)
-  get_told d op (Err w) k = over_told d _ tt
-  get_told d op (Ok h) k = record { call = tt; outcome = k.outcome }
-
-  commit_told : (d : Done) (op : CallOp) (a : Answer) (n : Need) (o : Option Held) → DoneTold Q d
-      → DoneTold Q (commit_under d op a n o)
-  commit_told d op a (Commit timed) (Some h) k =
-      moved_told d op (on_commit h op a timed) k.outcome (on_commit_told Q h op a timed)
-  commit_told d op a (Commit timed) None k = k
-  commit_told d op a First o k = k
-  commit_told d op a (Get tries) o k = k
-  commit_told d op a (Report timed) o k = k
-  commit_told d op a (Close outcome report) o k = k
-
-  on_need_told : (d : Done) (op : CallOp) (n : Need) (a : Answer) → NeedTold Q n → DoneTold Q d
-      → DoneTold Q (on_need d op n a)
-  on_need_told d op First a t k = record { call = tt; outcome = k.outcome }
-  on_need_told d op (Get tries) a t k =
-      either_done (status_of a.results == NFS4_OK) _ _ (get_told d op (taken a op) k)
-      (by_turn_told d op (not_granted a tries) k.outcome (not_granted_told Q a tries))
-  on_need_told d op (Commit timed) a t k = commit_told d op a (Commit timed) (held_of d.client.held (file_of op)) k
-  on_need_told d op (Report timed) a t k = over_told d _ (on_report_told Q op a timed)
-  on_need_told d op (Close outcome report) a t k = over_told d outcome t
-
-  on_phase_told : (d : Done) (op : CallOp) (p : Phase) (a : Answer) → PhaseTold Q p → DoneTold Q d
-      → DoneTold Q (on_phase d op p a)
-  on_phase_told d op (Waits n) a t k = on_need_told d op n a t k
-  on_phase_told d op Starts a t k = k
-  on_phase_told d op (Needs n) a t k = k
-  on_phase_told d op (Reads io) a t k = k
-  on_phase_told d op (Probes io) a t k = k
-  on_phase_told d op (Gathers io) a t k = k
-  on_phase_told d op (Scatters io queue) a t k = k
-
-  on_call_told : (d : Done) (o : Option Call) (a : Answer) → CallTold Q o → DoneTold Q d → DoneTold Q (on_call d o a)
-  on_call_told d None a t k = k
-  on_call_told d (Some call) a t k = on_phase_told d call.op call.phase a t k
-
-  -- ---- recalls and replies
-
-  recalled_told : (c : Client) (r : Recall) (o : Option Held) → CallTold Q c.call → DoneTold Q (recalled c r o)
-  recalled_told c r None k = record { call = k; outcome = tt }
-  recalled_told c r (Some h) k =
-      either_done (h.number == grant_in r.args.stateid) (obeys c r) (no_match c r) (record { call = k; outcome = tt })
-      (record { call = k; outcome = tt })
-
-  reply_under_told : (c : Client) (call : Call) (a : Awaited) (r : Reply) (o : Option Held) → CallTold Q c.call
-      → PhaseTold Q call.phase → Says Q a r → DoneTold Q (reply_under c call a r o)
-  reply_under_told c call a r None k t says = quiet_told c k
-  reply_under_told c call a r (Some h) k t says =
-      moved_told (quiet c) call.op (replied h call.op call.phase a r) tt
-      (replied_told Q h call.op call.phase a r t says)
-
-  reply_call_told : (c : Client) (a : Awaited) (r : Reply) (o : Option Call) → CallTold Q c.call → CallTold Q o
-      → Says Q a r → DoneTold Q (reply_call c a r o)
-  reply_call_told c a r None k t says = quiet_told c k
-  reply_call_told c a r (Some call) k t says = reply_under_told c call a r (held_of c.held (file_of call.op)) k t says
+  answered_told : (d : Done) (a : Answer) → DoneTold Q d → DoneTold Q (on_call d d.client.call a)
+  answered_told d a k =
+      each_answer d a (DoneTold Q) (record {
+        stays = k;
+        returned = λ op is. record { call = tt; outcome = k.outcome };
+        granted = λ op tries h is took. record { call = tt; outcome = k.outcome };
+        unusable = λ op tries w is took. over_told d (BadLayout w) tt;
+        refused = λ op tries is. by_turn_told d op (not_granted a tries) k.outcome (not_granted_told Q a tries);
+        committed = λ op timed h is held.
+            moved_told d op (on_commit h op a timed) k.outcome (on_commit_told Q h op a timed);
+        reported = λ op timed is. over_told d (on_report op a timed) (on_report_told Q op a timed);
+        closed = λ op o report is. over_told d o (subst (CallTold Q) is k.call);
+      })
 
   -- ---- any step
 
-  by_taken_told : (c : Client) (o : Option Taken) → CallTold Q c.call
-      → ((a : Awaited) (r : Reply) → o ≡ Some (TakesReply a r) → Says Q a r) → StepTold Q (by_taken c o)
-  by_taken_told c None k says = still_told c k
-  by_taken_told c (Some (TakesAnswer a)) k says =
-      finished_told _ (on_call_told (quiet (record c { outstanding = None })) c.call a k
-      (record { call = k; outcome = tt }))
-  by_taken_told c (Some (TakesReply a r)) k says = finished_told _ (reply_call_told c a r c.call k k (says a r refl))
-  by_taken_told c (Some (TakesRecall r)) k says = finished_told _ (recalled_told c r _ k)
-
-  timeout_under_told : (c : Client) (call : Call) (n : ℕ) (o : Option Held) (xs : List Awaited) → CallTold Q c.call
-      → PhaseTold Q call.phase → StepTold Q (timeout_under c call n o xs)
-  timeout_under_told c call n (Some h) (a ∷ xs) k t =
-      finished_told _ (moved_told (quiet c) call.op (timed_out h call.op call.phase n a xs) tt
-      (timed_out_told Q h call.op call.phase n a xs t))
-  timeout_under_told c call n None xs k t = still_told c k
-  timeout_under_told c call n (Some h) [] k t = still_told c k
-
-  timeout_call_told : (c : Client) (n : ℕ) (o : Option Call) → CallTold Q c.call → CallTold Q o
-      → StepTold Q (timeout_call c n o)
-  timeout_call_told c n None k t = still_told c k
-  timeout_call_told c n (Some call) k t = timeout_under_told c call n (held_of c.held (file_of call.op)) _ k t
-
-  starts_told : (c : Client) (op : CallOp) (b : Bool) → CallTold Q c.call
-      → StepTold Q (if b then record (still c) { outcome = Some (WriteOk 0) }
-      else finished (quiet (record c { call = Some (record { op = op; phase = Starts }) })))
-  starts_told c op true k = record { call = k; outcome = tt }
-  starts_told c op false k = finished_told _ (record { call = tt; outcome = tt })
-
-  refuses_told : (c : Client) (a b d : Bool) (x y z : CallErr) (s : Step) → CallTold Q c.call → StepTold Q s
-      → StepTold Q (unless_refused c (if a then Err x else if b then Err y else if d then Err z else Ok s))
-  refuses_told c true b d x y z s k t = still_told c k
-  refuses_told c false true d x y z s k t = still_told c k
-  refuses_told c false false true x y z s k t = still_told c k
-  refuses_told c false false false x y z s k t = t
-
-  calls_told : (c : Client) (op : CallOp) → CallTold Q c.call → StepTold Q (unless_refused c (calls c op))
-  unfolding calls
-  calls_told c op k =
-      refuses_told c (is_some c.call) (is_bad_range (span_of op)) (is_spent c.next) Busy BadRange SlotSpent
-      (starts c op) k (starts_told c op (writes_nothing op) k)
+  cases : (c : Client) (i : Input) → CallTold Q c.call → InputSays Q c i → TurnCases c i (StepTold Q)
+  cases c i k says = record {
+    rests = still_told c k;
+    nothing = λ op is e. record { call = k; outcome = tt };
+    called = λ op is none can. finished_told _ (record { call = tt; outcome = tt });
+    answered = λ a is.
+        finished_told _ (answered_told (quiet (record c { outstanding = None })) a (record { call = k; outcome = tt }));
+    replied = λ drive q call h a is.
+        finished_told _ (moved_told (quiet c) call.op (replied h call.op call.phase a q) tt
+        (replied_told Q h call.op call.phase a q (subst (CallTold Q) is.call_is k)
+        (subst (InputSays Q c) is.is says a q (reply_is_taken c i drive q call h a is))));
+    unheld = finished_told _ (quiet_told c k);
+    recalled = λ q is. finished_told _ (record { call = k; outcome = tt });
+    unmatched = λ q is. finished_told _ (record { call = k; outcome = tt });
+    timed = λ n call h a xs is.
+        finished_told _ (moved_told (quiet c) call.op (timed_out h call.op call.phase n a xs) tt
+        (timed_out_told Q h call.op call.phase n a xs (subst (CallTold Q) is.call_is k)));
+    leaves = λ is. finished_told _ (record { call = k; outcome = tt });
+    resends = λ is. record { call = k; outcome = tt };
+  }
 
   pub step_told : (c : Client) (i : Input) → CallTold Q c.call → InputSays Q c i → StepTold Q (step c i)
-  unfolding hears times_out leaves
-  step_told c (Calls op) k i = calls_told c op k
-  step_told c (Hears from m) k i = by_taken_told c (takes c from m) k i
-  step_told c (TimesOut n) k i = timeout_call_told c n c.call k k
-  step_told c Leaves k i = finished_told _ (record { call = k; outcome = tt })
-  step_told c Resends k i = record { call = k; outcome = tt }
+  step_told c i k says = each_turn c i (StepTold Q) (cases c i k says)
 
 -- ---- what was said stays said
 

@@ -43,12 +43,12 @@ pub record WasAwaited (h : List Line) (client drive : ℕ) (v : Verdict) : Type 
   pub verdict : judged.found ≡ verdict_on device.state device.clock (reading judged.message.bytes)
 
 -- fewer messages were sent than half of the nonces that a grant has, and of the numbers that requests have
-abbrev pub AreFew : List Line → Type 0
-AreFew h = length (sent_in h) < 2 ^ 31
+abbrev pub AreFewerThanNonces : List Line → Type 0
+AreFewerThanNonces h = length (sent_in h) < 2 ^ 31
 
 -- a call that ends as refused awaited the command that was refused
 abbrev pub AwaitedAt : List Line → Line → Type 0
-AwaitedAt before (line.Ended c (Failed kind (Refused d v))) = AreFew before → WasAwaited before c d v
+AwaitedAt before (line.Ended c (Failed kind (Refused d v))) = AreFewerThanNonces before → WasAwaited before c d v
 AwaitedAt before l = Unit {0}
 
 -- in each lawful history, at each line

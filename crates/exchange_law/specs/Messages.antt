@@ -48,13 +48,13 @@ pub record WasAnswered (c : ℕ) (o : Option Slot) (a : Answer) : Type 0 where
   pub same : a.sequence ≡ slot.last → a ≡ slot.kept
 
 -- the server tells a client answers and recalls
-abbrev pub IsAnswered : (c : ℕ) → Option Slot → Body → Type 0
-IsAnswered c o (OfEnvelope (envelope.Answer a)) = WasAnswered c o a
-IsAnswered c o (OfEnvelope (envelope.Recall r)) = Unit {0}
-IsAnswered c o body = ⊥
+abbrev pub IsToldBySlot : (c : ℕ) → Option Slot → Body → Type 0
+IsToldBySlot c o (OfEnvelope (envelope.Answer a)) = WasAnswered c o a
+IsToldBySlot c o (OfEnvelope (envelope.Recall r)) = Unit {0}
+IsToldBySlot c o body = ⊥
 
 abbrev pub AnswersOf : (c : ℕ) → Option Slot → Message → Type 0
-AnswersOf c o m = m.from ≡ node.Server → m.to ≡ node.Client c → IsAnswered c o m.body
+AnswersOf c o m = m.from ≡ node.Server → m.to ≡ node.Client c → IsToldBySlot c o m.body
 
 -- what the server keeps for client c is its answer to the last request, and lines can name such a client
 pub record IsSlotOf (c : ℕ) (s : Slot) : Type 0 where

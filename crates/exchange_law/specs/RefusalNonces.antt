@@ -17,7 +17,7 @@ use Rattle.world_history.specs.declared.messages.Posted.{Posted}
 use Rattle.world_history.specs.State.{ClientAt, World, at_number}
 use Rattle.world_history.specs.Handed.{for_client}
 use Rattle.history_law.specs.BookMoments.{IsMoment}
-use Rattle.exchange_law.specs.Awaited.{AreFew}
+use Rattle.exchange_law.specs.Awaited.{AreFewerThanNonces}
 
 -- what was sent, whatever became of it
 abbrev pub messages_of : World → List Message
@@ -32,7 +32,7 @@ pub record HasSent (w : World) (client : ℕ) (m : Message) (x : Command) : Type
 -- at each moment with few messages, commands of a client that have one nonce are one message, sent once more perhaps
 abbrev pub CommandsDiffer : Type 0
 CommandsDiffer =
-    (w : World) (h : List Line) → IsMoment w h → AreFew h → (c : ℕ) (m n : Message) (x y : Command) →
+    (w : World) (h : List Line) → IsMoment w h → AreFewerThanNonces h → (c : ℕ) (m n : Message) (x y : Command) →
     HasSent w c m x → HasSent w c n y → x.nonce ≡ y.nonce → m ≡ n
 
 -- ---- grants
@@ -57,5 +57,5 @@ pub record IsLater (w : World) (client : ℕ) (a : ClientAt) (g : Held) : Type 0
 -- so it is at each moment with few messages
 abbrev pub GrantsAreLater : Type 0
 GrantsAreLater =
-    (w : World) (h : List Line) → IsMoment w h → AreFew h → (c : ℕ) (a : ClientAt) → at_number w.clients c ≡ Some a →
+    (w : World) (h : List Line) → IsMoment w h → AreFewerThanNonces h → (c : ℕ) (a : ClientAt) → at_number w.clients c ≡ Some a →
     (g : Held) → CanTake w c a g → IsLater w c a g

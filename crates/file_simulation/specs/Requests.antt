@@ -72,7 +72,7 @@ abbrev pub Gives : RawMap → Answer → Option CallOp → Option machine.Grant 
 Gives m a op o = GivesIn m a op (layouts_in a.results) o
 
 -- The machine has sent this answer to client c.
-pub record IsAnswered (m : RawMap) (s : machine.State) (c : ℕ) (x : Client) (a : Answer) : Type 0 where
+pub record HasSentAnswer (m : RawMap) (s : machine.State) (c : ℕ) (x : Client) (a : Answer) : Type 0 where
   pub grant : Option machine.Grant
   pub gives : Gives m a (pending_op x) grant
   pub sent : InRun (record { client = c; sequence = s.sequence c; grant = grant; size = a.size }) s.answers
@@ -80,7 +80,7 @@ pub record IsAnswered (m : RawMap) (s : machine.State) (c : ℕ) (x : Client) (a
 -- so it is, if the server has answered
 abbrev pub AnswerIs : RawMap → machine.State → (c : ℕ) → Client → Option Answer → Type 0
 AnswerIs m s c x None = Unit {0}
-AnswerIs m s c x (Some a) = IsAnswered m s c x a
+AnswerIs m s c x (Some a) = HasSentAnswer m s c x a
 
 -- ---- a client's outstanding request
 

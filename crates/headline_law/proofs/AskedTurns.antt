@@ -75,7 +75,7 @@ gives_asks d (Some u) none = none_asks (returns d (Some u)) none
 
 finishes : FinishCases DoneAsks
 finishes = record {
-  needs = λ d op n x is out. free_call _ op (Needs n) refl refl;
+  needs = λ d op n x is out first. free_call _ op (Needs n) refl refl;
   begun = λ d op h x is held cover. moved_asks d op h held (begins h op) (begins_asks h op);
   asks = λ d op n h x is out held. under_asks d op n h;
   gives_back = λ d u x none out. gives_asks d u none;
@@ -159,7 +159,7 @@ module _ (x : Client) (w : ClientAsks x) where
   cases i = record {
     rests = w;
     nothing = λ op is empty. w;
-    called = λ op is none. finished_asks (quiet (with_start x op)) (free_call _ op Starts refl refl);
+    called = λ op is none can. finished_asks (quiet (with_start x op)) (free_call _ op Starts refl refl);
     answered = λ a q. finished_asks (on_call (quiet (record x { outstanding = None })) x.call a) (answered_asks x a w x.call);
     replied = λ drive q call h a r. finished_asks (moved (quiet x) call.op (replied h call.op call.phase a q))
         (moved_asks (quiet x) call.op h r.held (replied h call.op call.phase a q)

@@ -25,7 +25,7 @@ use Rattle.world_history.specs.ServerNames.{Server, File}
 use Rattle.world_history.specs.State.{World}
 use Rattle.history_law.specs.BookMoments.{IsMoment, plan_at, lines_in}
 use Rattle.history_law.specs.Moves.{IsForClient}
-use Rattle.history_law.specs.Turns.{with_start, IsAnswered, TurnCases}
+use Rattle.history_law.specs.Turns.{with_start, AnswerComes, TurnCases}
 use Rattle.history_law.proofs.Turns.{each_turn}
 use Rattle.exchange_law.proofs.ClientKeeping.{put_read, without_read}
 use Rattle.exchange_law.proofs.CountMoments.{reached}
@@ -62,7 +62,7 @@ pub record TakesGrant (x : Client) (a : Answer) (h : Held) : Type 0 where
 pub record KnownOf (E : ℕ → Type 0) (x : Client) (i : Input) : Type 0 where
   pub returning : (r : Request) → x.outstanding ≡ Some r → IsReturning r.args → E r.file
   pub holding : (n : ℕ) (h : Held) → held_of x.held n ≡ Some h → E n
-  pub given : (a : Answer) → IsAnswered x i a → (h : Held) → TakesGrant x a h → E h.file
+  pub given : (a : Answer) → AnswerComes x i a → (h : Held) → TakesGrant x a h → E h.file
 
 module _ (E : ℕ → Type 0) (x : Client) (i : Input) (k : KnownOf E x i) where
   -- E holds of each file of which a grant is held in the middle of a turn
@@ -87,7 +87,7 @@ module _ (E : ℕ → Type 0) (x : Client) (i : Input) (k : KnownOf E x i) where
 
   -- ---- an answer
 
-  module _ (a : Answer) (q : IsAnswered x i a) where
+  module _ (a : Answer) (q : AnswerComes x i a) where
     abbrev freed : Done
     freed = quiet (record x { outstanding = None })
 
@@ -145,7 +145,7 @@ module _ (E : ℕ → Type 0) (x : Client) (i : Input) (k : KnownOf E x i) where
   cases = record {
     rests = k.returning;
     nothing = λ op is empty. k.returning;
-    called = λ op is none. finish (quiet (with_start x op)) refl k.returning k.holding;
+    called = λ op is none can. finish (quiet (with_start x op)) refl k.returning k.holding;
     answered = λ a q.
         finish (on_call (quiet (record x { outstanding = None })) x.call a) (answered_asked x a x.call).0
         (λ r out. absurd (cc (sym (answered_asked x a x.call).1 ∙ out))) (answered_held a q x.call refl);
@@ -201,7 +201,7 @@ module _ (more : OneEventMore) (own : AnswersAreOwn) (agree : ClientsAgree) wher
       met : IsMet w.server g.client g.state
       met = subst (IsMet w.server g.client) then_ (agree w h k t g.client)
 
-      given : (a : Answer) → IsAnswered g.state g.input a → (x : Held) → TakesGrant g.state a x → IsThere v x.file
+      given : (a : Answer) → AnswerComes g.state g.input a → (x : Held) → TakesGrant g.state a x → IsThere v x.file
       given a q x takes_grant =
           let heard : IsForClient w m.action g.client by.before (Hears q.from q.message) =
           subst (IsForClient w m.action g.client by.before) q.is by.input_is in

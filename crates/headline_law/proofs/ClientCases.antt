@@ -16,7 +16,7 @@ use Rattle.client_rules.specs.Io.{awaited_in, got_of}
 use Rattle.client_rules.specs.Messages.{Step, finished, no_match, obeys, on_call, still}
 use Rattle.client_rules.specs.Replies.{answers, replied, timed_out}
 use Rattle.client_rules.specs.Steps.{all_due, calls, is_bad_range, is_spent, writes_nothing}
-use Rattle.history_law.specs.Turns.{IsAnswered, IsReplied, IsTimed, with_start}
+use Rattle.history_law.specs.Turns.{AnswerComes, IsReplied, IsTimed, with_start}
 use Rattle.world_history.specs.ServerNames.{Slot}
 use Rattle.world_history.specs.ClientNames.{Awaited, BadRange, Busy, Call, CallOp, Client, Done, Held, Io, Moved, Phase, Reads, Probes, Gathers, Scatters, Request, SlotSpent, Starts, Store, Turn, Goes, Ends, Forgets, WriteOk}
 use Rattle.world_history.specs.Handed.{op_in, pending_op}
@@ -140,7 +140,7 @@ module _ (file : ℕ) (m : RawMap) (c : ℕ) (s : State) (x : Client) (slot : Op
     pub rests : x.outstanding ≡ None → AwaitsNothing s c
     pub told : (drive : ℕ) (q : Reply) (call : Call) (h : Held) (a : Awaited) → IsReplied x i drive q call h a →
         (file_of call.op == file) ≡ true → (q.verdict == PERFORMED) ≡ true → is_scatter call.phase ≡ true → IsTold s c a
-    pub answered : (a : Answer) (r : Request) → IsAnswered x i a → x.outstanding ≡ Some r → AnswerKnown file m c s x slot a r
+    pub answered : (a : Answer) (r : Request) → AnswerComes x i a → x.outstanding ≡ Some r → AnswerKnown file m c s x slot a r
     pub facts : Lawful s (table.at_first s file c x i) → PlanFacts file m c s x slot k i w
 
   module _ (known : TurnKnown) where
@@ -214,7 +214,7 @@ module _ (file : ℕ) (m : RawMap) (c : ℕ) (s : State) (x : Client) (slot : Op
         })
 
     -- an answer is taken
-    answer_goes : (a : Answer) → IsAnswered x i a → Goes_ (table.answered s file c x a x.outstanding)
+    answer_goes : (a : Answer) → AnswerComes x i a → Goes_ (table.answered s file c x a x.outstanding)
         (finished (on_call (quiet (record x { outstanding = None })) x.call a))
     answer_goes a n =
         let r : Request = n.request in

@@ -18,7 +18,7 @@ use Rattle.client_rules.specs.Replies.{answers}
 use Rattle.history_law.specs.Moments.{lines_in, with_event}
 use Rattle.history_law.specs.Counters.{GrantsAreCounted}
 use Rattle.history_law.specs.Moves.{IsForClient}
-use Rattle.history_law.specs.Turns.{IsAnswered, IsReplied}
+use Rattle.history_law.specs.Turns.{AnswerComes, IsReplied}
 use Rattle.world_history.specs.ClientNames.{Awaited, Call, CallOp, Client, Held, Request}
 use Rattle.world_history.specs.Handed.{op_in, pending_op}
 use Rattle.world_history.specs.Moves.{Action, Opens, acts}
@@ -178,7 +178,7 @@ module _ (laws : ClientLaws) (w : World) (h : List Line) (m : Move) (n : ℕ) (f
 
   -- ---- an answer
 
-  module _ (a : Answer) (r : Request) (is : IsAnswered j.state j.input a) (out : j.state.outstanding ≡ Some r) where
+  module _ (a : Answer) (r : Request) (is : AnswerComes j.state j.input a) (out : j.state.outstanding ≡ Some r) where
     own : TakesOwnAnswer w j.client j.state a
     own = own_is may w h m (suc n) f g s k j goes low is.from is.message a is.is is.takes_it
 

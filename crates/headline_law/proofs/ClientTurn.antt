@@ -72,7 +72,7 @@ still_rests t u c e rests = record {
 begun_fine : (Fit : List ℕ → Type 0) (d : Done) → FineDone Fit d → FineDone Fit (begun d)
 begun_fine Fit d fine = each_begin d (FineDone Fit) (record {
   stays = fine;
-  needs = λ op n is out. (finishes Fit).needs d op n fine is out;
+  needs = λ op n is out first. (finishes Fit).needs d op n fine is out first;
   begun = λ op h is held cover. (finishes Fit).begun d op h fine is held cover;
 })
 
@@ -90,7 +90,7 @@ begun_rise : (file : ℕ) (m : RawMap) (c : ℕ) (t : State) (d : Done) →
     WritesRise file c t (begun d)
 begun_rise file m c t d holds rise = each_begin d (WritesRise file c t) (record {
   stays = rise;
-  needs = λ op n is out call at here scatter.
+  needs = λ op n is out first call at here scatter.
       absurd (never (Needs n) call.phase (phase_same (record { op = op; phase = Needs n }) call at) refl scatter);
   begun = λ op h is held cover call at here scatter.
       by_turn_is op h held (begins h op).turn call at here;

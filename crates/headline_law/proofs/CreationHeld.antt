@@ -58,7 +58,7 @@ module _ (E : ℕ → Type 0) where
 
   finish_cases : FinishCases (λ d. Holds d.client)
   finish_cases = record {
-    needs = λ d op n held is out. held;
+    needs = λ d op n held is out first. held;
     begun = λ d op h held is has cover n j e.
         let b = moved_before d op h has (begins h op) (file_of_moved h (begins h op) (begins_file h op)) n j e in
         held n b.0 b.1;
@@ -81,7 +81,7 @@ module _ (E : ℕ → Type 0) where
     cases = record {
       rests = k.holding;
       nothing = λ op is empty. k.holding;
-      called = λ op is none. finish (quiet (with_start x op)) k.holding;
+      called = λ op is none can. finish (quiet (with_start x op)) k.holding;
       answered = λ a q.
           finish (on_call (quiet (record x { outstanding = None })) x.call a) (answered_held E x i k a q x.call refl);
       replied = λ drive q call h a r.

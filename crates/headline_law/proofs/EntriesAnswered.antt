@@ -16,7 +16,7 @@ use Rattle.client_rules.specs.Layouts.{taken}
 use Rattle.client_rules.specs.Messages.{finished, on_call, on_phase, answered_get, commit_under}
 use Rattle.client_rules.specs.Results.{status_of}
 use Rattle.client_rules.specs.Writes.{accounted, lowest}
-use Rattle.history_law.specs.Turns.{IsAnswered}
+use Rattle.history_law.specs.Turns.{AnswerComes}
 use Rattle.world_history.specs.ClientNames.{Client, Call, Held, Awaited, Request, TimedOut, Done, Need, First, Get, Commit, Report, Close, Phase, Starts, Needs, Waits, Reads, Probes, Gathers, Scatters, Outcome, WriteOk, NoFile, HeldBy, Fencing, Degraded, Spent, Status, Refused, BadLayout, Silent, Turn, Ends, Forgets, Why}
 use Rattle.world_history.specs.Handed.{op_in, pending_op}
 use Rattle.fence_law.specs.Machine.{after_all}
@@ -50,7 +50,7 @@ module _ (file : ℕ) (m : RawMap) (s : State) (c : ℕ) (x : Client) (i : Input
     (answer : Option Answer) (facts : WalkFacts file m s c x i pairs o answer) where
   -- ---- an answer
 
-  module _ (a : Answer) (n : IsAnswered x i a) where
+  module _ (a : Answer) (n : AnswerComes x i a) where
     abbrev t : State
     t = after_all s (table.answered s file c x a x.outstanding)
 
@@ -400,7 +400,7 @@ module _ (file : ℕ) (m : RawMap) (s : State) (c : ℕ) (x : Client) (i : Input
             subst (λ (z : Option Call). MayBegin file c t pairs o (op_in x i)
             (on_call (quiet (record x { outstanding = None })) z a)) (sym is) (with_call call is)
 
-  pub answered_goes : (a : Answer) → IsAnswered x i a → Tied_ file m s c x i pairs o answer facts
+  pub answered_goes : (a : Answer) → AnswerComes x i a → Tied_ file m s c x i pairs o answer facts
       (table.answered s file c x a x.outstanding)
       (finished (on_call (quiet (record x { outstanding = None })) x.call a))
   answered_goes a n =

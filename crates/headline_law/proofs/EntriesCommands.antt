@@ -33,7 +33,7 @@ use Rattle.world_history.specs.State.{World, at_number}
 use Rattle.history_law.specs.Moments.{IsMoment, lines_in}
 use Rattle.history_law.specs.Moves.{IsForClient}
 use Rattle.history_law.specs.Said.{IsHeardByClient}
-use Rattle.history_law.specs.Turns.{IsAnswered}
+use Rattle.history_law.specs.Turns.{AnswerComes}
 use Rattle.history_law.proofs.DriveLines.{sent_read}
 use Rattle.exchange_law.specs.Calls.{CallFine, ClientFine}
 use Rattle.exchange_law.specs.InStep.{client_of}
@@ -114,7 +114,7 @@ module _ (laws : CommandLaws) (w : World) (h : List Line) (m : Move) (count : �
 
   -- ---- the grant that is held
 
-  answered_holds : (a : Answer) → IsAnswered x j.input a → (y : Held) →
+  answered_holds : (a : Answer) → AnswerComes x j.input a → (y : Held) →
       held_of (on_call (quiet (record x { outstanding = None })) x.call a).client.held file ≡ Some y →
       HoldsNumber (after_all s (table.answered s file c x a x.outstanding)) c y.number
   answered_holds a n y has =

@@ -28,7 +28,7 @@ use Rattle.world_history.specs.ServerNames.{File, Slot}
 use Rattle.world_history.specs.State.{World, at_number}
 use Rattle.history_law.specs.Moments.{lines_in}
 use Rattle.history_law.specs.Moves.{IsForClient}
-use Rattle.history_law.specs.Turns.{IsAnswered}
+use Rattle.history_law.specs.Turns.{AnswerComes}
 use Rattle.exchange_law.specs.Meeting.{IsMet, IsReadable, IsReadableThrough}
 use Rattle.exchange_law.specs.Taking.{TakesOwn}
 use Rattle.exchange_law.specs.Text.{AreOfText, AreFew}
@@ -197,7 +197,7 @@ module _ (laws : TurnLaws) (w : World) (h : List Line) (m : Move) (count : ℕ) 
       (eq-eqb own.slot.last r.sequence (own.last ∙ ap (λ (z : Request). z.sequence) same))
       ∙ ap (λ (z : Answer). Some z) (sym (own.exact (readable.answers c_ own.slot own.kept)))
 
-  pub answered_ : (a : Answer) (r : Request) → IsAnswered x_ j.input a → x_.outstanding ≡ Some r → AnswerFits file_ x_ a r
+  pub answered_ : (a : Answer) (r : Request) → AnswerComes x_ j.input a → x_.outstanding ≡ Some r → AnswerFits file_ x_ a r
   answered_ a r n out =
       answer_fits file_ w.server c_ x_ r out a (kept_it n.from n.message a n.is n.takes_it r out) asks met
       (λ (op : CallOp) (report : List IoErr). CantBeBorne w.server c_ (file_of op) (report_read report)) reports

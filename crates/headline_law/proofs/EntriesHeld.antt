@@ -14,7 +14,7 @@ use Rattle.client_rules.specs.Steps.{all_due}
 use Rattle.client_rules.proofs.Numbering.{nonces_rise}
 use Rattle.client_rules.proofs.HeldGrants.{held_file}
 use Rattle.world_history.specs.ClientNames.{Client, Call, CallOp, Held, Awaited, Reply, Phase, Starts, Needs, Waits, Reads, Probes, Gathers, Scatters, Turn, Goes, Ends, Forgets, Close, Silent, Lost, Moved, Done}
-use Rattle.history_law.specs.Turns.{with_start, IsReplied, IsAnswered}
+use Rattle.history_law.specs.Turns.{with_start, IsReplied, AnswerComes}
 use Rattle.history_law.proofs.Turns.{each_begin}
 use Rattle.exchange_law.proofs.ClientKeeping.{put_read, without_read}
 use Rattle.fence_law.specs.State.{State, Event, Grant}
@@ -98,7 +98,7 @@ begun_had : (file : ℕ) (d : Done) (j : Held) → held_of (begun d).client.held
 begun_had file d = each_begin d (λ (e : Done). (j : Held) → held_of e.client.held file ≡ Some j → HadOne file d.client.held j)
     (record {
       stays = λ j e. (j, e, refl);
-      needs = λ op n is out j e. (j, e, refl);
+      needs = λ op n is out first j e. (j, e, refl);
       begun = λ op h is held cover j e.
           moved_had d op h held (begins h op) (file_of_moved h (begins h op) (begins_file h op))
           (nonces_rise.begun h op).same file j e;
@@ -111,7 +111,7 @@ pub record HeldFacts (file : ℕ) (s : State) (c : ℕ) (x : Client) (i : Input)
   pub holding : (h : Held) → held_of x.held file ≡ Some h → HoldsNumber s c h.number
   pub unheld : IsUnheld x i → ⊥
   pub again : i ≡ Resends → ⊥
-  pub answered : (a : Answer) → IsAnswered x i a → (h : Held) →
+  pub answered : (a : Answer) → AnswerComes x i a → (h : Held) →
       held_of (on_call (quiet (record x { outstanding = None })) x.call a).client.held file ≡ Some h →
       HoldsNumber (after_all s (table.answered s file c x a x.outstanding)) c h.number
 

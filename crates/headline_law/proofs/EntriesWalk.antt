@@ -15,7 +15,7 @@ use Rattle.client_rules.specs.History.{Input, Calls, Resends, step}
 use Rattle.client_rules.specs.Messages.{Step, still, finished, to_drive}
 use Rattle.client_rules.specs.Replies.{replied, timed_out, answers}
 use Rattle.client_rules.specs.Steps.{writes_nothing}
-use Rattle.history_law.specs.Turns.{IsReplied, IsTimed, IsAnswered, with_start}
+use Rattle.history_law.specs.Turns.{IsReplied, IsTimed, AnswerComes, with_start}
 use Rattle.world_history.specs.ClientNames as client_rules
 use Rattle.world_history.specs.ClientNames.{Client, Call, CallOp, Held, Awaited, Request, RecallAnswer, Moved, Done, Close, Phase, Starts, Needs, Waits, Reads, Probes, Gathers, Scatters, Outcome, WriteOk, Turn, Goes, Ends, Forgets, AnswersRecall, Asks}
 use Rattle.world_history.specs.Handed.{op_in, pending_op}
@@ -55,7 +55,7 @@ module _ (file : ℕ) (m : RawMap) (s : State) (c : ℕ) (x : Client) (i : Input
     pub call : CallAt file m s c answer x.call
     pub size : (h : Held) → held_of x.held file ≡ Some h → s.known_size c ≡ h.size
     pub unheld : IsUnheld x i → ⊥
-    pub answered : (a : Answer) (r : Request) → IsAnswered x i a → x.outstanding ≡ Some r → AnswerFits file x a r
+    pub answered : (a : Answer) (r : Request) → AnswerComes x i a → x.outstanding ≡ Some r → AnswerFits file x a r
     pub closed : (op : CallOp) (u : Outcome) (report : List IoErr) →
         x.call ≡ Some (record { op = op; phase = Waits (Close u report) }) → EndsBadly u
     pub gathers : (call : Call) (h : Held) → x.call ≡ Some call → held_of x.held (file_of call.op) ≡ Some h →

@@ -55,7 +55,7 @@ returned_quiet d (Some u) q = q
 finished_quiet : (d : Done) → IsQuietDone d → (finished d).outcome ≡ None
 unfolding finished
 finished_quiet d q = (each_finish IsQuietDone (record {
-  needs = λ e op n s is out. absurd (cc (sym s.1 ∙ is));
+  needs = λ e op n s is out first. absurd (cc (sym s.1 ∙ is));
   begun = λ e op h s is held covered. absurd (cc (sym s.1 ∙ is));
   asks = λ e op n h s is out held. absurd (cc (sym s.1 ∙ is));
   gives_back = λ e u s none out. returned_quiet e u s;
@@ -79,7 +79,7 @@ turn_of_call : (c : Client) (i : Input) → ((op : CallOp) → i ≡ client.Call
 turn_of_call c i other = each_turn c i (IsOfCall c) (record {
   rests = inl refl;
   nothing = λ op is nothing. absurd (other op is);
-  called = λ op is free. absurd (other op is);
+  called = λ op is free can. absurd (other op is);
   answered = λ a is. answers c c.call refl (quiet (record c { outstanding = None })) a refl refl;
   replied = λ drive q call h a is. inr (ap (λ (o : Option Call). is_some o) is.call_is);
   unheld = rests c c.call refl (quiet c) refl refl;

@@ -210,16 +210,16 @@ event_quiet w chosen e no_ none = record {
 
 module _ (goes : MomentGoesOn) (w : World) (h : List Line) (here : (seen h).server ≡ server_of w)
     (there : (moment_of h).server ≡ w.server) (m : Move) (count : ℕ) (j : Going) where
-  abbrev Kept : Type 0
-  Kept = IsKept w h (moment_of (h ++ take count (lines_in w m)))
+  abbrev IsKeptThere : Type 0
+  IsKeptThere = IsKept w h (moment_of (h ++ take count (lines_in w m)))
 
   abbrev with_lines : Action → List Line
   with_lines x = with_event x (sends_all (acts w m.chosen x)).lines
 
-  kept_by : (x : Action) → m.action ≡ x → IsKept w h (moment_of (h ++ take count (with_lines x))) → Kept
+  kept_by : (x : Action) → m.action ≡ x → IsKept w h (moment_of (h ++ take count (with_lines x))) → IsKeptThere
   kept_by x act = subst (λ (y : Action). IsKept w h (moment_of (h ++ take count (with_lines y)))) (sym act)
 
-  own : (x : Action) → m.action ≡ x → IsQuiet w (with_lines x) → Kept
+  own : (x : Action) → m.action ≡ x → IsQuiet w (with_lines x) → IsKeptThere
   own x act q = kept_by x act (quiet_lines goes w h here there count (with_lines x) q)
 
   delivered_there : (n : ℕ) → delivered w (slice_get w.network.messages n) ≡ Some j →
@@ -229,7 +229,7 @@ module _ (goes : MomentGoesOn) (w : World) (h : List Line) (here : (seen h).serv
   abbrev here_kept : ((moment_of h).marks ++ [] ≡ (moment_of h).marks) × ((seen h).server.server ≡ w.server)
   here_kept = (append-nil (moment_of h).marks, ap (λ (x : ServerSeen). x.server) here)
 
-  led_by_event : (e : Event) → m.action ≡ Opens e → going_in w (Opens e) ≡ Some j → Kept
+  led_by_event : (e : Event) → m.action ≡ Opens e → going_in w (Opens e) ≡ Some j → IsKeptThere
   unfolding begins
   led_by_event (event.Deliver n) act is =
       kept_by (Opens (event.Deliver n)) act
@@ -244,7 +244,7 @@ module _ (goes : MomentGoesOn) (w : World) (h : List Line) (here : (seen h).serv
   led_by_event (event.Leave c) act is = own (Opens (event.Leave c)) act (event_quiet w m.chosen (event.Leave c) refl refl)
   led_by_event e act is = absurd (cc is)
 
-  kept_in : (x : Action) → m.action ≡ x → going_in w x ≡ Some j → Kept
+  kept_in : (x : Action) → m.action ≡ x → going_in w x ≡ Some j → IsKeptThere
   kept_in (Opens e) act is = led_by_event e act is
   kept_in (Delivers n) act is = own (Delivers n) act (delivered_there n is)
   kept_in (TimesOut c k) act is = own (TimesOut c k) act (timed_quiet w c k (at_number w.clients c) refl j is)

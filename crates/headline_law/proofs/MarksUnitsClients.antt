@@ -72,7 +72,7 @@ gives_lie d (Some u) none = none_lies (returns d (Some u)) none
 
 finishes : FinishCases DoneLies
 finishes = record {
-  needs = λ d op n w is out k e c. tt;
+  needs = λ d op n w is out first k e c. tt;
   begun = λ d op h w is held cover.
       moved_lies d op h held (begins h op) (file_of_moved h (begins h op) (begins_file h op)) (begins_lie h op);
   asks = λ d op n h w is out held. asks_lie d op n h;
@@ -160,7 +160,7 @@ module _ (x : Client) (w : ClientLies x) where
   cases i = record {
     rests = w;
     nothing = λ op is empty. w;
-    called = λ op is none. finished_lies _ (λ k e c. tt);
+    called = λ op is none can. finished_lies _ (λ k e c. tt);
     answered = λ a q. finished_lies (on_call (quiet (record x { outstanding = None })) x.call a) (answered_lies x a w x.call);
     replied = λ drive q call h a r. finished_lies (moved (quiet x) call.op (replied h call.op call.phase a q))
         (moved_lies (quiet x) call.op h r.held (replied h call.op call.phase a q)

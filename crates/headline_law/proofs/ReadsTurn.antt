@@ -12,7 +12,7 @@ use Rattle.client_rules.specs.Going.{quiet, begun, progressed}
 use Rattle.client_rules.specs.Grants.{held_of}
 use Rattle.client_rules.specs.History.{Input, Resends, step}
 use Rattle.client_rules.specs.Messages.{Step, finished, to_drive}
-use Rattle.history_law.specs.Turns.{IsAnswered}
+use Rattle.history_law.specs.Turns.{AnswerComes}
 use Rattle.world_history.specs.ServerNames.{Slot}
 use Rattle.world_history.specs.ClientNames.{Awaited, Call, Client, CallOp, Done, Held, Need, Phase, Starts, Needs, Waits, Reads, Probes, Gathers, Scatters, Request, Goes}
 use Rattle.world_history.specs.Handed.{op_in}
@@ -85,7 +85,7 @@ module _ (file : ℕ) (m : RawMap) (c : ℕ) (s : State) (x : Client) (slot : Op
         let same : call ≡ record { op = op; phase = Waits n } = cc both in
         subst (λ (y : Call). ReadsNow y.phase) same now
 
-    answered_stays : (a : Answer) → IsAnswered x i a → (call : Call) → x.call ≡ Some call → ReadsNow call.phase →
+    answered_stays : (a : Answer) → AnswerComes x i a → (call : Call) → x.call ≡ Some call → ReadsNow call.phase →
         (after_all s (table.answered s file c x a x.outstanding)).call c ≡ s.call c
     answered_stays a n call is now =
         subst (λ (o : Option Request). (after_all s (table.answered s file c x a o)).call c ≡ s.call c) (sym n.outstanding)

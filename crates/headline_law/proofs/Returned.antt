@@ -26,7 +26,7 @@ use Rattle.world_history.specs.State.{World, at_number, empty_world}
 use Rattle.world_history.specs.declared.messages.Message.{Message}
 use Rattle.history_law.specs.BookMoments.{IsMoment, plan_at, lines_in}
 use Rattle.history_law.specs.Doing.{input_in}
-use Rattle.history_law.specs.Turns.{IsAnswered}
+use Rattle.history_law.specs.Turns.{AnswerComes}
 use Rattle.history_law.proofs.Doing.{server_moves}
 use Rattle.history_law.proofs.Goes.{moves_are_steps}
 use Rattle.exchange_law.specs.Doing.{said, posted, IsHeardByClient, AreReplies, Nothing, OneReply, OthersGo, ServerGoes, ClientGoes, ClientStops, ClientComes, Goes, Others, AServer, AClient, Stops, Comes}
@@ -160,7 +160,7 @@ module _ (laws : ReturnedLaws) (w : World) (h : List Line) (k : IsMoment w h) (m
     x = g.before.state
 
     -- a grant that it is given now is one that the server keeps the answer of
-    given : (b : Answer) → IsAnswered x g.input b → (op : CallOp) (j : Held) → taken b op ≡ Ok j → IsLow w j.number
+    given : (b : Answer) → AnswerComes x g.input b → (op : CallOp) (j : Held) → taken b op ≡ Ok j → IsLow w j.number
     given b q op j e =
         let heard : IsHeardByClient w g.client (Hears q.from q.message) = subst (IsHeardByClient w g.client) q.is g.heard in
         let it = heard.0 in

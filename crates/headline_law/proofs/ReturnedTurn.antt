@@ -22,7 +22,7 @@ use Rattle.client_rules.specs.Steps.{all_due}
 use Rattle.client_rules.proofs.Numbering.{nonces_rise}
 use Rattle.world_history.specs.Calm.{returned_in}
 use Rattle.world_history.specs.ClientNames.{Client, Call, CallOp, Held, Due, Need, First, Get, Commit, Report, Close, Phase, Starts, Needs, Waits, Reads, Probes, Gathers, Scatters, Turn, Goes, Ends, Forgets, Moved, Done, Request, TimedOut, Why}
-use Rattle.history_law.specs.Turns.{with_start, IsAnswered, TurnCases}
+use Rattle.history_law.specs.Turns.{with_start, AnswerComes, TurnCases}
 use Rattle.history_law.proofs.Turns.{each_turn, each_begin, each_progress}
 use Rattle.exchange_law.proofs.PlaceGoing.{put_all, found_all}
 
@@ -172,7 +172,7 @@ module _ (P : ℕ → Type 0) (named : (n : ℕ) → P n → P (grant_in (statei
   begun_known : (d : Done) → Known d.client → Known (begun d).client
   begun_known d k = each_begin d (λ e. Known e.client) (record {
     stays = k;
-    needs = λ op n is out. k;
+    needs = λ op n is out first. k;
     begun = λ op h is held cover. moved_known d op h (begins h op) held (nonces_rise.begun h op).same k;
   })
 
@@ -184,8 +184,8 @@ module _ (P : ℕ → Type 0) (named : (n : ℕ) → P n → P (grant_in (statei
 
   -- P holds of what the client is given
   module _ (x : Client) (i : Input) (k : Known x)
-      (given : (a : Answer) → IsAnswered x i a → (op : CallOp) (h : Held) → taken a op ≡ Ok h → P h.number) where
-    module _ (a : Answer) (q : IsAnswered x i a) where
+      (given : (a : Answer) → AnswerComes x i a → (op : CallOp) (h : Held) → taken a op ≡ Ok h → P h.number) where
+    module _ (a : Answer) (q : AnswerComes x i a) where
       abbrev freed : Done
       freed = quiet (record x { outstanding = None })
 
@@ -234,7 +234,7 @@ module _ (P : ℕ → Type 0) (named : (n : ℕ) → P n → P (grant_in (statei
     cases = record {
       rests = k;
       nothing = λ op is empty. k;
-      called = λ op is none. finished_known (quiet (with_start x op)) k;
+      called = λ op is none can. finished_known (quiet (with_start x op)) k;
       answered = λ a q.
           finished_known (on_call (quiet (record x { outstanding = None })) x.call a) (answered_known a q x.call);
       replied = λ drive q call h a r.

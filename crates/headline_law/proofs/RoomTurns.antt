@@ -115,8 +115,8 @@ begins_now d op e = subst IsAnew (sym e) tt
 finishes_dealt : (n : ℕ) → FinishCases (DoneDealt n)
 unfolding requests
 finishes_dealt n = record {
-  needs = λ d op x q is out. record {
-    fine = (finishes Any).needs d op x q.fine is out;
+  needs = λ d op x q is out first. record {
+    fine = (finishes Any).needs d op x q.fine is out first;
     anew = λ z. absurd z;
     call = awaits_none n d.client.held op (Needs x) (its_range n d.client.held d.client.call _ is q.call) refl;
   };
@@ -298,7 +298,7 @@ module _ (n : ℕ) (c : Client) (i : Input) (f : IsFine c) (low : HeldsCount n c
   cases = record {
     rests = λ e. k;
     nothing = λ op is none e. k;
-    called = λ op is free e. elim (refused_or_begins c op) [
+    called = λ op is free can e. elim (refused_or_begins c op) [
       | inl same ↦
           subst (ClientDealt n)
           (sym (ap (λ (s : Step). s.client) (e ∙ ap (step c) is) ∙ same)) k

@@ -50,7 +50,7 @@ module _ (x : Client) (i : Input) (w : ClientWorks x) where
   cases = record {
     rests = λ n y j. absurd j;
     nothing = λ op is empty n y j. absurd j;
-    called = λ op is none.
+    called = λ op is none can.
         done_awaited (quiet (with_start x op)) (record { call = free_call _ op Starts refl (λ z. z) tt; sent = λ b j. j })
         (at_phase x i Any (quiet (with_start x op)) op Starts refl (ap awaited_of none));
     answered = λ a q.

@@ -13,7 +13,7 @@ use Rattle.client_rules.specs.History.{Input, Calls, Resends, unless_refused, st
 use Rattle.client_rules.specs.Messages.{Step, Replies, still, finished, on_call, obeys, no_match}
 use Rattle.client_rules.specs.Replies.{answers, replied, timed_out}
 use Rattle.client_rules.specs.Steps.{all_due, calls, is_bad_range, is_spent, writes_nothing}
-use Rattle.history_law.specs.Turns.{IsReplied, IsTimed, IsAnswered, with_start}
+use Rattle.history_law.specs.Turns.{IsReplied, IsTimed, AnswerComes, with_start}
 use Rattle.world_history.specs.ServerNames.{Slot}
 use Rattle.world_history.specs.ClientNames.{Client, Call, CallOp, Held, Awaited, WriteOk, Moved, Done, Busy, BadRange, SlotSpent}
 use Rattle.world_history.specs.Handed.{op_in, pending_op}
@@ -76,7 +76,7 @@ module _ (file : ℕ) (m : RawMap) (c : ℕ) (s : State) (x : Client) (slot : Op
           (called_op file m c s x slot k i fits op is) (starts file m c s x slot k i op none))
     ]
 
-    answer_goes : (a : Answer) → (n : IsAnswered x i a) →
+    answer_goes : (a : Answer) → (n : AnswerComes x i a) →
         Goes (table.answered s file c x a x.outstanding) (finished (on_call (quiet (record x { outstanding = None })) x.call a))
     answer_goes a n =
         let f = fits.answered a n.request n n.outstanding in

@@ -9,7 +9,7 @@ use Rattle.client_rules.specs.Going.{quiet}
 use Rattle.client_rules.specs.History.{Input}
 use Rattle.client_rules.specs.Messages.{awaited_of}
 use Rattle.world_history.specs.ClientNames.{Awaited, Call, Client, Done, Phase, Starts, Turn, Goes}
-use Rattle.history_law.specs.Turns.{IsAnswered, with_start}
+use Rattle.history_law.specs.Turns.{AnswerComes, with_start}
 use Rattle.fence_law.specs.State.{State, Event}
 use Rattle.file_simulation.specs.EventLists.{where_so}
 use Rattle.file_simulation.specs.ClientEvents as table
@@ -20,7 +20,7 @@ use Rattle.headline_law.proofs.SentSince.{DoneSince, at_phase, replied_since, ti
 module _ (file : ℕ) (s : State) (c : ℕ) (x : Client) (i : Input) (es : List Event) (d : Done) (Quiet : Call → Type 0) where
   -- `Quiet` holds of a call that reads, and reads on, where the events of the first line are these
   pub record IsSilent : Type 0 where
-    pub answered : (a : Answer) → es ≡ table.answered s file c x a x.outstanding → IsAnswered x i a → (call : Call) →
+    pub answered : (a : Answer) → es ≡ table.answered s file c x a x.outstanding → AnswerComes x i a → (call : Call) →
         x.call ≡ Some call → ReadsNow call.phase → Quiet call
     pub replied : (q : Reply) (call : Call) (a : Awaited) →
         es ≡ where_so (file_of call.op == file) (table.replied s c a q call.phase) → q.verdict ≡ PERFORMED →

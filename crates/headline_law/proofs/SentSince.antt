@@ -229,7 +229,7 @@ module _ (x : Client) (i : Input) (Quiet : Call → Type 0) where
   finishes : FinishCases DoneSince
   unfolding requests
   finishes = record {
-    needs = λ d op n q is out. at_phase (phased d op (Needs n)) op (Needs n) refl tt;
+    needs = λ d op n q is out first. at_phase (phased d op (Needs n)) op (Needs n) refl tt;
     begun = λ d op h q is held cover.
         moved_since _ ⊥ (λ col. ⊥) d op (begins h op)
         (begins_from h op (awaited_of x.call ≡ []) (q.since (record { op = op; phase = Starts }) is))

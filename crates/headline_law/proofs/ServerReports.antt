@@ -345,7 +345,7 @@ module _ (x : Client) where
     cases i = record {
       rests = λ op timed r c o. Before c o;
       nothing = λ op is empty. λ op2 timed r c o. Before c o;
-      called = λ op is no_.
+      called = λ op is no_ can.
           finished_fine (quiet (with_start x op))
           (at (quiet (with_start x op)) op Starts refl (λ timed e. cc e, λ timed e. cc e));
       answered = λ a q. finished_fine (on_call (quiet (record x { outstanding = None })) x.call a) (answered_fine a x.call);

@@ -352,7 +352,7 @@ module _ (x : Client) (ms : List Met) (s : IsSound x) (y : CallStored x.held x.o
     cases = record {
       rests = λ e. rests_so;
       nothing = λ op is empty e. record { call = later_call; outcome = inl refl };
-      called = λ op is free e. elim (cases_Bool (writes_nothing op)) [
+      called = λ op is free can e. elim (cases_Bool (writes_nothing op)) [
         | inl empty ↦ subst So (sym (e ∙ ap (step x) is)) (empty_so op empty)
         | inr some ↦ ends_so (quiet (with_start x op))
             (nothing_met now (ap (met_after x ms) is ∙ ap (λ (o : Option Call). since o ms) free))

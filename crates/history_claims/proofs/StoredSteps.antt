@@ -4,17 +4,16 @@ use Rattle.layout_ops.specs.declared.statuses.TheConstants.{NFS4_OK, NFS4ERR_NOE
 use Rattle.client_rules.specs.declared.limits.TheConstants.{MAX_TRIES, NO_COMPONENT}
 use Rattle.client_rules.specs.Answers.{busy, unavailable, refused_with, not_granted}
 use Rattle.client_rules.specs.Calls.{file_of}
-use Rattle.client_rules.specs.Going.{with_held, by_turn, moved, begins, starts_with, starts_under, starts_at, starts_call, begun, requests, asks_under, returns}
+use Rattle.client_rules.specs.Going.{with_held, by_turn, moved, begins, begun, requests, asks_under, returns}
 use Rattle.client_rules.specs.Grants.{covers, held_of}
-use Rattle.client_rules.specs.History.{step}
 use Rattle.client_rules.specs.Layouts.{taken}
 use Rattle.client_rules.specs.Messages.{Step, finished, answered_get, on_get}
 use Rattle.client_rules.specs.Requests.{args_of}
 use Rattle.client_rules.specs.Results.{status_of}
 use Rattle.client_rules.specs.Turns.{needing}
 use Rattle.client_rules.proofs.HeldGrants.{held_file, put_at}
-use Rattle.history_law.proofs.Turns.{each_progress}
-use Rattle.world_history.specs.ClientNames.{Call, CallOp, Held, Due, Moved, Request, Answer, Why, Need, First, Get, Commit, Report, Close, Phase, Starts, Needs, Waits, Reads, Probes, Gathers, Scatters, Outcome, WriteOk, ReadOk, NoFile, HeldBy, Fencing, Spent, Degraded, Status, Turn, Goes, Ends, Forgets, Done}
+use Rattle.history_law.proofs.Turns.{each_begin, each_progress}
+use Rattle.world_history.specs.ClientNames.{CallOp, Held, Due, Moved, Request, Answer, Why, Need, First, Get, Commit, Report, Close, Phase, Starts, Needs, Waits, Reads, Probes, Gathers, Scatters, Outcome, WriteOk, ReadOk, NoFile, HeldBy, Fencing, Spent, Degraded, Status, Turn, Goes, Ends, Forgets, Done}
 use Rattle.cause_law.specs.Met as met
 use Rattle.cause_law.specs.Met.{Met}
 use Rattle.relation_law.proofs.MessagesAlways.{Any}
@@ -24,6 +23,7 @@ use Rattle.relation_law.proofs.TurnEnds.{writes_some}
 use Rattle.history_claims.proofs.StoredDealings.{Reporting, IsQuiet, NeedUnder, PhaseUnder, IsEnd, TurnStored, MovedStored, begins_stored}
 use Rattle.history_claims.proofs.StoredCalls.{NeedStored, PhaseStored, CallStored}
 use Rattle.history_claims.proofs.Wrote.{IsNoOk}
+use Rattle.history_law.specs.Turns.{IsBeginning, IsFirstNeed}
 
 -- ---- to the end of a step that began with these grants and is about this call, which has met all this
 
@@ -82,51 +82,42 @@ module _ (before : List Held) (mine : Option CallOp) (ms : List Met) where
 
   -- ---- a call begins, and a request goes out
 
+  first_stored : (hs : List Held) (op : CallOp) (n : Need) (o : Option Held) → IsFirstNeed op n o → IsQuiet ms →
+      NeedStored hs op ms n
+  first_stored hs op First o first quiet = quiet
+  first_stored hs op (Get tries) o first quiet = quiet
+  first_stored hs op (Commit timed) o first quiet = absurd first
+  first_stored hs op (Report timed) o first quiet = absurd first
+  first_stored hs op (Close outcome report) o first quiet = absurd first
+
+  quiet_at : (d : Done) (op : CallOp) → DoneStored d → IsBeginning d.client op → IsQuiet ms
+  quiet_at d op g is = subst (CallStored d.client.held d.client.outstanding ms) is g.stored.0
+
+  begins_now : (d : Done) (op : CallOp) (h : Held) → DoneStored d → IsBeginning d.client op →
+      held_of d.client.held (file_of op) ≡ Some h → covers h op ≡ true → DoneStored (moved d op (begins h op))
+  begins_now d op h g is held cover =
+      let has = call_bytes d.client.held d.client.call (record { op = op; phase = Starts }) is g.fine.call in
+      record {
+        stored =
+            moved_stored d op h (begins h op) held (file_of_moved h (begins h op) (begins_file h op)) g.stored.1
+            (begins_stored before mine ms op h (quiet_at d op g is) (g.fine.usable (file_of op) h held) has cover
+            (λ w. writes_some h op (g.fine.usable (file_of op) h held) has cover w));
+        fine = (finishes Any).begun d op h g.fine is held cover;
+      }
+
   begun_stored : (d : Done) → DoneStored d → DoneStored (begun d)
-  unfolding begun
-  begun_stored d g = by_call d.client.call refl
-    where
-      quiet_at : (op : CallOp) → d.client.call ≡ Some (record { op = op; phase = Starts }) → IsQuiet ms
-      quiet_at op is = subst (CallStored d.client.held d.client.outstanding ms) is g.stored.0
-
-      with_need : (op : CallOp) (n : Need) → NeedStored d.client.held op ms n →
-          d.client.call ≡ Some (record { op = op; phase = Starts }) → (r : Option Request) → d.client.outstanding ≡ r →
-          DoneStored (starts_with d op n r)
-      with_need op n x is None out =
-          record { stored = (x, g.stored.1); fine = (finishes Any).needs d op n g.fine is out }
-      with_need op n x is (Some r) out = g
-
-      under : (op : CallOp) (h : Held) → d.client.call ≡ Some (record { op = op; phase = Starts }) →
-          held_of d.client.held (file_of op) ≡ Some h → (b : Bool) → covers h op ≡ b →
-          DoneStored (if b then moved d op (begins h op) else starts_with d op First d.client.outstanding)
-      under op h is held true cover =
-          let has = call_bytes d.client.held d.client.call (record { op = op; phase = Starts }) is g.fine.call in
-          record {
-            stored =
-                moved_stored d op h (begins h op) held (file_of_moved h (begins h op) (begins_file h op)) g.stored.1
-                (begins_stored before mine ms op h (quiet_at op is) (g.fine.usable (file_of op) h held) has cover
-                (λ w. writes_some h op (g.fine.usable (file_of op) h held) has cover w));
-            fine = (finishes Any).begun d op h g.fine is held cover;
-          }
-      under op h is held false cover = with_need op First (quiet_at op is) is d.client.outstanding refl
-
-      by_held : (op : CallOp) → d.client.call ≡ Some (record { op = op; phase = Starts }) → (h : Option Held) →
-          held_of d.client.held (file_of op) ≡ h → DoneStored (starts_under d op h)
-      by_held op is None held = with_need op (Get 0) (quiet_at op is) is d.client.outstanding refl
-      by_held op is (Some h) held = under op h is held (covers h op) refl
-
-      by_phase : (op : CallOp) (p : Phase) → d.client.call ≡ Some (record { op = op; phase = p }) → DoneStored (starts_at d op p)
-      by_phase op Starts is = by_held op is (held_of d.client.held (file_of op)) refl
-      by_phase op (Needs n) is = g
-      by_phase op (Waits n) is = g
-      by_phase op (Reads io) is = g
-      by_phase op (Probes io) is = g
-      by_phase op (Gathers io) is = g
-      by_phase op (Scatters io queue) is = g
-
-      by_call : (o : Option Call) → d.client.call ≡ o → DoneStored (starts_call d o)
-      by_call None is = g
-      by_call (Some call) is = by_phase call.op call.phase is
+  begun_stored d g =
+      each_begin d DoneStored (record {
+        stays = g;
+        needs = λ op n is out first. record {
+          stored = (
+            first_stored d.client.held op n (held_of d.client.held (file_of op)) first (quiet_at d op g is),
+            g.stored.1,
+          );
+          fine = (finishes Any).needs d op n g.fine is out first;
+        };
+        begun = λ op h is held cover. begins_now d op h g is held cover;
+      })
 
   asks_stored : (d : Done) (op : CallOp) (n : Need) (o : Option Held) →
       d.client.call ≡ Some (record { op = op; phase = Needs n }) → held_of d.client.held (file_of op) ≡ o → Stored d →

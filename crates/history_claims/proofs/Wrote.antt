@@ -11,7 +11,7 @@ use Rattle.client_rules.specs.declared.limits.TheConstants.{PERFORMED, OTHER_TAG
 use Rattle.client_rules.specs.Answers.{busy, unavailable, refused_with, not_granted, committed, not_committed, on_commit, is_loss_taken, on_report}
 use Rattle.client_rules.specs.Calls.{file_of, span_of, bytes_of, is_write}
 use Rattle.client_rules.specs.Commands.{write_commands, not_of}
-use Rattle.client_rules.specs.Going.{quiet, with_held, by_turn, moved, begins, starts_with, starts_under, starts_at, starts_call, begun, requests, asks_under, returns}
+use Rattle.client_rules.specs.Going.{quiet, with_held, by_turn, moved, begins, begun, requests, asks_under, returns}
 use Rattle.client_rules.specs.Grants.{clipped, covers, held_of}
 use Rattle.client_rules.specs.History.{Input, Calls, unless_refused, step, state_after}
 use Rattle.client_rules.specs.Io.{awaited_in, outs}
@@ -25,9 +25,9 @@ use Rattle.client_rules.specs.Results.{status_of}
 use Rattle.client_rules.specs.Steps.{is_bad_range, is_spent, writes_nothing, calls, all_due, new_client}
 use Rattle.client_rules.specs.Turns.{turned, ended, needing, closing}
 use Rattle.client_rules.specs.Writes.{accounted, is_past_size, written, firsts, laters, scatters_on, scatters, scatters_next, gathers_on, gathers, is_too_short, without_component, lowest}
-use Rattle.history_law.specs.Turns.{TurnCases, with_start}
-use Rattle.history_law.proofs.Turns.{each_turn, each_progress}
-use Rattle.world_history.specs.ClientNames.{Client, Call, CallOp, Busy, BadRange, SlotSpent, Held, Due, Awaited, TimedOut, Store, Column, Span, Moved, Request, Why, Need, First, Get, Commit, Report, Close, Phase, Starts, Needs, Waits, Reads, Probes, Gathers, Scatters, Outcome, WriteOk, ReadOk, NoFile, HeldBy, Fencing, Spent, Degraded, Status, Silent, Lost, Turn, Goes, Ends, Forgets, Done}
+use Rattle.history_law.specs.Turns.{TurnCases, with_start, IsBeginning, IsFirstNeed}
+use Rattle.history_law.proofs.Turns.{each_turn, each_begin, each_progress}
+use Rattle.world_history.specs.ClientNames.{Client, Call, CallOp, Busy, BadRange, SlotSpent, Held, Due, Awaited, TimedOut, Store, Column, Span, Moved, Why, Need, First, Get, Commit, Report, Close, Phase, Starts, Needs, Waits, Reads, Probes, Gathers, Scatters, Outcome, WriteOk, ReadOk, NoFile, HeldBy, Fencing, Spent, Degraded, Status, Silent, Lost, Turn, Goes, Ends, Forgets, Done}
 use Rattle.relation_law.specs.CallsTurns.{WritesSome, ReadsWait, ReplyFits, TimeFits}
 use Rattle.relation_law.specs.Working.{ClientWorks}
 use Rattle.relation_law.proofs.CallsMoved.{first_sent}
@@ -414,47 +414,33 @@ module _ (was reads_it : Type 0) where
 
   -- ---- to the end of a turn
 
+  first_so : (op : CallOp) (n : Need) (o : Option Held) → IsFirstNeed op n o → NeedSo was n
+  first_so op First o first = tt
+  first_so op (Get tries) o first = tt
+  first_so op (Commit timed) o first = absurd first
+  first_so op (Report timed) o first = absurd first
+  first_so op (Close outcome report) o first = absurd first
+
+  begins_now : (d : Done) (op : CallOp) (h : Held) → DoneSo d → IsBeginning d.client op →
+      held_of d.client.held (file_of op) ≡ Some h → covers h op ≡ true → DoneSo (moved d op (begins h op))
+  begins_now d op h g is held cover =
+      let has = call_bytes d.client.held d.client.call (record { op = op; phase = Starts }) is g.fine.call in
+      moved_so d op (begins h op) g.outcome
+      (begins_so h op (λ w. writes_some h op (g.fine.usable (file_of op) h held) has cover w)
+      (reads_wait h op (g.fine.usable (file_of op) h held) has cover))
+      ((finishes Any).begun d op h g.fine is held cover)
+
   begun_so : (d : Done) → DoneSo d → DoneSo (begun d)
-  unfolding begun
-  begun_so d g = by_call d.client.call refl
-    where
-      with_need : (op : CallOp) (n : Need) → NeedSo was n → d.client.call ≡ Some (record { op = op; phase = Starts }) →
-          (r : Option Request) → d.client.outstanding ≡ r → DoneSo (starts_with d op n r)
-      with_need op n x is None out = record {
-        call = x;
-        outcome = g.outcome;
-        fine = (finishes Any).needs d op n g.fine is out;
-      }
-      with_need op n x is (Some r) out = g
-
-      under : (op : CallOp) (h : Held) → d.client.call ≡ Some (record { op = op; phase = Starts }) →
-          held_of d.client.held (file_of op) ≡ Some h → (b : Bool) → covers h op ≡ b →
-          DoneSo (if b then moved d op (begins h op) else starts_with d op First d.client.outstanding)
-      under op h is held true cover =
-          let has = call_bytes d.client.held d.client.call (record { op = op; phase = Starts }) is g.fine.call in
-          moved_so d op (begins h op) g.outcome
-          (begins_so h op (λ w. writes_some h op (g.fine.usable (file_of op) h held) has cover w)
-          (reads_wait h op (g.fine.usable (file_of op) h held) has cover))
-          ((finishes Any).begun d op h g.fine is held cover)
-      under op h is held false cover = with_need op First tt is d.client.outstanding refl
-
-      by_held : (op : CallOp) → d.client.call ≡ Some (record { op = op; phase = Starts }) → (h : Option Held) →
-          held_of d.client.held (file_of op) ≡ h → DoneSo (starts_under d op h)
-      by_held op is None held = with_need op (Get 0) tt is d.client.outstanding refl
-      by_held op is (Some h) held = under op h is held (covers h op) refl
-
-      by_phase : (op : CallOp) (p : Phase) → d.client.call ≡ Some (record { op = op; phase = p }) → DoneSo (starts_at d op p)
-      by_phase op Starts is = by_held op is (held_of d.client.held (file_of op)) refl
-      by_phase op (Needs n) is = g
-      by_phase op (Waits n) is = g
-      by_phase op (Reads io) is = g
-      by_phase op (Probes io) is = g
-      by_phase op (Gathers io) is = g
-      by_phase op (Scatters io queue) is = g
-
-      by_call : (o : Option Call) → d.client.call ≡ o → DoneSo (starts_call d o)
-      by_call None is = g
-      by_call (Some call) is = by_phase call.op call.phase is
+  begun_so d g =
+      each_begin d DoneSo (record {
+        stays = g;
+        needs = λ op n is out first. record {
+          call = first_so op n (held_of d.client.held (file_of op)) first;
+          outcome = g.outcome;
+          fine = (finishes Any).needs d op n g.fine is out first;
+        };
+        begun = λ op h is held cover. begins_now d op h g is held cover;
+      })
 
   asks_so : (d : Done) (op : CallOp) (n : Need) (h : Option Held) → EndsSo d.outcome → NeedSo was n →
       CallSo was (asks_under d op n h).client.call × EndsSo (asks_under d op n h).outcome
@@ -542,7 +528,7 @@ module _ (x : Client) (i : Input) (s : IsSound x) where
   cases = record {
     rests = λ e. rests_so;
     nothing = λ op is none e. record { call = s.so; outcome = inl refl };
-    called = λ op is free e. elim (cases_Bool (writes_nothing op)) [
+    called = λ op is free can e. elim (cases_Bool (writes_nothing op)) [
       | inl none ↦ subst Ended (sym (e ∙ ap (step x) is)) (empty_so op none)
       | inr some ↦ ends_so (quiet (with_start x op)) tt tt
           (record { usable = s.fine.usable; call = (has_bytes op some, λ h there. tt); outcome = tt })

@@ -34,7 +34,7 @@ use Rattle.world_history.proofs.Always.{opening}
 use Rattle.world_history.proofs.ReadMessages.{never_opens}
 use Rattle.history_law.specs.Judging.{Replies, JudgesAt}
 use Rattle.history_law.specs.Safe.{AtEachLine, HistoriesAreSafe}
-use Rattle.history_law.specs.Answered.{SendNone, IsAnswered, AnsweredAt, AreAnswered, VerdictsAreAnswered}
+use Rattle.history_law.specs.Answered.{SendNone, IsRepliedTo, AnsweredAt, AreAnswered, VerdictsAreAnswered}
 use Rattle.history_law.proofs.Histories.{stands}
 use Rattle.history_law.proofs.Leading.{AreFlat, handed_flat, flat_ended, begins_flat}
 
@@ -279,7 +279,7 @@ same_number n k d e is = cc is
 
 -- the message behind a delivery is the reply to what was delivered
 replied : (before after : List Line) (n : ℕ) (d : Delivery) (f : IsReplied after)
-    → Replies (before ++ line.Delivered n d ∷ []) f.drive f.to f.bytes → IsAnswered before n after
+    → Replies (before ++ line.Delivered n d ∷ []) f.drive f.to f.bytes → IsRepliedTo before n after
 replied before after n d f r =
     let same = same_front before r.lines (line.Delivered n d) (line.Delivered r.number r.delivery) r.before_is in
     let number = same_number n r.number d r.delivery same.1 in

@@ -1,15 +1,17 @@
 -- A client in the middle of a step sends to drives what may be sent under the grants that it holds.
-use Rattle.std.proofs.Common.{◌==◌, ℕ, Bool, true, false, List, [], ◌∷◌, ◌++◌, Option, Some, None, map, nat_lt, inl, inr, if◌then◌else◌}
+use Rattle.std.proofs.Common.{◌≡◌, ◌==◌, ℕ, List, [], ◌∷◌, ◌++◌, Option, Some, None, map, nat_lt, subst, inl, inr}
 use Rattle.std.proofs.lemmas.Bool.{cases_Bool}
 use Rattle.layout_ops.specs.declared.args.Args.{Args}
 use Rattle.layout_ops.specs.declared.args.Args.TheVariants as args
-use Rattle.history_law.specs.State.{Client, Call, CallOp, Held, Due, Awaited, Need, First, Get, Phase, Starts, Needs, Waits, Reads, Probes, Gathers, Scatters, Turn, Goes, Ends, Forgets, Moved, Done, Outgoing, AnswersRecall, Asks, ToDrive, Request, RecallAnswer, Command}
+use Rattle.history_law.specs.State.{Client, CallOp, Held, Due, Awaited, Need, Turn, Goes, Ends, Forgets, Moved, Done, Outgoing, AnswersRecall, Asks, ToDrive, Request, RecallAnswer, Command}
 use Rattle.client_rules.specs.Calls.{file_of}
-use Rattle.client_rules.specs.Grants.{covers, held_of, put_held, without_held}
+use Rattle.client_rules.specs.Grants.{held_of, put_held, without_held}
 use Rattle.client_rules.specs.Requests.{get_args, args_of, return_args}
-use Rattle.client_rules.specs.Going.{quiet, with_held, by_turn, moved, begins, starts_with, starts_under, starts_at, starts_call, begun, held_after, requests, asks_under, returns, returns_due, progress_phase, progress_call, progress_free, progressed}
+use Rattle.client_rules.specs.Going.{quiet, with_held, by_turn, moved, begins, held_after, requests, asks_under, returns}
 use Rattle.client_rules.specs.Messages.{Step, still, to_drive, closed, finished, awaited_of}
 use Rattle.history_law.proofs.Known.{AreKnown, HeldKnown, TurnKnown, MovedKnown, begins_known}
+use Rattle.history_law.specs.Turns.{FinishCases}
+use Rattle.history_law.proofs.Turns.{each_finish}
 
 -- ---- a client between steps
 
@@ -64,23 +66,15 @@ module _ (Q : ℕ → Command → Type 0) where
   after_known hs file (args.LayoutReturn a) k = without_known hs file k
 
   -- the grant on a file
-  abbrev pub FoundKnown : Option Held → Type 0
-  FoundKnown None = Unit {0}
-  FoundKnown (Some h) = HeldKnown Q h
-
-  pub found_known : (hs : List Held) (file : ℕ) → HeldsKnown Q hs → FoundKnown (held_of hs file)
+  pub held_known : (hs : List Held) (file : ℕ) (h : Held) → HeldsKnown Q hs → held_of hs file ≡ Some h → HeldKnown Q h
   unfolding held_of
-  found_known [] file k = tt
-  found_known (g ∷ gs) file k = elim (cases_Bool (g.file == file)) [
-    | inl t ↦ rw t (k.0)
-    | inr f ↦ rw f (found_known gs file k.1)
+  held_known [] file h k e = absurd (cc e)
+  held_known (g ∷ gs) file h k e = elim (cases_Bool (g.file == file)) [
+    | inl t ↦ let same : g ≡ h = cc (rw t at e) in subst (HeldKnown Q) same k.0
+    | inr f ↦ held_known gs file h k.1 (rw f at e)
   ]
 
   -- ---- what becomes of a call
-
-  pub either_done : (b : Bool) (d e : Done) → DoneKnown Q d → DoneKnown Q e → DoneKnown Q (if b then d else e)
-  either_done true d e k l = k
-  either_done false d e k l = l
 
   pub quiet_known : (c : Client) → ClientKnown Q c → DoneKnown Q (quiet c)
   quiet_known c k = record { helds = k.helds; call = k.call; commands = tt }
@@ -101,40 +95,7 @@ module _ (Q : ℕ → Command → Type 0) where
       by_turn_known (record (with_held d m.held) { commands = m.sent }) op m.turn
       (put_known d.client.held m.held k l.held) l.sent l.turn
 
-  -- ---- a call begins
-
-  starts_with_known : (d : Done) (op : CallOp) (n : Need) (o : Option Request) → DoneKnown Q d
-      → DoneKnown Q (starts_with d op n o)
-  starts_with_known d op n None k = record { helds = k.helds; call = tt; commands = k.commands }
-  starts_with_known d op n (Some r) k = k
-
-  starts_under_known : (d : Done) (op : CallOp) (o : Option Held) → DoneKnown Q d → FoundKnown o
-      → DoneKnown Q (starts_under d op o)
-  starts_under_known d op None k f = starts_with_known d op (Get 0) d.client.outstanding k
-  starts_under_known d op (Some h) k f =
-      either_done (covers h op) _ _ (moved_known d op (begins h op) k.helds (begins_known Q h op f))
-      (starts_with_known d op First d.client.outstanding k)
-
-  starts_at_known : (d : Done) (op : CallOp) (p : Phase) → DoneKnown Q d → DoneKnown Q (starts_at d op p)
-  starts_at_known d op Starts k =
-      starts_under_known d op (held_of d.client.held (file_of op)) k
-      (found_known d.client.held (file_of op) k.helds)
-  starts_at_known d op (Needs n) k = k
-  starts_at_known d op (Waits n) k = k
-  starts_at_known d op (Reads io) k = k
-  starts_at_known d op (Probes io) k = k
-  starts_at_known d op (Gathers io) k = k
-  starts_at_known d op (Scatters io queue) k = k
-
-  starts_call_known : (d : Done) (o : Option Call) → DoneKnown Q d → DoneKnown Q (starts_call d o)
-  starts_call_known d None k = k
-  starts_call_known d (Some call) k = starts_at_known d call.op call.phase k
-
-  begun_known : (d : Done) → DoneKnown Q d → DoneKnown Q (begun d)
-  unfolding begun
-  begun_known d k = starts_call_known d d.client.call k
-
-  -- ---- a request goes out
+  -- ---- to the end of a step
 
   asks_known : (d : Done) (op : CallOp) (n : Need) (o : Option Held) → DoneKnown Q d
       → DoneKnown Q (asks_under d op n o)
@@ -159,26 +120,14 @@ module _ (Q : ℕ → Command → Type 0) where
     commands = k.commands;
   }
 
-  due_known : (d : Done) → DoneKnown Q d → DoneKnown Q (returns_due d)
-  unfolding returns_due
-  due_known d k = either_done _ _ _ k (returns_known d _ k)
-
-  progress_phase_known : (d : Done) (op : CallOp) (p : Phase) → DoneKnown Q d → DoneKnown Q (progress_phase d op p)
-  progress_phase_known d op (Needs n) k = asks_known d op n _ k
-  progress_phase_known d op Starts k = k
-  progress_phase_known d op (Waits n) k = k
-  progress_phase_known d op (Reads io) k = k
-  progress_phase_known d op (Probes io) k = k
-  progress_phase_known d op (Gathers io) k = k
-  progress_phase_known d op (Scatters io queue) k = k
-
-  progress_call_known : (d : Done) (o : Option Call) → DoneKnown Q d → DoneKnown Q (progress_call d o)
-  progress_call_known d None k = due_known d k
-  progress_call_known d (Some call) k = progress_phase_known d call.op call.phase k
-
-  progress_free_known : (d : Done) (o : Option Request) → DoneKnown Q d → DoneKnown Q (progress_free d o)
-  progress_free_known d None k = progress_call_known d d.client.call k
-  progress_free_known d (Some r) k = k
+  kept : FinishCases (DoneKnown Q)
+  kept = record {
+    needs = λ d op n k is out first. record { helds = k.helds; call = tt; commands = k.commands };
+    begun = λ d op h k is held covered.
+        moved_known d op (begins h op) k.helds (begins_known Q h op (held_known d.client.held (file_of op) h k.helds held));
+    asks = λ d op n h k is out held. asks_known d op n h k;
+    gives_back = λ d u k none out. returns_known d u k;
+  }
 
   -- ---- what is sent
 
@@ -204,9 +153,8 @@ module _ (Q : ℕ → Command → Type 0) where
   }
 
   pub finished_known : (d : Done) → DoneKnown Q d → StepKnown Q (finished d)
-  unfolding finished progressed
-  finished_known d k =
-      closed_known _ (progress_free_known (begun d) (begun d).client.outstanding (begun_known d k))
+  unfolding finished
+  finished_known d k = closed_known _ (each_finish (DoneKnown Q) kept d k)
 
   pub still_known : (c : Client) → ClientKnown Q c → StepKnown Q (still c)
   still_known c k = record { client = k; sends = tt }

@@ -1,21 +1,28 @@
 -- What is so in each case of a turn of a client is so of each turn. This is the one walk over the clients' turns.
-use Rattle.std.proofs.Common.{◌≡◌, ◌≢◌, ◌==◌, ℕ, zero, suc, Bool, true, false, List, [], ◌∷◌, Option, Some, None, Ok, Err, find, is_some, refl, sym, subst, if◌then◌else◌}
+use Rattle.std.proofs.Common.{◌≡◌, ◌≢◌, ◌==◌, ◌+◌, ◌∙◌, ℕ, zero, suc, Bool, true, false, List, [], ◌∷◌, Option, Some, None, Result, Ok, Err, nat_lt, find, is_some, refl, sym, ap, subst, if◌then◌else◌}
 use Rattle.std.proofs.lemmas.Bool.{eqb-true}
 use Rattle.osd_lists.specs.declared.node.Node.{Node}
 use Rattle.osd_lists.specs.declared.node.Node.TheVariants.{Server as FromServer, Drive as FromDrive}
 use Rattle.layout_ops.specs.declared.messages.Answer.{Answer}
+use Rattle.layout_ops.specs.declared.statuses.TheConstants.{NFS4_OK, NFS4ERR_NOENT, NFS4ERR_LAYOUTTRYLATER, NFS4ERR_RECALLCONFLICT, NFS4ERR_LAYOUTUNAVAILABLE}
+use Rattle.client_rules.specs.declared.limits.TheConstants.{MAX_TRIES}
+use Rattle.client_rules.specs.Answers.{busy, unavailable, refused_with, not_granted}
 use Rattle.client_rules.specs.Calls.{file_of, span_of}
 use Rattle.client_rules.specs.Commands.{of_component}
-use Rattle.client_rules.specs.Going.{quiet, moved, begins, starts_with, starts_under, starts_at, starts_call, begun, is_held, returns, returns_due, progress_phase, progress_call, progress_free, progressed}
+use Rattle.client_rules.specs.Going.{quiet, by_turn, moved, begins, starts_with, starts_under, starts_at, starts_call, begun, is_held, returns, returns_due, progress_phase, progress_call, progress_free, progressed}
 use Rattle.client_rules.specs.Grants.{covers, held_of}
 use Rattle.client_rules.specs.History.{Input, Calls, Hears, TimesOut, Leaves, Resends, unless_refused, step}
 use Rattle.client_rules.specs.Io.{awaited_in}
-use Rattle.client_rules.specs.Messages.{Step, Message, Answers, Replies, Recalls, TakesAnswer, TakesRecall, is_awaited, still, finished, obeys, no_match, recalled, takes, by_taken, hears, answer_taken, reply_taken, awaited_of, reply_call, reply_under}
+use Rattle.client_rules.specs.Layouts.{taken}
+use Rattle.client_rules.specs.Messages.{Step, Message, Answers, Replies, Recalls, TakesAnswer, TakesReply, TakesRecall, is_awaited, still, finished, obeys, no_match, recalled, takes, by_taken, hears, answer_taken, reply_taken, awaited_of, reply_call, reply_under, answered_get, commit_under, on_need, on_phase, on_call}
 use Rattle.client_rules.specs.Replies.{answers}
 use Rattle.client_rules.specs.Requests.{grant_in}
+use Rattle.client_rules.specs.Results.{status_of}
 use Rattle.client_rules.specs.Steps.{is_bad_range, is_spent, writes_nothing, starts, calls, timeout_under, timeout_call, times_out, leaves}
-use Rattle.world_history.specs.ClientNames.{Client, Call, CallOp, Busy, BadRange, SlotSpent, Held, Awaited, Request, Recall, Reply, Need, First, Get, Phase, Starts, Needs, Waits, Reads, Probes, Gathers, Scatters, WriteOk, Done}
-use Rattle.history_law.specs.Turns.{IsBeginning, with_start, TurnCases, BeginCases, ProgressCases, FinishCases}
+use Rattle.world_history.specs.ClientNames.{Client, Call, CallOp, Busy, BadRange, SlotSpent, Held, Awaited, TimedOut, Request, Recall, Reply, Why, Done}
+use Rattle.world_history.specs.ClientNames.{Need, First, Get, Commit, Report, Close, Phase, Starts, Needs, Waits, Reads, Probes, Gathers, Scatters}
+use Rattle.world_history.specs.ClientNames.{Turn, Goes, Ends, Outcome, WriteOk, NoFile, HeldBy, Fencing, Status}
+use Rattle.history_law.specs.Turns.{IsReplied, IsBeginning, IsWaiting, IsFirstNeed, with_start, TurnCases, BeginCases, ProgressCases, FinishCases, RefusalCases, AnswerCases}
 
 -- ---- what comes to a client
 
@@ -26,18 +33,21 @@ module _ (c : Client) (i : Input) (P : Step → Type 0) (k : TurnCases c i P) wh
   none_is None e = refl
   none_is (Some call) e = absurd (cc e)
 
-  started : (op : CallOp) → i ≡ Calls op → is_some c.call ≡ false → (b : Bool) → writes_nothing op ≡ b
+  started : (op : CallOp) → i ≡ Calls op → is_some c.call ≡ false → is_bad_range (span_of op) ≡ false
+      → is_spent c.next ≡ false → (b : Bool) → writes_nothing op ≡ b
       → P (if b then record (still c) { outcome = Some (WriteOk 0) } else finished (quiet (with_start c op)))
-  started op is free true e = k.nothing op is e
-  started op is free false e = k.called op is (none_is c.call free)
+  started op is free fits left true e = k.nothing op is e
+  started op is free fits left false e =
+      k.called op is (none_is c.call free) (record { range = fits; numbers = left; some = e })
 
-  called : (op : CallOp) → i ≡ Calls op → (a b s : Bool) → is_some c.call ≡ a
+  called : (op : CallOp) → i ≡ Calls op → (a b s : Bool) → is_some c.call ≡ a → is_bad_range (span_of op) ≡ b
+      → is_spent c.next ≡ s
       → P (unless_refused c (if a then Err Busy else if b then Err BadRange else if s then Err SlotSpent
       else Ok (starts c op)))
-  called op is true b s free = k.rests
-  called op is false true s free = k.rests
-  called op is false false true free = k.rests
-  called op is false false false free = started op is free (writes_nothing op) refl
+  called op is true b s free fits left = k.rests
+  called op is false true s free fits left = k.rests
+  called op is false false true free fits left = k.rests
+  called op is false false false free fits left = started op is free fits left (writes_nothing op) refl
 
   -- ---- a message
 
@@ -56,27 +66,28 @@ module _ (c : Client) (i : Input) (P : Step → Type 0) (k : TurnCases c i P) wh
       subst (λ (o : Option Call). P (finished (reply_call c a q o))) (sym call_is)
       (under_grant drive q is call call_is a awaits (held_of c.held (file_of call.op)) refl)
 
-  answers_it : (from : Node) (m : Message) → i ≡ Hears from m → (a : Answer) (r : Request) → c.outstanding ≡ Some r
+  answers_it : (a : Answer) → i ≡ Hears FromServer (Answers a) → (r : Request) → c.outstanding ≡ Some r
       → (b : Bool) → is_awaited c a r ≡ b
-      → (takes c from m ≡ (if b then Some (TakesAnswer a) else None))
+      → (takes c FromServer (Answers a) ≡ (if b then Some (TakesAnswer a) else None))
       → P (by_taken c (if b then Some (TakesAnswer a) else None))
-  answers_it from m is a r out true awaited took =
+  answers_it a is r out true awaited took =
       k.answered a
       (record {
-        from = from;
-        message = m;
+        from = FromServer;
+        message = Answers a;
         is = is;
+        heard = is;
         takes_it = took;
         request = r;
         outstanding = out;
         awaited = awaited;
       })
-  answers_it from m is a r out false awaited took = k.rests
+  answers_it a is r out false awaited took = k.rests
 
-  outstanding_is : (from : Node) (m : Message) → i ≡ Hears from m → (a : Answer) → (o : Option Request)
-      → c.outstanding ≡ o → takes c from m ≡ answer_taken c a o → P (by_taken c (answer_taken c a o))
-  outstanding_is from m is a None out took = k.rests
-  outstanding_is from m is a (Some r) out took = answers_it from m is a r out (is_awaited c a r) refl took
+  outstanding_is : (a : Answer) → i ≡ Hears FromServer (Answers a) → (o : Option Request) → c.outstanding ≡ o
+      → takes c FromServer (Answers a) ≡ answer_taken c a o → P (by_taken c (answer_taken c a o))
+  outstanding_is a is None out took = k.rests
+  outstanding_is a is (Some r) out took = answers_it a is r out (is_awaited c a r) refl took
 
   matched : (q : Recall) → i ≡ Hears FromServer (Recalls q) → (b : Bool)
       → P (finished (if b then obeys c q else no_match c q))
@@ -95,7 +106,7 @@ module _ (c : Client) (i : Input) (P : Step → Type 0) (k : TurnCases c i P) wh
   heard : (from : Node) (m : Message) → i ≡ Hears from m → P (hears c from m)
   unfolding hears takes
   heard (FromDrive d) (Replies q) is = replies d q is c.call refl (find (answers d q) (awaited_of c.call)) refl
-  heard FromServer (Answers a) is = outstanding_is FromServer (Answers a) is a c.outstanding refl refl
+  heard FromServer (Answers a) is = outstanding_is a is c.outstanding refl refl
   heard FromServer (Recalls q) is = named q is (q.client == c.number)
   heard from m is = k.rests
 
@@ -116,7 +127,7 @@ module _ (c : Client) (i : Input) (P : Step → Type 0) (k : TurnCases c i P) wh
 
   by_input : (j : Input) → i ≡ j → P (step c j)
   unfolding calls times_out leaves
-  by_input (Calls op) is = called op is (is_some c.call) (is_bad_range (span_of op)) (is_spent c.next) refl
+  by_input (Calls op) is = called op is (is_some c.call) (is_bad_range (span_of op)) (is_spent c.next) refl refl refl
   by_input (Hears from m) is = heard from m is
   by_input (TimesOut j) is = timeout j is c.call refl
   by_input Leaves is = k.leaves is
@@ -125,23 +136,32 @@ module _ (c : Client) (i : Input) (P : Step → Type 0) (k : TurnCases c i P) wh
   pub each_turn : P (step c i)
   each_turn = by_input i refl
 
+-- a reply to what the call awaits is taken
+pub reply_is_taken : (c : Client) (i : Input) (drive : ℕ) (q : Reply) (call : Call) (h : Held) (a : Awaited)
+    → IsReplied c i drive q call h a → takes c (FromDrive drive) (Replies q) ≡ Some (TakesReply a q)
+unfolding takes
+reply_is_taken c i drive q call h a is =
+    ap (reply_taken q) (ap (λ (o : Option Call). find (answers drive q) (awaited_of o)) is.call_is ∙ is.awaits)
+
 -- ---- a call begins
 
 module _ (d : Done) (P : Done → Type 0) (k : BeginCases d P) where
-  with_need : (op : CallOp) (n : Need) → IsBeginning d.client op → (o : Option Request) → d.client.outstanding ≡ o
-      → P (starts_with d op n o)
-  with_need op n is None out = k.needs op n is out
-  with_need op n is (Some r) out = k.stays
+  with_need : (op : CallOp) (n : Need) → IsFirstNeed op n (held_of d.client.held (file_of op)) → IsBeginning d.client op
+      → (o : Option Request) → d.client.outstanding ≡ o → P (starts_with d op n o)
+  with_need op n first is None out = k.needs op n is out first
+  with_need op n first is (Some r) out = k.stays
 
   covered : (op : CallOp) (h : Held) → IsBeginning d.client op → held_of d.client.held (file_of op) ≡ Some h
       → (b : Bool) → covers h op ≡ b
       → P (if b then moved d op (begins h op) else starts_with d op First d.client.outstanding)
   covered op h is held true e = k.begun op h is held e
-  covered op h is held false e = with_need op First is d.client.outstanding refl
+  covered op h is held false e =
+      with_need op First (subst (IsFirstNeed op First) (sym held) e) is d.client.outstanding refl
 
   under_held : (op : CallOp) → IsBeginning d.client op → (h : Option Held) → held_of d.client.held (file_of op) ≡ h
       → P (starts_under d op h)
-  under_held op is None held = with_need op (Get 0) is d.client.outstanding refl
+  under_held op is None held =
+      with_need op (Get 0) (subst (IsFirstNeed op (Get 0)) (sym held) refl) is d.client.outstanding refl
   under_held op is (Some h) held = covered op h is held (covers h op) refl
 
   at_phase : (op : CallOp) (p : Phase) → d.client.call ≡ Some (record { op = op; phase = p }) → P (starts_at d op p)
@@ -202,6 +222,73 @@ module _ (d : Done) (P : Done → Type 0) (k : ProgressCases d P) where
   unfolding progressed
   each_progress = by_request d.client.outstanding refl
 
+-- ---- an answer
+
+module _ (a : Answer) (tries : ℕ) (P : Turn → Type 0) (k : RefusalCases a tries P) where
+  either_turn : (b : Bool) (t u : Turn) → P t → P u → P (if b then t else u)
+  either_turn true t u x y = x
+  either_turn false t u x y = y
+
+  busied : (o : Outcome) → P (Ends o) → P (busy tries o)
+  unfolding busy
+  busied o ends = either (nat_lt (tries + 1) MAX_TRIES) refl
+    where
+      either : (b : Bool) → nat_lt (tries + 1) MAX_TRIES ≡ b → P (if b then Goes (Needs (Get (tries + 1))) else Ends o)
+      either true few = k.again few
+      either false few = ends
+
+  by_status : (status : ℕ) → status ≡ status_of a.results → P (refused_with status a.detail tries)
+  by_status status is =
+      either_turn (status == NFS4ERR_NOENT) (Ends NoFile) _ k.no_file
+      (either_turn (status == NFS4ERR_LAYOUTTRYLATER) (busy tries (HeldBy a.detail)) _ (busied (HeldBy a.detail) k.is_held)
+      (either_turn (status == NFS4ERR_RECALLCONFLICT) (busy tries (Fencing a.detail)) _
+      (busied (Fencing a.detail) k.is_fenced)
+      (either_turn (status == NFS4ERR_LAYOUTUNAVAILABLE) (Ends (unavailable a.detail)) (Ends (Status status a.detail))
+      k.none_given (subst (λ (n : ℕ). P (Ends (Status n a.detail))) (sym is) k.other))))
+
+  pub each_refusal : P (not_granted a tries)
+  unfolding not_granted
+  each_refusal = by_status (status_of a.results) refl
+
+module _ (d : Done) (a : Answer) (P : Done → Type 0) (k : AnswerCases d a P) where
+  taking : (op : CallOp) (tries : ℕ) → IsWaiting d.client op (Get tries) → (r : Result Held Why) → taken a op ≡ r
+      → P (answered_get d op r)
+  taking op tries is (Err w) e = k.unusable op tries w is e
+  taking op tries is (Ok h) e = k.granted op tries h is e
+
+  on_get_by : (op : CallOp) (tries : ℕ) → IsWaiting d.client op (Get tries) → (b : Bool)
+      → P (if b then answered_get d op (taken a op) else by_turn d op (not_granted a tries))
+  on_get_by op tries is true = taking op tries is (taken a op) refl
+  on_get_by op tries is false = k.refused op tries is
+
+  committing : (op : CallOp) (timed : List TimedOut) → IsWaiting d.client op (Commit timed) → (h : Option Held)
+      → held_of d.client.held (file_of op) ≡ h → P (commit_under d op a (Commit timed) h)
+  committing op timed is None held = k.stays
+  committing op timed is (Some h) held = k.committed op timed h is held
+
+  on_need_by : (op : CallOp) (n : Need) → IsWaiting d.client op n → P (on_need d op n a)
+  on_need_by op First is = k.returned op is
+  on_need_by op (Get tries) is = on_get_by op tries is (status_of a.results == NFS4_OK)
+  on_need_by op (Commit timed) is = committing op timed is (held_of d.client.held (file_of op)) refl
+  on_need_by op (Report timed) is = k.reported op timed is
+  on_need_by op (Close o report) is = k.closed op o report is
+
+  on_phase_by : (op : CallOp) (p : Phase) → d.client.call ≡ Some (record { op = op; phase = p }) → P (on_phase d op p a)
+  on_phase_by op (Waits n) is = on_need_by op n is
+  on_phase_by op Starts is = k.stays
+  on_phase_by op (Needs n) is = k.stays
+  on_phase_by op (Reads io) is = k.stays
+  on_phase_by op (Probes io) is = k.stays
+  on_phase_by op (Gathers io) is = k.stays
+  on_phase_by op (Scatters io queue) is = k.stays
+
+  on_call_by : (o : Option Call) → d.client.call ≡ o → P (on_call d o a)
+  on_call_by None is = k.stays
+  on_call_by (Some call) is = on_phase_by call.op call.phase is
+
+  pub each_answer : P (on_call d d.client.call a)
+  each_answer = on_call_by d.client.call refl
+
 -- ---- to the end of a turn
 
 module _ (Q : Done → Type 0) (k : FinishCases Q) where
@@ -210,7 +297,7 @@ module _ (Q : Done → Type 0) (k : FinishCases Q) where
       let p : Q (begun d) =
       each_begin d Q (record {
         stays = q;
-        needs = λ op n is out. k.needs d op n q is out;
+        needs = λ op n is out first. k.needs d op n q is out first;
         begun = λ op h is held covered. k.begun d op h q is held covered;
       }) in
       each_progress (begun d) Q (record {

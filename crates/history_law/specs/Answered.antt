@@ -29,7 +29,7 @@ SendNone (l ∷ ls) = (is_head l ≡ true) ⊎ (IsNoMessage l × SendNone ls)
 -- The line behind the one that a message was delivered is the reply of the drive to which the message was sent. It goes to
 -- who sent the message, and its bytes spell what the drive's rules reply to the message's bytes, as the drive stood before.
 -- No further message stands in the step.
-pub record IsAnswered (before : List Line) (number : ℕ) (after : List Line) : Type 0 where
+pub record IsRepliedTo (before : List Line) (number : ℕ) (after : List Line) : Type 0 where
   pub message : Sent
   pub sent : slice_get (sent_in before) number ≡ Some message
   pub drive : ℕ
@@ -44,7 +44,7 @@ pub record IsAnswered (before : List Line) (number : ℕ) (after : List Line) : 
 
 -- so it is of each verdict of a delivery, and no message stands in the step of a verdict on injected bytes
 abbrev pub AnsweredAt : (before : List Line) → Line → (after : List Line) → Type 0
-AnsweredAt before (line.Delivered number (Judged v)) after = IsAnswered before number after
+AnsweredAt before (line.Delivered number (Judged v)) after = IsRepliedTo before number after
 AnsweredAt before (line.Judged d v) after = SendNone after
 AnsweredAt before l after = Unit {0}
 

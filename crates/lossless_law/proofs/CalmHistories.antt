@@ -25,7 +25,7 @@ use Rattle.component_law.proofs.FileFacts.{declares_at}
 use Rattle.cause_law.specs.Components.{ComponentsGo, ComponentsHaveCauses, EachComponentHasItsCauses}
 use Rattle.cause_law.specs.Steps.{InStep}
 use Rattle.lossless_law.specs.Lossless.{KeepsDrives, TellsNoLoss, IsLossless, LosslessIsCalm}
-use Rattle.lossless_law.proofs.NotShort.{AllThere, IsWhole}
+use Rattle.lossless_law.proofs.NotShort.{AllThere, HasAllComponents}
 use Rattle.lossless_law.proofs.GoodMoments.{AreThere, noted_there}
 use Rattle.lossless_law.proofs.CalmSteps.{SameMaps, step_good}
 use Rattle.lossless_law.proofs.CalmInputs.{made_algorithm, out_none}
@@ -93,10 +93,10 @@ new_there s chosen Opens n g is none found = absurd is
 -- how the files of a server go on
 record GoOn (before behind : Server) : Type 0 where
   there : AreThere behind.files
-  shaped : Each (Shaped IsWhole) behind.files
+  shaped : Each (Shaped HasAllComponents) behind.files
   maps : SameMaps before.files behind.files
 
-module _ (s : Server) (there : AreThere s.files) (shaped : Each (Shaped IsWhole) s.files) where
+module _ (s : Server) (there : AreThere s.files) (shaped : Each (Shaped HasAllComponents) s.files) where
   none_goes : GoOn s s
   none_goes = record {
     there = there;
@@ -106,7 +106,7 @@ module _ (s : Server) (there : AreThere s.files) (shaped : Each (Shaped IsWhole)
 
   module _ (chosen : List ℕ) (i : Input) (rest : List Line) (told : AllByRecursion TellsNoLoss rest)
       (goes : (n : ℕ) → Goes i None rest n (file_at s.files n) (file_at (step s chosen i).state.files n))
-      (all : Each (Shaped IsWhole) (step s chosen i).state.files) where
+      (all : Each (Shaped HasAllComponents) (step s chosen i).state.files) where
     file_there : (n : ℕ) (o : Option File) (g : File) → file_at s.files n ≡ o
         → file_at (step s chosen i).state.files n ≡ Some g → Goes i None rest n o (Some g) → AllThere g.kept.components
     file_there n None g was now x = new_there s chosen i n g x was now
@@ -147,7 +147,7 @@ module _ (servers : ServerGoesOn) (lines : AllLinesGoOn) (h : List Line) (causes
     calm : s.calm ≡ true
     failed : s.moment.failed ≡ []
     there : AreThere s.server.server.files
-    shaped : Each (Shaped IsWhole) s.server.server.files
+    shaped : Each (Shaped HasAllComponents) s.server.server.files
 
   module _ (before : List Line) (s : Seen) (t : Step) (ts : List Step) (is : h ≡ before ++ t.head ∷ (t.rest ++ flat ts))
       (are : AreSteps (t ∷ ts)) (fine : AllByRecursion IsLossless (t.head ∷ (t.rest ++ flat ts))) (x : Sees before s) where
@@ -180,9 +180,9 @@ module _ (servers : ServerGoesOn) (lines : AllLinesGoOn) (h : List Line) (causes
         absurd (subst KeepsDrives it fine.0.drives)
 
     input_shaped : (i : Input) → input_at s.server t.head ≡ Some i
-        → Each (Shaped IsWhole) (step s.server.server (placed_in t.rest) i).state.files
+        → Each (Shaped HasAllComponents) (step s.server.server (placed_in t.rest) i).state.files
     input_shaped i e =
-        step_shaped IsWhole s.server.server (placed_in t.rest) i
+        step_shaped HasAllComponents s.server.server (placed_in t.rest) i
         (λ n m tag zoned same none. (
           (good_map s.server.server n m zoned
               (made_algorithm s.server t.head n m tag zoned (e ∙ ap (λ (y : Input). Some y) same)) none).0,

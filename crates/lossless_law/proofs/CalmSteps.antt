@@ -9,7 +9,7 @@ use Rattle.world_history.specs.Reading.{Step}
 use Rattle.world_history.specs.Book.{server_step, server_behind, sees_server}
 use Rattle.world_history.specs.Calm.{Seen, with_components, with_grants, untold_file, begun_file, server_begins, begins, watched, mended_in, through, sees, is_told_taken, failed_after}
 use Rattle.lossless_law.specs.Lossless.{TellsNoLoss}
-use Rattle.lossless_law.proofs.NotShort.{IsWhole}
+use Rattle.lossless_law.proofs.NotShort.{HasAllComponents}
 use Rattle.lossless_law.proofs.GoodMoments.{IsThere, AreThere, IsGood, all_good, watched_good, number_at}
 
 -- ---- the server in the middle of a step
@@ -43,7 +43,7 @@ begun_there untold before f (Some old) there olds =
     let it : IsThere old × (f.kept.map ≡ old.kept.map) = olds old refl in
     let same : old.kept.map ≡ (untold_file untold before f).kept.map = sym it.1 ∙ sym (untold_map untold before f) in (
       it.0.0,
-      subst (λ m. IsWhole (m, length old.kept.components)) same it.0.1,
+      subst (λ m. HasAllComponents (m, length old.kept.components)) same it.0.1,
     )
 
 begun_number : (untold : Bool) (before : List File) (f : File) → (begun_file untold before f).kept.number ≡ f.kept.number

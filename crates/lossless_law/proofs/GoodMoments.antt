@@ -14,11 +14,11 @@ use Rattle.world_history.specs.ServerNames.{File, Component, Mended}
 use Rattle.world_history.specs.Stripes.{Mark, Moment, is_torn_by, is_harmed_in, is_calm}
 use Rattle.world_history.specs.Calm.{Watched, stands_on, noted, noted_in, moment_behind, watches}
 use Rattle.lossless_law.specs.Lossless.{TellsNoLoss}
-use Rattle.lossless_law.proofs.NotShort.{AllThere, IsWhole, not_short}
+use Rattle.lossless_law.proofs.NotShort.{AllThere, HasAllComponents, not_short}
 
 -- a file has all of its components
 abbrev pub IsThere : File → Type 0
-IsThere f = AllThere f.kept.components × IsWhole (f.kept.map, length f.kept.components)
+IsThere f = AllThere f.kept.components × HasAllComponents (f.kept.map, length f.kept.components)
 
 -- so has each file
 abbrev pub AreThere : List File → Type 0

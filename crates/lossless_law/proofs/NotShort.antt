@@ -20,8 +20,8 @@ AllThere [] = Unit {0}
 AllThere (at ∷ cs) = (at.missing ≡ false) × AllThere cs
 
 -- a usable map, and as many components
-abbrev pub IsWhole : RawMap × ℕ → Type 0
-IsWhole p = IsChecked p.0 × (p.1 ≡ p.0.comps)
+abbrev pub HasAllComponents : RawMap × ℕ → Type 0
+HasAllComponents p = IsChecked p.0 × (p.1 ≡ p.0.comps)
 
 -- ---- a replica of each position
 
@@ -76,7 +76,7 @@ standing_there mo (at ∷ cs) none there = (
 )
 
 pub not_short : (mo : Moment) (f : File) (s : ℕ) → mo.failed ≡ [] → AllThere f.kept.components
-    → IsWhole (f.kept.map, length f.kept.components) → is_short_stripe mo f s ≡ false
+    → HasAllComponents (f.kept.map, length f.kept.components) → is_short_stripe mo f s ≡ false
 unfolding is_short_stripe
 not_short mo f s none there whole =
     not_lacking f.kept.map (standing mo f.kept.components) (group_of f.kept.map s) whole.0

@@ -222,7 +222,7 @@ module _ (laws : ClearLaws) (w : World) (h : List Line) (fair : IsFair w h) (up 
     taken : reading (spelling x.command) ≡ Ok x.command
         → is_of_lanes (verdict_on d.drive.state d.drive.clock (Ok x.command)) ≡ false
     taken read =
-        let few : awaited.AreFew h = omega (arith, fair.few) in
+        let few : awaited.AreFewerThanNonces h = omega (arith, fair.few) in
         subst (λ (r : Result Command CommandErr). is_of_lanes (verdict_on d.drive.state d.drive.clock r) ≡ false) read
         (laws.taken w h k fair.unguessed (laws.fresh h fair.readable few)
         (laws.places h fair.lawful fair.of_text fair.few w h [] (sym (append-nil h)) k) client u.caller u.there x

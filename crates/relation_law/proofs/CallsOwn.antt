@@ -17,7 +17,7 @@ use Rattle.client_rules.specs.History.{Input, Calls, Hears, Leaves, Resends, unl
 use Rattle.client_rules.specs.Messages.{Step, Message, Replies, still, finished, on_call, obeys, no_match}
 use Rattle.client_rules.specs.Replies.{answers, replied, timed_out}
 use Rattle.client_rules.specs.Steps.{all_due, calls, is_bad_range, is_spent, writes_nothing}
-use Rattle.history_law.specs.Turns.{IsReplied, IsTimed, IsAnswered, with_start}
+use Rattle.history_law.specs.Turns.{IsReplied, IsTimed, AnswerComes, with_start}
 use Rattle.world_history.specs.ServerNames.{Slot}
 use Rattle.world_history.specs.ClientNames.{Client, Call, CallOp, Held, Request, Awaited, Need, Phase, Starts, Needs, Waits, Reads, Probes, Gathers, Scatters, WriteOk, Moved, Done, Busy, BadRange, SlotSpent}
 use Rattle.world_history.specs.Handed.{op_in, pending_op}
@@ -165,7 +165,7 @@ module _ (file : ℕ) (m : RawMap) (c : ℕ) (s : State) (x : Client) (slot : Op
     pub safe : Safe s
     pub has : HasNeeds
     pub unheld : IsUnheld x i → ⊥
-    pub answered : (a : Answer) (r : Request) → IsAnswered x i a → x.outstanding ≡ Some r →
+    pub answered : (a : Answer) (r : Request) → AnswerComes x i a → x.outstanding ≡ Some r →
         (kept_by slot r ≡ Some a) × IsOutstanding file m s slot c x r × (s.slot c ≡ last_of slot) × AnswerFits file x a r
     pub replied : (drive : ℕ) (q : Reply) (call : Call) (h : Held) (a : Awaited) → IsReplied x i drive q call h a →
         (file_of call.op == file) ≡ true → ReplyFits h call.op call.phase a
@@ -205,7 +205,7 @@ module _ (file : ℕ) (m : RawMap) (c : ℕ) (s : State) (x : Client) (slot : Op
     pub heard_op : (from : Node) (b : Message) → i ≡ Hears from b → pending_op x ≡ op_in x i
     heard_op from b is = rw is refl
 
-    answer_goes : (a : Answer) → (n : IsAnswered x i a) →
+    answer_goes : (a : Answer) → (n : AnswerComes x i a) →
         Goes_ (table.answered s file c x a x.outstanding) (finished (on_call (quiet (record x { outstanding = None })) x.call a))
     answer_goes a n =
         let f = fits.answered a n.request n n.outstanding in

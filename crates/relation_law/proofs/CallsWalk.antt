@@ -75,28 +75,29 @@ module _ (file : ℕ) (s : State) (c : ℕ) (x : Client) (i : Input) (P : List E
       subst (λ (o : Option Call). P (table.replied_in s file c a q o) (finished (reply_call x a q o))) (sym call_is)
       (under_grant drive q is call call_is a awaits (held_of x.held (file_of call.op)) refl)
 
-  answers_it : (from : Node) (m : Message) → i ≡ Hears from m → (a : Answer) (r : Request) → x.outstanding ≡ Some r
+  answers_it : (a : Answer) → i ≡ Hears FromServer (Answers a) → (r : Request) → x.outstanding ≡ Some r
       → (b : Bool) → is_awaited x a r ≡ b
-      → (takes x from m ≡ (if b then Some (TakesAnswer a) else None))
+      → (takes x FromServer (Answers a) ≡ (if b then Some (TakesAnswer a) else None))
       → P (EventsOf (if b then Some (TakesAnswer a) else None)) (by_taken x (if b then Some (TakesAnswer a) else None))
-  answers_it from m is a r out true awaited took =
+  answers_it a is r out true awaited took =
       k.answered a
       (record {
-        from = from;
-        message = m;
+        from = FromServer;
+        message = Answers a;
         is = is;
+        heard = is;
         takes_it = took;
         request = r;
         outstanding = out;
         awaited = awaited;
       })
-  answers_it from m is a r out false awaited took = k.rests
+  answers_it a is r out false awaited took = k.rests
 
-  outstanding_is : (from : Node) (m : Message) → i ≡ Hears from m → (a : Answer) → (o : Option Request)
-      → x.outstanding ≡ o → takes x from m ≡ answer_taken x a o
+  outstanding_is : (a : Answer) → i ≡ Hears FromServer (Answers a) → (o : Option Request) → x.outstanding ≡ o
+      → takes x FromServer (Answers a) ≡ answer_taken x a o
       → P (EventsOf (answer_taken x a o)) (by_taken x (answer_taken x a o))
-  outstanding_is from m is a None out took = k.rests
-  outstanding_is from m is a (Some r) out took = answers_it from m is a r out (is_awaited x a r) refl took
+  outstanding_is a is None out took = k.rests
+  outstanding_is a is (Some r) out took = answers_it a is r out (is_awaited x a r) refl took
 
   matched : (q : Recall) → i ≡ Hears FromServer (Recalls q) → (b : Bool) → P [] (finished (if b then obeys x q else no_match x q))
   matched q is true = k.recalled q is
@@ -114,7 +115,7 @@ module _ (file : ℕ) (s : State) (c : ℕ) (x : Client) (i : Input) (P : List E
   heard : (from : Node) (m : Message) → i ≡ Hears from m → P (EventsOf (takes x from m)) (hears x from m)
   unfolding hears takes
   heard (FromDrive d) (Replies q) is = replies d q is x.call refl (find (answers d q) (awaited_of x.call)) refl
-  heard FromServer (Answers a) is = outstanding_is FromServer (Answers a) is a x.outstanding refl refl
+  heard FromServer (Answers a) is = outstanding_is a is x.outstanding refl refl
   heard FromServer (Recalls q) is = named q is (q.client == x.number)
   heard from m is = k.rests
 

@@ -89,7 +89,7 @@ turn_outstanding d op (Forgets u) = refl
 pub begun_outstanding : (d : Done) → (begun d).client.outstanding ≡ d.client.outstanding
 begun_outstanding d = each_begin d (λ (e : Done). e.client.outstanding ≡ d.client.outstanding) (record {
   stays = refl;
-  needs = λ op n is out. refl;
+  needs = λ op n is out first. refl;
   begun = λ op h is held covered.
       turn_outstanding (record (with_held d (begins h op).held) { commands = (begins h op).sent }) op (begins h op).turn;
 })

@@ -37,12 +37,12 @@ use Rattle.history_law.proofs.IssuedLaw.{nothing_allowed}
 use Rattle.history_law.proofs.Files.{in_at}
 use Rattle.history_law.specs.Moves.{IsForClient}
 use Rattle.history_law.specs.Said.{said, posted}
-use Rattle.history_law.specs.Turns.{IsAnswered}
+use Rattle.history_law.specs.Turns.{AnswerComes}
 use Rattle.component_law.specs.Objects.{AreOwned}
 use Rattle.component_law.specs.Sent.{IsSentByRun}
 use Rattle.component_law.proofs.ObjectRuns.{each_object_is_owned}
 use Rattle.component_law.proofs.Given.{taken_gives}
-use Rattle.exchange_law.specs.Awaited.{AreFew}
+use Rattle.exchange_law.specs.Awaited.{AreFewerThanNonces}
 use Rattle.exchange_law.specs.Calls.{IsAsking, CallFine, PhaseFine as CallPhaseFine}
 use Rattle.exchange_law.specs.Given.{CanTake}
 use Rattle.exchange_law.specs.Meeting.{KeptGood}
@@ -102,7 +102,7 @@ backed_there answers w h moment scenario d e y i none =
 
 module _ (laws : HeldLaws) (given : GrantsAreFresh) (answers : AnswersAreFit) (w : World) (h : List Line) (m : Move) (f g : File)
     (s : State) (k : FollowsWhole w h m f g s) (next : IsMoment (move w m).world (h ++ lines_in w m))
-    (later : IsOfScenario (h ++ lines_in w m)) (few : AreFew h) (run : IsSentByRun w)
+    (later : IsOfScenario (h ++ lines_in w m)) (few : AreFewerThanNonces h) (run : IsSentByRun w)
     (there : file_at w.server.files f.kept.number ≡ Some f) (j : Going) (goes : going_in w m.action ≡ Some j) where
   abbrev c : ℕ
   c = j.client
@@ -147,7 +147,7 @@ module _ (laws : HeldLaws) (given : GrantsAreFresh) (answers : AnswersAreFit) (w
         (its_run.helds c n a (ap (λ (z : Client). held_of z.held n) (then_ laws w h m f g s k j goes) ∙ e)) i o names;
   }
 
-  module _ (a : Answer) (is : IsAnswered j.state j.input a) (call : Call) (tries : ℕ) (n : Held)
+  module _ (a : Answer) (is : AnswerComes j.state j.input a) (call : Call) (tries : ℕ) (n : Held)
       (at : j.state.call ≡ Some call) (waits : call.phase ≡ Waits (Get tries)) (grant : taken a call.op ≡ Ok n) where
     asking : IsAsking (KeptGood w.server c call.op (Get tries)) x.outstanding (file_of call.op) (get_args call.op)
     asking =

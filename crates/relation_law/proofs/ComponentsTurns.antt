@@ -25,7 +25,7 @@ use Rattle.client_rules.specs.Steps.{all_due, resent}
 use Rattle.client_rules.proofs.Numbering.{nonces_rise}
 use Rattle.client_rules.proofs.HeldGrants.{held_file}
 use Rattle.world_history.specs.ClientNames.{Client, Call, CallOp, Held, Due, Awaited, TimedOut, Need, First, Get, Commit, Report, Close, Phase, Starts, Needs, Waits, Reads, Probes, Gathers, Scatters, Turn, Goes, Ends, Forgets, Moved, Done, Why, AnswersRecall, Asks, ToDrive}
-use Rattle.history_law.specs.Turns.{with_start, IsAnswered, TurnCases, FinishCases}
+use Rattle.history_law.specs.Turns.{with_start, AnswerComes, TurnCases, FinishCases}
 use Rattle.history_law.proofs.Turns.{each_turn, each_finish}
 use Rattle.exchange_law.specs.Sent.{IsBacked, Names}
 use Rattle.exchange_law.proofs.ClientKeeping.{put_read, without_read}
@@ -127,7 +127,7 @@ module _ (file used : ℕ) (owner : ℕ → ℕ) where
 
   finishes : FinishCases DoneOver
   finishes = record {
-    needs = λ d op n k is out. record { held = k.held; sent = k.sent };
+    needs = λ d op n k is out first. record { held = k.held; sent = k.sent };
     begun = λ d op h k is held cover.
         moved_over d op h (begins h op) [] held (nonces_rise.begun h op) (begins_kept h op) (begins_well h [] op) k;
     asks = λ d op n h k is out held. asks_over d op n h k;
@@ -221,7 +221,7 @@ module _ (file used : ℕ) (owner : ℕ → ℕ) where
 
   module _ (x : Client) (i : Input) (k : AreOver x.held)
       (fine : (call : Call) → x.call ≡ Some call → PhaseFine call.phase)
-      (new : (a : Answer) → IsAnswered x i a → (call : Call) (tries : ℕ) (g : Held) → x.call ≡ Some call →
+      (new : (a : Answer) → AnswerComes x i a → (call : Call) (tries : ℕ) (g : Held) → x.call ≡ Some call →
       call.phase ≡ Waits (Get tries) → taken a call.op ≡ Ok g →
       (g.file ≡ file → used ≤ nonce_at g g.count) × ((j o : ℕ) → Names g j o → owner o ≡ g.file)) where
     abbrev old : List Awaited
@@ -237,7 +237,7 @@ module _ (file used : ℕ) (owner : ℕ → ℕ) where
     cases = record {
       rests = λ n y j. absurd j;
       nothing = λ op is none n y j. absurd j;
-      called = λ op is none. finished_over old (quiet (with_start x op)) (rested (with_start x op) refl);
+      called = λ op is none can. finished_over old (quiet (with_start x op)) (rested (with_start x op) refl);
       answered = λ a q. finished_over old (on_call (quiet (record x { outstanding = None })) x.call a)
           (answered_over x a k (new a q) x.call refl);
       replied = λ drive q call h a r.

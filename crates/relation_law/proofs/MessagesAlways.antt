@@ -125,7 +125,7 @@ module _ (c : Client) (i : Input) (f : IsFine c) where
   cases = record {
     rests = λ e. still_fine c f;
     nothing = λ op is none e. record { client = f; outcome = tt };
-    called = λ op is free e. elim (cases_Bool (writes_nothing op)) [
+    called = λ op is free can e. elim (cases_Bool (writes_nothing op)) [
       | inl none ↦ subst (FineStep Any) (sym (e ∙ ap (step c) is)) (empty_call c op f none)
       | inr some ↦ finished_fine Any (quiet (with_start c op))
           (record { usable = f.usable; call = (has_bytes op some, λ h there. tt); outcome = tt })

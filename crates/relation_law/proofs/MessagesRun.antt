@@ -133,7 +133,8 @@ call_bytes hs (Some q) call e x = let same : q ≡ call = cc e in rw same at x.0
 pub finishes : (Fit : List ℕ → Type 0) → FinishCases (FineDone Fit)
 unfolding requests
 finishes Fit = record {
-  needs = λ d op n f is out. phased_fine Fit d op (Needs n) f (call_bytes d.client.held d.client.call _ is f.call) (λ h o. tt);
+  needs = λ d op n f is out first.
+      phased_fine Fit d op (Needs n) f (call_bytes d.client.held d.client.call _ is f.call) (λ h o. tt);
   begun = λ d op h f is held cover.
       let b = call_bytes d.client.held d.client.call _ is f.call in
       moved_fine Fit d op h (begins h op) [] f held b (begun_fits h op (f.usable (file_of op) h held) b cover)

@@ -16,7 +16,7 @@ use Rattle.client_rules.specs.Io.{awaited_in, outs}
 use Rattle.client_rules.specs.Messages.{Step}
 use Rattle.client_rules.specs.Replies.{answers, timed_after}
 use Rattle.gather_law.proofs.Gathered.{long_enough}
-use Rattle.history_law.specs.Turns.{IsAnswered, IsReplied, IsTimed}
+use Rattle.history_law.specs.Turns.{AnswerComes, IsReplied, IsTimed}
 use Rattle.world_history.specs.ServerNames.{File, Slot}
 use Rattle.world_history.specs.ClientNames.{Awaited, Client, Call, CallOp, Held, Need, First, Get, Commit, Report, Close, Outcome, Phase, Starts, Needs, Waits, Reads, Probes, Gathers, Scatters, Request}
 use Rattle.world_history.specs.State.{World}
@@ -332,7 +332,7 @@ module _ (laws : OwnWorld) (w : World) (h : List Line) (m : Move) (f g : File) (
             ]
           ]
 
-  rested : (a : Answer) → IsAnswered x j.input a →
+  rested : (a : Answer) → AnswerComes x j.input a →
       (after_all s (table.answered s file c x a x.outstanding)).waiting c ≡ false
   rested a n =
       let kept = kept_it laws.held w h m f g s k j goes n.from n.message a n.is n.takes_it n.request n.outstanding in

@@ -382,7 +382,7 @@ module _ (file : ℕ) (m : RawMap) (c : ℕ) (s : State) (x : Client) (slot : Op
       begun_fine : FineDone Any (begun d)
       begun_fine = each_begin d (FineDone Any) (record {
         stays = fine_done;
-        needs = λ op n is_ out. (finishes Any).needs d op n fine_done is_ out;
+        needs = λ op n is_ out first. (finishes Any).needs d op n fine_done is_ out first;
         begun = λ op k_ is_ held cover. (finishes Any).begun d op k_ fine_done is_ held cover;
       })
 

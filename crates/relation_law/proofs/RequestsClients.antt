@@ -157,7 +157,7 @@ module _ (x : Client) (k : AsksFor x) where
   cases i = record {
     rests = k;
     nothing = λ op is empty. k;
-    called = λ op is none. finished_asks (quiet (with_start x op))
+    called = λ op is none can. finished_asks (quiet (with_start x op))
         (works_on _ op Starts refl refl (k.due (λ b n at. cc (sym none ∙ at))) k.gone (λ n e. absurd (cc e)));
     answered =
         λ a q. finished_asks (on_call (quiet (record x { outstanding = None })) x.call a) (answered_asks x a k x.call refl);

@@ -21,7 +21,7 @@ use Rattle.fence_law.specs.State.Call.{Idle, Broken}
 use Rattle.fence_law.specs.State.RequestKind.{Return}
 use Rattle.fence_law.specs.Machine.{Allowed}
 use Rattle.file_simulation.specs.Showing.{IsRun}
-use Rattle.file_simulation.specs.Requests.{Own, Other, class_of, kept_by, GivesIn, IsAnswered, AnswerIs, IsWaiting, IsAway, ClassIs, AwaitsNothing, IsOutstanding}
+use Rattle.file_simulation.specs.Requests.{Own, Other, class_of, kept_by, GivesIn, HasSentAnswer, AnswerIs, IsWaiting, IsAway, ClassIs, AwaitsNothing, IsOutstanding}
 use Rattle.file_simulation.specs.ClientEvents.{grant_with}
 use Rattle.relation_law.specs.Requests.{AskingStays}
 use Rattle.relation_law.proofs.RequestsRuns.{slots_of_run, return_gives_none}
@@ -76,7 +76,7 @@ module _ (file : ℕ) (m : RawMap) (s : State) (c : ℕ) (x : Client) (p : Optio
     takes_other_may is = record { out = (away_of is).away; served = slot ∙ served ∙ w.sequence }
 
     module _ (a : Answer) (kept : kept_by p r ≡ Some a) (run : IsRun s) where
-      answered : (kind : RequestKind) → class_of file x r ≡ Own kind → IsAnswered m s c x a
+      answered : (kind : RequestKind) → class_of file x r ≡ Own kind → HasSentAnswer m s c x a
       answered kind is = subst (AnswerIs m s c x) kept (waiting_of kind is).answer
 
       grant_is : (kind : RequestKind) → (is : class_of file x r ≡ Own kind) → (answered kind is).grant ≡ s.kept_grant c

@@ -60,7 +60,7 @@ record IsBegun (file : ℕ) (d e : Done) : Type 0 where
 begun_so : (file : ℕ) (d : Done) → IsBegun file d (begun d)
 begun_so file d = each_begin d (IsBegun file d) (record {
   stays = record { requests = refl; outstanding = refl; held = λ j e. (j, e) };
-  needs = λ op n is out. record { requests = refl; outstanding = refl; held = λ j e. (j, e) };
+  needs = λ op n is out first. record { requests = refl; outstanding = refl; held = λ j e. (j, e) };
   begun = λ op h is held cover.
       let file_same = file_of_moved h (begins h op) (begins_file h op) in
       let both = moved_same d op h held (begins h op) file_same file in

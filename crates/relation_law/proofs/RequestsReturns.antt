@@ -35,7 +35,7 @@ use Rattle.world_history.specs.Moves.{acts}
 use Rattle.world_history.specs.Sending.{Move}
 use Rattle.history_law.specs.BookMoments.{lines_in}
 use Rattle.history_law.specs.Moves.{IsForClient}
-use Rattle.history_law.specs.Turns.{with_start, IsReplied, IsAnswered}
+use Rattle.history_law.specs.Turns.{with_start, IsReplied, AnswerComes}
 use Rattle.exchange_law.specs.Calls.{CallFine, PhaseFine}
 use Rattle.exchange_law.specs.Meeting.{KeptGood, IsMet, IsReadable, IsReadableThrough}
 use Rattle.exchange_law.specs.Messages.{last_before}
@@ -223,7 +223,7 @@ record TurnLaws (file : ℕ) (s : State) (c : ℕ) (x : Client) (i : Input) : Ty
   number : (r : Request) → x.outstanding ≡ Some r → r.sequence ≡ x.next → ⊥
   holding : (h : Held) → held_of x.held file ≡ Some h → HoldsOne s c
   unheld : IsUnheld x i → ⊥
-  answered : (a : Answer) → IsAnswered x i a → (h : Held)
+  answered : (a : Answer) → AnswerComes x i a → (h : Held)
       → held_of (on_call (quiet (record x { outstanding = None })) x.call a).client.held file ≡ Some h
       → HoldsOne (after_all s (table.answered s file c x a x.outstanding)) c
 
@@ -413,7 +413,7 @@ module _ (laws : HeldLaws) (w : World) (h : List Line) (m : Move) (f g : File) (
       → (r : Request) → x_.outstanding ≡ Some r → last_of t_ ≡ r.sequence
   served_it from b a is took r out = let own = own_it from b a is took r out in ap last_of own.1 ∙ own.2
 
-  answered_ : (a : Answer) → IsAnswered x_ j.input a → (hh : Held)
+  answered_ : (a : Answer) → AnswerComes x_ j.input a → (hh : Held)
       → held_of (on_call (quiet (record x_ { outstanding = None })) x_.call a).client.held file_ ≡ Some hh
       → HoldsOne (after_all s (table.answered s file_ c_ x_ a x_.outstanding)) c_
   answered_ a n hh has =

@@ -84,7 +84,7 @@ module _ (x : Client) where
   cases i none fresh = record {
     rests = rested (still x) refl refl;
     nothing = λ op is empty. rested _ refl refl;
-    called = λ op is idle. called op idle;
+    called = λ op is idle can. called op idle;
     answered = λ a k. absurd (none a k.from k.message k.is k.takes_it);
     replied = λ drive q call h a k. heard i drive q call h a k;
     unheld = goes_on (quiet x) refl refl refl refl;

@@ -88,7 +88,12 @@ module _ (y : Client) where
       (return_args u.number []) q free refl refl
 
   finish : FinishCases (Turned y)
-  finish = record { needs = needs; begun = begins_on; asks = asks; gives_back = gives_back }
+  finish = record {
+    needs = λ d op n q is out first. needs d op n q is out;
+    begun = begins_on;
+    asks = asks;
+    gives_back = gives_back;
+  }
 
   pub finished_turned : (d : Done) → Turned y d → HasTurned y (finished d)
   unfolding finished

@@ -212,7 +212,8 @@ module _ (N : CallOp → List IoErr → Type 0) where
     cases i = record {
       rests = k;
       nothing = λ op is empty. k;
-      called = λ op is none. finished_good (quiet (with_start x op)) fine.usable (record { reports = tt; enough = λ h e. tt });
+      called = λ op is none can.
+          finished_good (quiet (with_start x op)) fine.usable (record { reports = tt; enough = λ h e. tt });
       answered = λ a q. finished_good (on_call (quiet (record x { outstanding = None })) x.call a)
           (on_call_fine (quiet (record x { outstanding = None })) x.call a refl
           (record { usable = fine.usable; call = fine.call; outcome = tt })).usable

@@ -355,7 +355,7 @@ pub begun_plan : (file : ℕ) (Source : List Column → Type 0) (d : Done) → S
     HasPlan file Source (begun d)
 begun_plan file Source d nothing fine stays = each_begin d (HasPlan file Source) (record {
   stays = stays;
-  needs = λ op n is out call io queue h at phase here there some.
+  needs = λ op n is out first call io queue h at phase here there some.
       (let first : Call = record { op = op; phase = Needs n } in
       let same : first ≡ call = cc at in
       let p : Needs n ≡ Scatters io queue = ap (λ (z : Call). z.phase) same ∙ phase in

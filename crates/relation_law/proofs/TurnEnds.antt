@@ -15,7 +15,7 @@ use Rattle.client_rules.specs.History.{Input, step}
 use Rattle.client_rules.specs.Io.{awaited_in, outs}
 use Rattle.client_rules.specs.Messages.{Step, finished}
 use Rattle.client_rules.specs.Replies.{replied, timed_out}
-use Rattle.history_law.specs.Turns.{IsAnswered, with_start}
+use Rattle.history_law.specs.Turns.{AnswerComes, with_start}
 use Rattle.history_law.proofs.Turns.{each_begin}
 use Rattle.world_history.specs.ServerNames.{Slot}
 use Rattle.world_history.specs.ClientNames.{Awaited, Client, Call, CallOp, Done, Held, Io, Lost, Close, Outcome, Phase, Starts, Needs, Waits, Reads, Probes, Gathers, Scatters, Request, Silent, Store, Turn, Goes, Ends, Forgets}
@@ -187,7 +187,7 @@ module _ (file : ℕ) (m : RawMap) (c : ℕ) (s : State) (x : Client) (slot : Op
     pub fine : IsFine x
     pub works : ClientWorks x
     pub rests : x.outstanding ≡ None → s.waiting c ≡ false
-    pub rested : (a : Answer) → IsAnswered x i a → (after_all s (table.answered s file c x a x.outstanding)).waiting c ≡ false
+    pub rested : (a : Answer) → AnswerComes x i a → (after_all s (table.answered s file c x a x.outstanding)).waiting c ≡ false
     pub unanswered : (r : Request) → r.sequence ≡ x.next → kept_by slot r ≡ None
     pub counts : (n : ℕ) (h : Held) → held_of (step x i).client.held n ≡ Some h → h.count < NONCES
     pub safe : (u : Option Outcome) → (step x i).outcome ≡ u → Safe (told_at u)
@@ -316,14 +316,14 @@ module _ (file : ℕ) (m : RawMap) (c : ℕ) (s : State) (x : Client) (slot : Op
     begun_fine : FineDone Any (begun d)
     begun_fine = each_begin d (FineDone Any) (record {
       stays = fine_done;
-      needs = λ op n is out. (finishes Any).needs d op n fine_done is out;
+      needs = λ op n is out first. (finishes Any).needs d op n fine_done is out first;
       begun = λ op h is held cover. (finishes Any).begun d op h fine_done is held cover;
     })
 
     begun_next : (begun d).client.next ≡ d.client.next
     begun_next = each_begin d (λ (e : Done). e.client.next ≡ d.client.next) (record {
       stays = refl;
-      needs = λ op n is out. refl;
+      needs = λ op n is out first. refl;
       begun = λ op h is held cover. turn_next (record (with_held d (begins h op).held) { commands = (begins h op).sent }) op
           (begins h op).turn refl;
     })

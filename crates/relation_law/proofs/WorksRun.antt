@@ -115,13 +115,13 @@ begun_call_works d op h held =
 pub begun_works : (d : Done) → DoneWorks d → DoneWorks (begun d)
 begun_works d w = each_begin d DoneWorks (record {
   stays = w;
-  needs = λ op n is out. needs_works d op n is w;
+  needs = λ op n is out first. needs_works d op n is w;
   begun = λ op h is held cover. begun_call_works d op h held;
 })
 
 pub finishes : FinishCases DoneWorks
 finishes = record {
-  needs = λ d op n w is out. needs_works d op n is w;
+  needs = λ d op n w is out first. needs_works d op n is w;
   begun = λ d op h w is held cover. begun_call_works d op h held;
   asks = λ d op n h w is out held. asks_works d op n h is w;
   gives_back = λ d u w none out. gives_works d u none;
@@ -250,7 +250,7 @@ module _ (x : Client) (w : ClientWorks x) where
   cases i = record {
     rests = w;
     nothing = λ op is empty. w;
-    called = λ op is none. finished_works (quiet (with_start x op))
+    called = λ op is none can. finished_works (quiet (with_start x op))
         (record { call = free_call _ op Starts refl (λ z. z) tt; sent = λ b j. j });
     answered = λ a q. finished_works (on_call (quiet (record x { outstanding = None })) x.call a) (answered_works x a w x.call);
     replied = λ drive q call h a r. finished_works (moved (quiet x) call.op (replied h call.op call.phase a q))

@@ -11,7 +11,7 @@ use Rattle.client_rules.specs.Messages.{Step, Recalls, still, finished, on_call,
 use Rattle.client_rules.specs.Replies.{answers, replied, timed_out}
 use Rattle.client_rules.specs.Steps.{writes_nothing, all_due}
 use Rattle.world_history.specs.ClientNames.{Client, Call, CallOp, Done, Held, Awaited, Recall, Reply, WriteOk}
-use Rattle.history_law.specs.Turns.{IsReplied, IsTimed, IsAnswered, with_start}
+use Rattle.history_law.specs.Turns.{IsReplied, IsTimed, AnswerComes, with_start}
 use Rattle.fence_law.specs.State.{State, Event}
 use Rattle.file_simulation.specs.EventLists.{where_so}
 use Rattle.file_simulation.specs.ClientEvents as table
@@ -37,7 +37,7 @@ pub record EventCases (file : ℕ) (s : State) (c : ℕ) (x : Client) (i : Input
         → P [] (record (still x) { outcome = Some (WriteOk 0) })
     pub called : (op : CallOp) → i ≡ Calls op → x.call ≡ None → P [] (finished (quiet (with_start x op)))
     -- a message is taken
-    pub answered : (a : Answer) → IsAnswered x i a → P (table.answered s file c x a x.outstanding)
+    pub answered : (a : Answer) → AnswerComes x i a → P (table.answered s file c x a x.outstanding)
         (finished (on_call (quiet (record x { outstanding = None })) x.call a))
     pub replied : (drive : ℕ) (q : Reply) (call : Call) (h : Held) (a : Awaited) → IsReplied x i drive q call h a
         → P (where_so (file_of call.op == file) (table.replied s c a q call.phase))
@@ -59,7 +59,7 @@ pub record EventCases (file : ℕ) (s : State) (c : ℕ) (x : Client) (i : Input
 pub data IsTurn (file : ℕ) (s : State) (c : ℕ) (x : Client) (i : Input) (es : List Event) (d : Done) : Type 0 where
   Begins : (op : CallOp) → i ≡ Calls op → x.call ≡ None → writes_nothing op ≡ false → es ≡ [] → d ≡ quiet (with_start x op) →
       IsTurn file s c x i es d
-  Answered : (a : Answer) → IsAnswered x i a → es ≡ table.answered s file c x a x.outstanding →
+  Answered : (a : Answer) → AnswerComes x i a → es ≡ table.answered s file c x a x.outstanding →
       d ≡ on_call (quiet (record x { outstanding = None })) x.call a → IsTurn file s c x i es d
   Replied : (drive : ℕ) (q : Reply) (call : Call) (h : Held) (a : Awaited) → IsReplied x i drive q call h a →
       es ≡ where_so (file_of call.op == file) (table.replied s c a q call.phase) →
