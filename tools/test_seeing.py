@@ -15,7 +15,7 @@ HERE = os.path.dirname(os.path.abspath(__file__))
 sys.path.insert(0, HERE)
 
 from pnfs_tool import wire  # noqa: E402
-from transcripts import envelopes, structures  # noqa: E402
+from transcripts import commands, envelopes, structures  # noqa: E402
 from transcripts.envelopes import Answer, Granted, Segment  # noqa: E402
 from transcripts.striping import Map  # noqa: E402
 
@@ -109,7 +109,9 @@ def credential(number, drive):
     """A component on that drive; missing where there is none."""
     place = structures.ObjectId(9 if drive is None else drive, 65536, 65536 + number)
     version = structures.MISSING if drive is None else structures.VERSION_2
-    return structures.Credential(place, version, structures.NO_SECURITY, b"", b"")
+    capability = commands.Capability(commands.SHA1_FORMAT, 1, commands.RIGHTS[commands.READ], 2**64 - 1, 1, 0, 1, 65536, 65536 + number,
+                                     0, 2**64 - 1)
+    return structures.Credential(place, version, structures.NO_SECURITY, bytes(20), commands.capability_bytes(capability))
 
 
 def text_of(server, drives, files):
@@ -184,7 +186,7 @@ class Status(Seeing):
     def test_the_number_that_the_server_expects_is_used(self):
         self.cluster({0: (1, [0, 1, 2]), 1: (1, [0, 1, 2])})
         self.tool("status")
-        self.assertEqual([request.sequence for request in self.server.requests], [4_294_967_280, 17, 18, 19, 20])
+        self.assertEqual([request.sequence for request in self.server.requests], [0, 17, 18, 19, 20])
 
     def test_a_drive_that_is_down(self):
         closed = Peer(lambda record: b"")
@@ -198,6 +200,27 @@ class Status(Seeing):
     def test_a_drive_that_hangs(self):
         self.cluster({0: (1, [0, 1, 2])}, [self.peer(lambda record: None)])
         self.assertEqual(self.seen(status=24)["drives"][0]["state"], "hangs")
+
+    def drive(self, verdict, asked):
+        """A drive that gives commands this verdict, and keeps what it was asked."""
+        def answer(record):
+            if not record:
+                return b"format"
+            asked.append(commands.read_command(record))
+            return commands.reply_bytes(commands.Reply(commands.READ, commands.VERDICTS[verdict], 65536, 1, 0, b""))
+        return self.peer(answer)
+
+    def test_drives_that_refuse(self):
+        asked = []
+        self.cluster({0: (1, [0, 1, 2]), 1: (1, [0, 3, 4])},
+                     [self.drive(verdict, asked) for verdict in ("perform", "checkvalue", "noobject", "expired", "tag")])
+        drives = self.seen(status=24)["drives"]
+        self.assertEqual([drive["state"] for drive in drives], ["up", "refuses", "refuses", "refuses", "up"])
+        self.assertEqual([drive["why"].split(":")[0] for drive in drives], ["", "checkvalue", "noobject", "expired", ""])
+        self.assertEqual({(command.action, command.length) for command in asked}, {(commands.READ, 0)})
+        self.assertEqual(len(asked), 5)
+        self.assertIn("d1 refuses: checkvalue: it has another key", self.tool("status", status=24))
+        self.assertIn('pnfs_drive_refuses{party="d1"} 1\n', self.tool("metrics"))
 
     def test_a_server_that_is_down(self):
         closed = Peer(lambda record: b"")
@@ -258,7 +281,7 @@ class Status(Seeing):
         self.assertEqual(self.tool("wait"), "")
         self.assertEqual(self.tool("wait", "d2", "server"), "")
         self.assertEqual(self.tool("wait", "drives"), "")
-        self.assertEqual([request.sequence for request in self.server.requests], [4_294_967_280] * 2)
+        self.assertEqual([request.sequence for request in self.server.requests], [0] * 2)
         self.assertEqual(self.server.granted, 0)
 
     def test_wait_for_what_is_down(self):
@@ -356,6 +379,7 @@ class Waiting(Seeing):
     def test_an_audit_ends(self):
         self.cluster({0: (9, [0, None, 2])})
         self.order("audit", "f0", "--wait")
+        self.assertIn("f0 is missing; only the server's standard error tells what it found", self.messages)
 
 
 def main():

@@ -109,6 +109,13 @@ TOLD_BEHIND = {
 }
 
 
+#: What no client is told of a job that has ended.
+UNSEEN = {
+    "revoke": "only the server's standard error tells whether its repair left stripes short ('repaired N S' with S above 0)",
+    "audit": "only the server's standard error tells what it found, and whether a stop of the server cut it off",
+}
+
+
 def show_cluster(words: argparse.Namespace, cluster: Cluster) -> int:
     """Carries out status, metrics, ls or watch."""
     if words.command == "ls":
@@ -148,7 +155,8 @@ def order_and_wait(words: argparse.Namespace, cluster: Cluster, caller: Caller, 
     caller.order(f"{words.command} f{words.file}")
     seen = wait_for_end(Onlooker(cluster.server, words.client), words.file, words.patience, tell)
     status = rebuilt(seen) if words.command == "rebuild" else DONE
-    tell(f"{words.command} f{words.file}: its job has ended, and f{words.file} is {seen.state}")
+    unseen = f"; {UNSEEN[words.command]}" if words.command in UNSEEN else ""
+    tell(f"{words.command} f{words.file}: its job has ended, and f{words.file} is {seen.state}{unseen}")
     return status
 
 

@@ -2,7 +2,7 @@
 import os
 from typing import Iterable, List, NamedTuple, Tuple
 
-from .seeing import ABSENT, BUSY, HELD, LOST, MISSING, SPENT, UNKNOWN, UP, WHOLE, ClusterSeen
+from .seeing import ABSENT, BUSY, HELD, LOST, MISSING, REFUSES, SPENT, UNKNOWN, UP, WHOLE, ClusterSeen
 
 FILE_STATES = (WHOLE, MISSING, LOST, BUSY, HELD, SPENT, ABSENT, UNKNOWN)
 
@@ -58,9 +58,11 @@ def gauges_of(seen: ClusterSeen, stores: Iterable[str]) -> List[Gauge]:
     return [
         Gauge("pnfs_well", "Whether every party answers and no file lacks anything.", [((), int(seen.is_well()))]),
         Gauge("pnfs_up", "Whether the server or the drive answers.",
-              [((("party", name),), int(state == UP)) for name, state, _ in parties]),
+              [((("party", name),), int(state in (UP, REFUSES))) for name, state, _ in parties]),
+        Gauge("pnfs_drive_refuses", "Whether the drive refuses what the server gives out for it.",
+              [((("party", f"d{drive.number}"),), int(drive.state == REFUSES)) for drive in seen.drives]),
         Gauge("pnfs_answer_seconds", "How long the server or the drive took to answer.",
-              [((("party", name),), seconds) for name, state, seconds in parties if state == UP]),
+              [((("party", name),), seconds) for name, state, seconds in parties if state in (UP, REFUSES)]),
         Gauge("pnfs_file_size_bytes", "The size of the file, if the server told it.",
               [(labels, file.size) for labels, file in files if file.size is not None]),
         Gauge("pnfs_file_missing_components", "How many components of the file are missing, if a layout told it.",

@@ -1,8 +1,9 @@
 """What can be seen of a cluster from outside, by messages that its parties answer anyway.
 
-A drive answers a record without bytes. The server tells the number that it expects of a client in its refusal of a number far
-away. A file's size and its components are in the answer to a request for a layout to read its first byte; that grant is given
-back at once. Like any reader, such a request has a fence begin where a grant on these bytes ran out and wasn't given back.
+A drive answers a record without bytes. The server tells the number that it expects of a client in its refusal of number 0,
+which no request has. A file's size and its components are in the answer to a request for a layout to read its first byte;
+before that grant is given back, each of its drives is asked once whether it takes what the layout has for it. Like any
+reader, such a request has a fence begin where a grant on these bytes ran out and wasn't given back.
 """
 from typing import Dict, List, NamedTuple, Optional
 
@@ -11,15 +12,17 @@ from transcripts.envelopes import Answer, Envelope, GetArgs, Granted, Request, R
 from transcripts.spelling import Unreadable
 from transcripts.striping import Map
 
-from .calls import FAR_NUMBER
 from .cluster import Cluster
+from .probing import refusal_of
 from .wire import Reply, exchange
 
+#: A number that no server expects: the numbers of requests begin with 1.
+NO_NUMBER = 0
 DRIVE_SECONDS = 6.0    # a drive that another peer keeps busy with its silence is free after 5
 SERVER_SECONDS = 30.0
 FIRST_BYTE = GetArgs(False, envelopes.IOMODE_READ, 0, 1, 1, envelopes.ZERO_STATE, envelopes.LARGEST_BODY)
 
-UP, DOWN, HANGS = "up", "down", "hangs"
+UP, DOWN, HANGS, REFUSES = "up", "down", "hangs", "refuses"
 WHOLE, MISSING, LOST = "whole", "missing", "lost"
 BUSY, HELD, SPENT, ABSENT, UNKNOWN = "busy", "held", "spent", "absent", "unknown"
 
@@ -87,11 +90,13 @@ def see_drive(number: int, address: str) -> DriveSeen:
 
 
 class Onlooker:
-    """Asks the server as one client, whose number somebody holds meanwhile."""
+    """Asks the server as one client, whose number somebody holds meanwhile, and the drives at these addresses what they refuse."""
 
-    def __init__(self, address: str, client: int):
+    def __init__(self, address: str, client: int, drives: Optional[Dict[int, str]] = None):
         self.address = address
         self.client = client
+        self.drives = drives or {}
+        self.refusals: Dict[int, str] = {}
         self.next: Optional[int] = None
         self.reply = Reply(None, 0.0, "", False)
 
@@ -112,9 +117,9 @@ class Onlooker:
         return answer
 
     def learn_number(self, file: int) -> Optional[Answer]:
-        """Asks with a number far away, which does nothing, for the number that the server expects."""
-        answer = self.ask(FAR_NUMBER, file, envelopes.GET, FIRST_BYTE)
-        if answer is not None and answer.status == envelopes.MISORDERED and 0 < answer.detail < FAR_NUMBER:
+        """Asks without a number, which does nothing, for the number that the server expects."""
+        answer = self.ask(NO_NUMBER, file, envelopes.GET, FIRST_BYTE)
+        if answer is not None and answer.status == envelopes.MISORDERED and answer.detail > 0:
             self.next = answer.detail
         return answer
 
@@ -136,9 +141,25 @@ class Onlooker:
         if answer is None:
             return FileSeen(number, None, UNKNOWN, None, why=self.reply.why)
         if isinstance(answer.result, Granted):
+            self.probe(layout_in(answer))
             back = ReturnArgs(False, envelopes.IOMODE_ANY, 0, envelopes.GREATEST, answer.result.state, structures.errors_bytes([]))
             self.request(number, envelopes.RETURN, back)
         return file_told(number, answer)
+
+
+    def probe(self, layout: Optional[structures.Layout]) -> None:
+        """Asks each drive of a layout once whether it takes what the server gives out for it."""
+        for credential in layout.components if layout is not None else []:
+            drive = credential.object.device
+            if credential.version != structures.MISSING and drive in self.drives and drive not in self.refusals:
+                self.refusals[drive] = refusal_of(self.drives[drive], credential, DRIVE_SECONDS)
+
+
+def layout_in(answer: Answer) -> Optional[structures.Layout]:
+    """The layout that an answer has, if it can be read."""
+    if not isinstance(answer.result, Granted) or not answer.result.layouts:
+        return None
+    return structures.maybe(structures.layout_in, answer.result.layouts[0].body)
 
 
 def state_with(striping: Map, drives: List[Optional[int]]) -> str:
@@ -153,7 +174,7 @@ def state_with(striping: Map, drives: List[Optional[int]]) -> str:
 def file_told(number: int, answer: Answer) -> FileSeen:
     """What an answer to a request for a layout says of a file."""
     if isinstance(answer.result, Granted) and answer.result.layouts:
-        layout = structures.maybe(structures.layout_in, answer.result.layouts[0].body)
+        layout = layout_in(answer)
         if layout is None:
             return FileSeen(number, answer.size, UNKNOWN, None, why="its layout can't be read")
         drives = [None if credential.version == structures.MISSING else credential.object.device for credential in layout.components]
@@ -184,14 +205,19 @@ def see_server(address: str, onlooker: Onlooker, file: int) -> ServerSeen:
 def see_cluster(cluster: Cluster, client: int, spare_file: int) -> ClusterSeen:
     """Asks every party once."""
     drives = [see_drive(number, address) for number, address in sorted(cluster.drives.items())]
-    onlooker = Onlooker(cluster.server, client)
+    onlooker = Onlooker(cluster.server, client, {drive.number: drive.address for drive in drives if drive.state == UP})
     server = see_server(cluster.server, onlooker, spare_file)
     files: List[FileSeen] = []
     if server.state == UP:
         files = see_files(cluster, onlooker)
     else:
         files = [FileSeen(number, None, UNKNOWN, None, why="the server doesn't answer") for number in sorted(cluster.files)]
-    return ClusterSeen(server, drives, files)
+    return ClusterSeen(server, [with_refusal(drive, onlooker.refusals.get(drive.number, "")) for drive in drives], files)
+
+
+def with_refusal(drive: DriveSeen, why: str) -> DriveSeen:
+    """A drive, of which it was seen whether it refuses what the server gives out for it."""
+    return drive._replace(state=REFUSES, why=why) if why else drive
 
 
 def drives_by_number(seen: ClusterSeen) -> Dict[int, DriveSeen]:

@@ -2,7 +2,7 @@
 import json
 from typing import Dict, List
 
-from .seeing import ABSENT, BUSY, HELD, LOST, MISSING, SPENT, UNKNOWN, UP, ClusterSeen, DriveSeen, FileSeen, drives_by_number
+from .seeing import ABSENT, BUSY, HELD, LOST, MISSING, REFUSES, SPENT, UNKNOWN, UP, ClusterSeen, DriveSeen, FileSeen, drives_by_number
 
 ADVICE = {
     BUSY: "a job of it waits for component {waits_for} (if its drive is lost: 'declare')",
@@ -45,9 +45,10 @@ def summary_of(seen: ClusterSeen) -> str:
     parts = []
     if seen.server.state != UP:
         parts.append("the server doesn't answer")
-    silent = [f"d{drive.number}" for drive in seen.drives if drive.state != UP]
+    silent = [f"d{drive.number}" for drive in seen.drives if drive.state not in (UP, REFUSES)]
     if silent:
         parts.append(f"{', '.join(silent)} {'doesn' if len(silent) == 1 else 'don'}'t answer")
+    parts += [f"d{drive.number} refuses: {drive.why}" for drive in seen.drives if drive.state == REFUSES]
     for state in (MISSING, LOST, BUSY, SPENT, ABSENT, UNKNOWN):
         names = [f"f{file.number}" for file in seen.files if file.state == state]
         if names:
