@@ -6,13 +6,14 @@ use Rattle.port_loop.specs.declared.ports.Arrival.TheVariants.{Opens, Brings as 
 use Rattle.mio_ports.specs.declared.slot.Turn.{Turn}
 use Rattle.mio_ports.specs.declared.slot.Turn.TheVariants.{Brings, Drains, Ends, Rests}
 
--- how many were opened, and how many calls failed
+-- how many were opened, how many calls failed, and where they listen
 pub record Counted : Type 0 where
   pub opened : ℕ
   pub faults : ℕ
+  pub listens : Option (List ℕ)
 
 abbrev pub nothing_counted : Counted
-nothing_counted = record { opened = 0; faults = 0 }
+nothing_counted = record { opened = 0; faults = 0; listens = None }
 
 -- bytes are at least one, at the front of the buffer
 abbrev pub BringsSome : Turn → List ℕ → Type 0
@@ -33,9 +34,11 @@ ArrivesOn p (Some Quiet) buf = ⊥
 -- one more is open, under the next number, or nothing is changed
 abbrev pub Begun : (old new : Counted) → Option ℕ → Type 0
 Begun old new None = new ≡ old
-Begun old new (Some p) = (new.faults ≡ old.faults) × (p ≡ old.opened) × (new.opened ≡ old.opened + 1)
+Begun old new (Some p) =
+    (new.faults ≡ old.faults) × (new.listens ≡ old.listens) × (p ≡ old.opened) × (new.opened ≡ old.opened + 1)
 
 -- something arrived, or nothing is changed
 abbrev pub Arrived : (old new : Counted) → Option Arrival → List ℕ → Type 0
 Arrived old new None buf = new ≡ old
-Arrived old new (Some a) buf = (new.faults ≡ old.faults) × Arrives old.opened new.opened None None (Ok a) buf
+Arrived old new (Some a) buf =
+    (new.faults ≡ old.faults) × (new.listens ≡ old.listens) × Arrives old.opened new.opened None None (Ok a) buf

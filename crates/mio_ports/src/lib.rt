@@ -6,8 +6,10 @@
 mod limits;
 mod poller;
 mod slot;
+mod std_notes;
 mod table;
 mod tcp_ports;
 
 pub use limits::{IDLE_SECONDS, MOST_CONNECTIONS, PortLimits};
+pub use std_notes::StdNotes;
 pub use tcp_ports::TcpPorts;

@@ -1,4 +1,4 @@
-ghost use Rattle.std.specs.Prelude.{◌≡◌, ◌≤◌, ℕ, List};
+ghost use Rattle.std.specs.Prelude.{◌≡◌, ◌≤◌, ℕ, List, Some, OnErr, OnOk};
 ghost use Rattle.osd_bytes.specs.Causes.{Rose};
 
 use crate::limits::PortLimits;
@@ -7,14 +7,14 @@ use crate::slot::Slot;
 use crate::table::{LISTENER, Table};
 use mio::Token;
 use mio::net::{TcpListener, TcpStream};
-use osd_bytes::{Fault, Node, Peers};
-use osd_links::Cause;
+use osd_bytes::{Bytes, Fault, Node, Peers};
+use osd_links::{Cause, LinkFault, Party};
 use port_loop::{Arrival, Ports};
 use std::alloc::Global;
 use std::collections::VecDeque;
 use std::io::{self, ErrorKind};
 use std::marker::Model;
-use std::net::{Net, SocketAddr, ToSocketAddrs};
+use std::net::{Net, ToSocketAddrs};
 use std::str;
 use std::time::{Clock, Duration};
 
@@ -24,8 +24,15 @@ const WAIT_MILLIS: u64 = 1_000;
 // How many connections that their peers gave up are passed over at once.
 const MOST_GIVEN_UP: u32 = 16;
 
-/// Connections over TCP that were accepted or opened, as far as [`PortLimits`] allow. Addresses are a host and a port, as in
-/// `127.0.0.1:7000`; of a host's places the first one is connected to.
+// Why the ports couldn't listen or wait last, and the address at which they were to listen, if it was that.
+#[derive(Drop)]
+struct Last {
+    refused: Option<Bytes>,
+    cause: Cause,
+}
+
+/// Connections over TCP that were accepted or opened, as far as [`PortLimits`] allow. Addresses are a host and a port, and of
+/// the places of a host that is asked the first one is taken.
 ///
 /// They have their turns one after the other: a connection brings one piece, then each other that has something. A full one
 /// isn't read until there is room on it again. A peer that is silent too long, or takes too long over a record or a reply, is
@@ -41,6 +48,8 @@ pub struct TcpPorts<R: Net + Clock> {
     table: Table,
     poller: Option<Poller>,
     listener: Option<TcpListener>,
+    // Where it listens.
+    address: Option<Bytes>,
     // Where nodes are asked.
     peers: Peers,
     // Connections that went for others, and of which that isn't told yet.
@@ -53,6 +62,7 @@ pub struct TcpPorts<R: Net + Clock> {
     looked: Duration,
     opened: u64,
     faults: u64,
+    last: Option<Last>,
 }
 
 impl<R: Net + Clock> Model for TcpPorts<R> {
@@ -60,7 +70,7 @@ impl<R: Net + Clock> Model for TcpPorts<R> {
 
     ghost Value = { Counted };
 
-    ghost view = { λ p. record { opened = p.opened; faults = p.faults } };
+    ghost view = { λ p. record { opened = p.opened; faults = p.faults; listens = p.address } };
 }
 
 // Whether a call of accept tells of the connection that it was to give alone, and not of the listener.
@@ -96,6 +106,7 @@ impl<R: Net + Clock + Drop> TcpPorts<R> {
             table: Table::new(alloc, limits),
             poller: None,
             listener: None,
+            address: None,
             peers: Peers::new(alloc),
             gone: VecDeque::new(alloc),
             newcomer: None,
@@ -103,22 +114,41 @@ impl<R: Net + Clock + Drop> TcpPorts<R> {
             looked: Duration::ZERO,
             opened: 0,
             faults: 0,
+            last: None,
         }
     }
 
-    /// Listens at an address, a host and a port as in `127.0.0.1:7000`, in place of the one before.
-    ///
-    /// # Errors
-    ///
-    /// A [`Cause`] if the address isn't one, or the system doesn't let it listen there. It listens where it did, then.
-    pub fn listen(&mut self, address: &[u8]) -> Result<(), Cause>
-        ensures { self.new ≡ self.old }
+    /// Why it couldn't listen, or couldn't wait for connections, last. What happens on connections isn't among it.
+    pub fn last_fault(&self) -> Option<LinkFault<'_>> {
+        let last = self.last.as_ref()?;
+        let address = match (&last.refused, &self.address) {
+            (Some(refused), _) => refused.as_slice(),
+            (None, Some(address)) => address.as_slice(),
+            (None, None) => &[],
+        };
+        Some(LinkFault {
+            party: Party::Own,
+            address,
+            cause: last.cause,
+        })
+    }
+
+    // Listens at an address in place of the one before, or else where it did.
+    fn listen_at(&mut self, address: &[u8]) -> Result<(), Cause>
+        ensures ok { OnOk result (self.new ≡ record self.old { listens = Some address.now }) }
+        ensures err { OnErr result (self.new ≡ self.old) }
     {
+        let kept = match Bytes::copied(self.alloc, address) {
+            Ok(kept) => kept,
+            Err(_) => return Err(Cause::of(io::Error::from(ErrorKind::OutOfMemory))),
+        };
         let mut listener = self.listener_at(address)?;
         match self.watch(&mut listener) {
-            Ok(()) => self.listener = Some(listener),
+            Ok(()) => {}
             Err(e) => return Err(Cause::of(e)),
         }
+        self.listener = Some(listener);
+        self.address = Some(kept);
         self.table.queue_listener();
         Ok(())
     }
@@ -128,11 +158,6 @@ impl<R: Net + Clock + Drop> TcpPorts<R> {
         ensures { self.new ≡ self.old }
     {
         self.peers = peers;
-    }
-
-    /// The address at which it listens.
-    pub fn local_addr(&self) -> Option<SocketAddr> {
-        self.listener.as_ref()?.local_addr().ok()
     }
 
     // A listener at the address.
@@ -177,6 +202,7 @@ impl<R: Net + Clock + Drop> TcpPorts<R> {
 
     fn fault(&mut self) -> Fault
         ensures opened { self.new.opened ≡ self.old.opened }
+        ensures listens { self.new.listens ≡ self.old.listens }
         ensures rose { Rose self.old.faults self.new.faults }
         ensures later { self.old.faults ≤ self.new.faults }
     {
@@ -314,16 +340,14 @@ impl<R: Net + Clock + Drop> TcpPorts<R> {
     }
 
     // Asks what is ready, and waits for that if nobody waits for a turn.
-    fn wait(&mut self) -> Result<(), Fault>
+    fn wait(&mut self) -> io::Result<()>
         ensures { self.new ≡ self.old }
     {
         let millis = if self.table.is_calm() { WAIT_MILLIS } else { 0 };
         let Some(poller) = &mut self.poller else {
-            return Err(Fault);
+            return Err(io::Error::from(ErrorKind::NotConnected));
         };
-        if poller.wait(Duration::from_millis(millis)).is_err() {
-            return Err(Fault);
-        }
+        poller.wait(Duration::from_millis(millis))?;
         self.table.note(poller);
         self.table.begin_round();
         self.tick();
@@ -360,6 +384,23 @@ impl<R: Net + Clock + Drop> Ports for TcpPorts<R> {
 
     ghost told = { λ _. None };
 
+    ghost listens = { λ p. p.listens };
+
+    // The address is a host and a port as in `127.0.0.1:7000`. It fails if that isn't one, or the system doesn't let it
+    // listen there.
+    fn listen(&mut self, address: &[u8]) -> Result<(), Fault> {
+        match self.listen_at(address) {
+            Ok(()) => Ok(()),
+            Err(cause) => {
+                self.last = Some(Last {
+                    refused: Bytes::copied(self.alloc, address).ok(),
+                    cause,
+                });
+                Err(self.fault())
+            }
+        }
+    }
+
     // Where it doesn't listen it fails.
     fn next(&mut self, buf: &mut [u8]) -> Result<Arrival, Fault> {
         self.tick();
@@ -369,8 +410,15 @@ impl<R: Net + Clock + Drop> Ports for TcpPorts<R> {
         if let Some(arrival) = self.round(buf) {
             return Ok(arrival);
         }
-        if self.wait().is_err() {
-            return Err(self.fault());
+        match self.wait() {
+            Ok(()) => {}
+            Err(e) => {
+                self.last = Some(Last {
+                    refused: None,
+                    cause: Cause::of(e),
+                });
+                return Err(self.fault());
+            }
         }
         if let Some(port) = self.late() {
             self.table.remove(port);

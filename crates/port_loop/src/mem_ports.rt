@@ -46,6 +46,7 @@ pub struct MemPorts {
     is_lost: bool,
     opened: u64,
     faults: u64,
+    listens: Option<Bytes>,
 }
 
 impl Model for MemPorts {
@@ -53,7 +54,12 @@ impl Model for MemPorts {
 
     ghost Value = { Known };
 
-    ghost view = { λ p. record { opened = p.opened; faults = p.faults; told = told_of p.is_lost p.log } };
+    ghost view = { λ p. record {
+      opened = p.opened;
+      faults = p.faults;
+      told = told_of p.is_lost p.log;
+      listens = p.listens;
+    } };
 }
 
 // Copies the front of some bytes, as much as there is room for, and gives how much that is.
@@ -82,6 +88,7 @@ impl MemPorts {
             is_lost: false,
             opened: 0,
             faults: 0,
+            listens: None,
         }
     }
 
@@ -98,6 +105,7 @@ impl MemPorts {
     fn fault(&mut self) -> Fault
         ensures opened { self.new.opened ≡ self.old.opened }
         ensures told { self.new.told ≡ self.old.told }
+        ensures listens { self.new.listens ≡ self.old.listens }
         ensures rose { Rose self.old.faults self.new.faults }
         ensures later { self.old.faults ≤ self.new.faults }
     {
@@ -109,6 +117,7 @@ impl MemPorts {
     fn note(&mut self, happening: Happening)
         ensures told { Adds happening self.old.told self.new.told }
         ensures opened { self.new.opened ≡ self.old.opened }
+        ensures listens { self.new.listens ≡ self.old.listens }
         ensures faults { self.new.faults ≡ self.old.faults }
     {
         match self.log.push(happening) {
@@ -178,6 +187,7 @@ impl MemPorts {
         requires { count ≤ length bytes.now }
         ensures puts { PutsOn port self.old.told self.new.told (Ok count) bytes.now }
         ensures opened { self.new.opened ≡ self.old.opened }
+        ensures listens { self.new.listens ≡ self.old.listens }
         ensures faults { self.new.faults ≡ self.old.faults }
     {
         let (front, rest) = bytes.split_at(count);
@@ -198,6 +208,19 @@ impl Ports for MemPorts {
     ghost faults = { λ p. p.faults };
 
     ghost told = { λ p. p.told };
+
+    ghost listens = { λ p. p.listens };
+
+    // It fails only if there is no memory for the address.
+    fn listen(&mut self, address: &[u8]) -> Result<(), Fault> {
+        match Bytes::copied(self.alloc, address) {
+            Ok(address) => {
+                self.listens = Some(address);
+                Ok(())
+            }
+            Err(_) => Err(self.fault()),
+        }
+    }
 
     fn next(&mut self, buf: &mut [u8]) -> Result<Arrival, Fault> {
         match self.planned() {

@@ -1,4 +1,4 @@
-ghost use Rattle.std.specs.Prelude.{◌≡◌, ℕ, List, Option};
+ghost use Rattle.std.specs.Prelude.{◌≡◌, ℕ, List, Option, Some, OnOk, OnErr};
 ghost use Rattle.osd_bytes.specs.Causes.{HasCause};
 ghost use Rattle.port_loop.specs.Ports.{Adds, Arrives, Opens, PutsOn};
 ghost use Rattle.port_loop.specs.declared.ports.Happening.{Happening};
@@ -68,7 +68,8 @@ pub enum Happening {
     Passed,
 }
 
-/// Connections that stand side by side, each under a number of its own, which is never used again.
+/// Connections that stand side by side, each under a number of its own, which is never used again. They are those that
+/// peers open at the address at which the ports listen, and those that are opened from here.
 ///
 /// No call waits for one peer: `next` waits for all of them, and `put` leaves what there is no room for. A connection on
 /// which a `put` didn't take all is full until it drains.
@@ -84,9 +85,21 @@ pub trait Ports {
     /// What happened on the connections, the newest first, if the ports tell that. They may cease to.
     ghost told: { Self → Option (List Happening) };
 
+    /// The address at which they listen, if they do.
+    ghost listens: { Self → Option (List ℕ) };
+
+    /// Listens at an address in place of the one before. After a [`Fault`] they listen where they did.
+    fn listen(&mut self, address: &[u8]) -> Result<(), Fault>
+        ensures ok { OnOk result (listens self.new ≡ Some address.now) }
+        ensures err { OnErr result (listens self.new ≡ listens self.old) }
+        ensures told { told self.new ≡ told self.old }
+        ensures opened { opened self.new ≡ opened self.old }
+        ensures cause { HasCause (faults self.old) (faults self.new) result };
+
     /// Waits for what happens next on any connection, at most for a while. The buffer isn't empty.
     fn next(&mut self, buf: &mut [u8]) -> Result<Arrival, Fault>
         ensures arrives { Arrives (opened self.old) (opened self.new) (told self.old) (told self.new) result buf.new }
+        ensures listens { listens self.new ≡ listens self.old }
         ensures cause { HasCause (faults self.old) (faults self.new) result };
 
     /// Begins a connection towards a node, under the next number. It is open then. One that can't be connected ends.
@@ -96,17 +109,20 @@ pub trait Ports {
     /// [`Fault`] if it can't be begun, as for want of the node's address.
     fn open(&mut self, to: Node) -> Result<u64, Fault>
         ensures opens { Opens to (opened self.old) (opened self.new) (told self.old) (told self.new) result }
+        ensures listens { listens self.new ≡ listens self.old }
         ensures cause { HasCause (faults self.old) (faults self.new) result };
 
     /// Puts bytes on a connection, from the front, as many as there is room for; perhaps none.
     fn put(&mut self, port: u64, bytes: &[u8]) -> Result<usize, Fault>
         ensures puts { PutsOn port (told self.old) (told self.new) result bytes.now }
         ensures opened { opened self.new ≡ opened self.old }
+        ensures listens { listens self.new ≡ listens self.old }
         ensures cause { HasCause (faults self.old) (faults self.new) result };
 
     /// Closes a connection. It never fails.
     fn close(&mut self, port: u64)
         ensures told { Adds (Closed port) (told self.old) (told self.new) }
         ensures opened { opened self.new ≡ opened self.old }
+        ensures listens { listens self.new ≡ listens self.old }
         ensures same { faults self.new ≡ faults self.old };
 }

@@ -88,6 +88,7 @@ fn put_out<H: Handler, P: Ports>(
         (around (P.opened ports.old) (P.told ports.old) desk over.old) (on port []) (holding port session (get nat_cmp table.old))
         (around (P.opened ports.new) (P.told ports.new) desk over.new) calm (get nat_cmp table.new) result }
     ensures one { over.new ≤ over.old + 1 }
+    ensures listens { P.listens ports.new ≡ P.listens ports.old }
     ensures later { P.faults ports.old ≤ P.faults ports.new }
 {
     match ports.put(port, session.unsent()) {
@@ -129,6 +130,7 @@ fn bring<H: Handler, P: Ports, C: Clock>(
     ensures one { over.new ≤ over.old + 1 }
     ensures goes_on { OnOk result (H.goes_on server.new) }
     ensures handler { IsErrOf result Failed → Rose (H.faults server.old) (H.faults server.new) }
+    ensures listens { P.listens ports.new ≡ P.listens ports.old }
     ensures later { P.faults ports.old ≤ P.faults ports.new }
     ensures server_later { H.faults server.old ≤ H.faults server.new }
 {
@@ -155,6 +157,7 @@ fn drain<H: Handler, P: Ports>(
         (around (P.opened ports.old) before desk over.old) calm (get nat_cmp table.old)
         (around (P.opened ports.new) (P.told ports.new) desk over.new) calm (get nat_cmp table.new) result }
     ensures one { over.new ≤ over.old + 1 }
+    ensures listens { P.listens ports.new ≡ P.listens ports.old }
     ensures later { P.faults ports.old ≤ P.faults ports.new }
 {
     match lift(table, port) {
@@ -197,6 +200,7 @@ fn turn<H: Handler, P: Ports, C: Clock>(
     ensures port_goes_on { IsErrOf result PortFault → H.goes_on server.new }
     ensures port { IsErrOf result PortFault → Rose (P.faults ports.old) (P.faults ports.new) }
     ensures handler { IsErrOf result HandlerFault → Rose (H.faults server.old) (H.faults server.new) }
+    ensures listens { P.listens ports.new ≡ P.listens ports.old }
     ensures later { P.faults ports.old ≤ P.faults ports.new }
     ensures server_later { H.faults server.old ≤ H.faults server.new }
 {
@@ -239,6 +243,7 @@ pub fn serve_many<H: Handler, P: Ports, C: Clock>(
     requires { H.goes_on server.old }
     ensures serves { Serves H.Handler (desk_at server.old (C.times clock.old)) (desk_at server.new (C.times clock.new))
         (P.told ports.old) (P.told ports.new) connections turns result }
+    ensures listens { P.listens ports.new ≡ P.listens ports.old }
     ensures port { IsErrOf result PortFault → Rose (P.faults ports.old) (P.faults ports.new) }
     ensures handler { IsErrOf result HandlerFault → Rose (H.faults server.old) (H.faults server.new) }
 {

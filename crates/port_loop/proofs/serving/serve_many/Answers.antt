@@ -14,6 +14,7 @@ loop-init g c = record {
   moves = moves-zero refl (λ first since steps h. goes-at c.empty-table.ensures h);
   few = search rules;
   goes_on = c.requires;
+  listens = search rules;
   ports = search rules;
   server = search rules;
 }
@@ -37,6 +38,7 @@ loop-preserved g c = record {
   moves = moves-then c.loop.invariant.moves c.in_ok-turn.ensures.turns;
   few = search rules;
   goes_on = c.in_ok-turn.ensures.goes_on;
+  listens = search rules;
   ports = search rules;
   server = search rules;
 }

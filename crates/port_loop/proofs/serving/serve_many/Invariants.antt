@@ -1,4 +1,4 @@
-use Rattle.std.proofs.Common.{None, ◌≤◌}
+use Rattle.std.proofs.Common.{None, ◌≡◌, ◌≤◌}
 use Rattle.std.specs.Ordering.{nat_cmp}
 use Rattle.std.specs.BTreeMap.{get}
 use Rattle.port_loop.specs.Points.{Moves, around, calm}
@@ -14,6 +14,7 @@ invariant-loop g l = record {
       (get nat_cmp l.table);
   few : l.over ≤ l.connections;
   goes_on : g.H.Handler.goes_on l.server;
+  listens : g.P.Ports.listens l.ports ≡ g.P.Ports.listens l.initial.ports;
   ports : g.P.Ports.faults l.initial.ports ≤ g.P.Ports.faults l.ports;
   server : g.H.Handler.faults l.initial.server ≤ g.H.Handler.faults l.server;
 }
