@@ -1,5 +1,5 @@
 -- What is seen of connections over TCP.
-use Rattle.std.specs.Prelude.{◌≡◌, ℕ, ◌<◌, ◌≤◌, List, length, ⊤, Option, None, Some, Ok}
+use Rattle.std.specs.Prelude.{◌≡◌, ℕ, ◌+◌, ◌<◌, ◌≤◌, List, length, ⊤, Option, None, Some, Ok}
 use Rattle.port_loop.specs.Ports.{Arrives}
 use Rattle.port_loop.specs.declared.ports.Arrival.{Arrival}
 use Rattle.port_loop.specs.declared.ports.Arrival.TheVariants.{Opens, Brings as BringsOn, Drains as DrainsOn, Closes, Quiet}
@@ -30,6 +30,12 @@ ArrivesOn p (Some (BringsOn q n)) buf = (q ≡ p) × (0 < n) × (n ≤ length bu
 ArrivesOn p (Some (DrainsOn q)) buf = q ≡ p
 ArrivesOn p (Some (Closes q)) buf = q ≡ p
 ArrivesOn p (Some Quiet) buf = ⊥
+
+-- one more is open, under the next number, or nothing is changed
+abbrev pub Begun : (old new : Counted) → Option ℕ → Type 0
+Begun old new None = new ≡ old
+Begun old new (Some p) =
+    (new.faults ≡ old.faults) × (new.listens ≡ old.listens) × (p ≡ old.opened) × (new.opened ≡ old.opened + 1)
 
 -- something arrived, or nothing is changed
 abbrev pub Arrived : (old new : Counted) → Option Arrival → List ℕ → Type 0

@@ -18,16 +18,19 @@ pub struct PortLimits {
     pub idle: Duration,
     /// How long a peer may keep silent within a record or a reply, and how long it may take over a whole one.
     pub record: Limits,
+    /// How long a node that is asked may take to connect or to begin an answer, and how long it may take over a whole command.
+    pub asked: Limits,
 }
 
 impl PortLimits {
-    /// The limits of the program: [`MOST_CONNECTIONS`], [`IDLE_SECONDS`], and for records what [`Patience`] has for a peer
-    /// that connected.
+    /// The limits of the program: [`MOST_CONNECTIONS`], [`IDLE_SECONDS`], and what [`Patience`] has for a peer that connected,
+    /// and for a drive that a server asks.
     pub fn usual() -> Self {
         PortLimits {
             connections: MOST_CONNECTIONS,
             idle: Duration::from_secs(IDLE_SECONDS),
             record: Patience::usual().caller,
+            asked: Patience::usual().drive_of_server,
         }
     }
 }

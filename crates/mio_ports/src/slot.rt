@@ -2,6 +2,7 @@ ghost use Rattle.std.specs.Prelude.{◌≤◌, ℕ, List, length, IfOk};
 ghost use Rattle.std.specs.Io.{WritesAtMost};
 ghost use Rattle.mio_ports.specs.Counted.{BringsSome};
 
+use crate::limits::PortLimits;
 use mio::net::TcpStream;
 use osd_bytes::Fault;
 use osd_links::Limits;
@@ -31,8 +32,10 @@ enum Phase {
     Rests,
     // A record is coming, or its reply isn't put yet.
     Comes(Duration),
-    // A reply is going.
+    // A reply or a command is going.
     Goes(Duration),
+    // An answer is owed, of which nothing came.
+    Owes(Duration),
 }
 
 // How many bytes were written, and whether the system had no room for more.
@@ -46,6 +49,8 @@ struct Written {
 #[derive(Drop)]
 pub(crate) struct Slot {
     stream: TcpStream,
+    // It was opened from here: its peer is asked, and answers.
+    is_asked: bool,
     // It stands in the queue of those that may have something.
     pub(crate) is_queued: bool,
     // A put didn't take all, and it wasn't told that there is room since.
@@ -107,10 +112,11 @@ fn write_some<S: Write>(stream: &mut S, bytes: &[u8]) -> Result<Written, Fault>
 }
 
 impl Slot {
-    /// A connection that began now. The time of its first record begins.
+    /// A connection that others began now. The time of its first record begins.
     pub(crate) fn new(stream: TcpStream, now: Duration) -> Self {
         Slot {
             stream,
+            is_asked: false,
             is_queued: false,
             is_full: false,
             has_room: false,
@@ -119,6 +125,14 @@ impl Slot {
             heard: now,
             phase: Phase::Comes(now),
         }
+    }
+
+    /// A connection that was opened from here now, to ask its peer.
+    pub(crate) fn asking(stream: TcpStream, now: Duration) -> Self {
+        let mut slot = Slot::new(stream, now);
+        slot.is_asked = true;
+        slot.phase = Phase::Rests;
+        slot
     }
 
     /// When a byte last came or went.
@@ -141,41 +155,54 @@ impl Slot {
         }
     }
 
-    // Since when a record is coming or a reply is going.
+    // Since when a record is coming, or a reply or a command is going.
     fn busy_since(&self) -> Option<Duration> {
         match self.phase {
-            Phase::Rests => None,
+            Phase::Rests | Phase::Owes(_) => None,
             Phase::Comes(since) | Phase::Goes(since) => Some(since),
         }
     }
 
+    // How long its peer is waited for.
+    fn limits(&self, limits: &PortLimits) -> Limits {
+        if self.is_asked {
+            limits.asked
+        } else {
+            limits.record
+        }
+    }
+
     // Whether bytes came or went when the time of the record or the reply was up, and it isn't whole since.
-    fn is_overdue(&self, whole: Duration) -> bool {
+    fn is_overdue(&self, limits: &PortLimits) -> bool {
         match self.busy_since() {
-            Some(since) => self.heard.saturating_sub(since) >= whole,
+            Some(since) => self.heard.saturating_sub(since) >= self.limits(limits).whole,
             None => false,
         }
     }
 
     /// Whether the peer kept silent too long, or takes too long over a record or a reply. What it did isn't known while it waits
     /// for its turn.
-    pub(crate) fn is_late(&self, now: Duration, idle: Duration, record: Limits) -> bool {
+    pub(crate) fn is_late(&self, now: Duration, limits: &PortLimits) -> bool {
         if self.is_queued {
             return false;
         }
         let silent = now.saturating_sub(self.heard);
-        match self.busy_since() {
-            Some(since) => silent >= record.silence || now.saturating_sub(since) >= record.whole,
-            None => silent >= idle,
+        let Limits { silence, whole } = self.limits(limits);
+        match self.phase {
+            Phase::Rests => silent >= limits.idle,
+            Phase::Comes(since) | Phase::Goes(since) => {
+                silent >= silence || now.saturating_sub(since) >= whole
+            }
+            Phase::Owes(since) => now.saturating_sub(since) >= silence,
         }
     }
 
     /// What it has at its turn. One that is full isn't read.
-    pub(crate) fn turn(&mut self, buf: &mut [u8], now: Duration, whole: Duration) -> Turn
+    pub(crate) fn turn(&mut self, buf: &mut [u8], now: Duration, limits: &PortLimits) -> Turn
         ensures { BringsSome result buf.new }
     {
         self.is_queued = false;
-        if self.is_overdue(whole) {
+        if self.is_overdue(limits) {
             return Turn::Ends;
         }
         if self.is_full {
@@ -206,9 +233,12 @@ impl Slot {
         if let Turn::Brings(count) = turn {
             self.may_have_more = self.is_ending || count == size;
             self.heard = now;
-            if let Phase::Rests = self.phase {
-                self.phase = Phase::Comes(now);
-            }
+            self.phase = match self.phase {
+                Phase::Goes(since) => Phase::Goes(since),
+                Phase::Comes(since) => Phase::Comes(since),
+                _ if self.is_asked => Phase::Rests,
+                _ => Phase::Comes(now),
+            };
         }
     }
 
@@ -225,7 +255,7 @@ impl Slot {
         }
     }
 
-    // What a put of so many bytes gave. If all are written, nothing is due.
+    // What a put of so many bytes gave. If all are written, nothing is due but the answer of a peer that is asked.
     fn note_put(&mut self, written: Written, wanted: usize, now: Duration) {
         if written.count > 0 {
             self.heard = now;
@@ -238,7 +268,11 @@ impl Slot {
                 _ => Phase::Goes(now),
             };
         } else if wanted > 0 {
-            self.phase = Phase::Rests;
+            self.phase = match self.phase {
+                Phase::Owes(since) => Phase::Owes(since),
+                _ if self.is_asked => Phase::Owes(now),
+                _ => Phase::Rests,
+            };
         }
     }
 }

@@ -7,7 +7,6 @@ use crate::limits::PortLimits;
 use crate::poller::Poller;
 use crate::slot::{Slot, Turn};
 use mio::Token;
-use mio::net::TcpStream;
 use osd_bytes::Fault;
 use port_loop::Arrival;
 use std::alloc::Global;
@@ -127,12 +126,12 @@ impl Table {
         self.slots.len() >= self.limits.connections
     }
 
-    /// Keeps a connection that began now. Whether there was room and memory for it.
-    pub(crate) fn keep(&mut self, port: u64, stream: TcpStream, now: Duration) -> bool {
+    /// Keeps a connection. Whether there was room and memory for it.
+    pub(crate) fn keep(&mut self, port: u64, slot: Slot) -> bool {
         if self.slots.len() >= self.limits.connections {
             return false;
         }
-        let is_kept = self.slots.insert(port, Slot::new(stream, now)).is_ok();
+        let is_kept = self.slots.insert(port, slot).is_ok();
         self.queue(port);
         is_kept
     }
@@ -154,7 +153,7 @@ impl Table {
         let late = self
             .slots
             .iter()
-            .find(|(_, slot)| slot.is_late(now, limits.idle, limits.record))?;
+            .find(|(_, slot)| slot.is_late(now, &limits))?;
         Some(*late.0)
     }
 
@@ -162,9 +161,9 @@ impl Table {
     pub(crate) fn turn(&mut self, port: u64, buf: &mut [u8], now: Duration) -> Option<Arrival>
         ensures { ArrivesOn port result buf.new }
     {
-        let whole = self.limits.record.whole;
+        let limits = self.limits;
         let slot = self.slots.get_mut(&port)?;
-        let turn = slot.turn(buf, now, whole);
+        let turn = slot.turn(buf, now, &limits);
         if slot.wants_turn() {
             self.queue(port);
         }

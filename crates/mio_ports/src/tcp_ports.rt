@@ -3,13 +3,15 @@ ghost use Rattle.osd_bytes.specs.Causes.{Rose};
 
 use crate::limits::PortLimits;
 use crate::poller::Poller;
+use crate::slot::Slot;
 use crate::table::{LISTENER, Table};
 use mio::Token;
 use mio::net::{TcpListener, TcpStream};
-use osd_bytes::{Bytes, Fault};
+use osd_bytes::{Bytes, Fault, Node, Peers};
 use osd_links::{Cause, LinkFault, Party};
 use port_loop::{Arrival, Ports};
 use std::alloc::Global;
+use std::collections::VecDeque;
 use std::io::{self, ErrorKind};
 use std::marker::Model;
 use std::net::{Net, ToSocketAddrs};
@@ -29,12 +31,14 @@ struct Last {
     cause: Cause,
 }
 
-/// Connections over TCP that were accepted, as far as [`PortLimits`] allow.
+/// Connections over TCP that were accepted or opened, as far as [`PortLimits`] allow. Addresses are a host and a port, and of
+/// the places of a host that is asked the first one is taken.
 ///
 /// They have their turns one after the other: a connection brings one piece, then each other that has something. A full one
 /// isn't read until there is room on it again. A peer that is silent too long, or takes too long over a record or a reply, is
-/// hung up on; the time of a record begins with the connection, or with its first byte after a reply. If the
-/// table is full and one more comes, the connection that was silent longest goes.
+/// hung up on; the time of a record begins with the connection, or with its first byte after a reply. A peer that is asked has
+/// its time for a command until all of it is written, and then for the first byte of an answer. If the table is full and one
+/// more comes or is opened, the connection that was silent longest goes.
 ///
 /// The bytes are the system's: no contract says that they are those of the socket, or that something comes at all.
 #[derive(Drop)]
@@ -46,6 +50,10 @@ pub struct TcpPorts<R: Net + Clock> {
     listener: Option<TcpListener>,
     // Where it listens.
     address: Option<Bytes>,
+    // Where nodes are asked.
+    peers: Peers,
+    // Connections that went for others, and of which that isn't told yet.
+    gone: VecDeque<u64>,
     // A connection that was accepted when the table was full.
     newcomer: Option<TcpStream>,
     // The time of a clock that doesn't go back, as it was read last.
@@ -86,7 +94,7 @@ fn next_stream(listener: &TcpListener) -> io::Result<TcpStream> {
 }
 
 impl<R: Net + Clock + Drop> TcpPorts<R> {
-    ghost use Rattle.mio_ports.specs.Counted.{Arrived, nothing_counted};
+    ghost use Rattle.mio_ports.specs.Counted.{Arrived, Begun, nothing_counted};
 
     /// No connections, which nobody listens for yet, by a handle of the runtime.
     pub fn new(runtime: R, alloc: Global, limits: PortLimits) -> Self
@@ -99,6 +107,8 @@ impl<R: Net + Clock + Drop> TcpPorts<R> {
             poller: None,
             listener: None,
             address: None,
+            peers: Peers::new(alloc),
+            gone: VecDeque::new(alloc),
             newcomer: None,
             now: Duration::ZERO,
             looked: Duration::ZERO,
@@ -143,6 +153,13 @@ impl<R: Net + Clock + Drop> TcpPorts<R> {
         Ok(())
     }
 
+    /// These are the addresses of the nodes that may be asked.
+    pub fn meet(&mut self, peers: Peers)
+        ensures { self.new ≡ self.old }
+    {
+        self.peers = peers;
+    }
+
     // A listener at the address.
     fn listener_at(&self, address: &[u8]) -> Result<TcpListener, Cause> {
         let Ok(address) = str::from_utf8(address) else {
@@ -162,13 +179,21 @@ impl<R: Net + Clock + Drop> TcpPorts<R> {
         Err(cause)
     }
 
-    // Has the waits tell of the listener.
-    fn watch(&mut self, listener: &mut TcpListener) -> io::Result<()>
+    // Has something that waits for readiness.
+    fn have_poller(&mut self) -> io::Result<()>
         ensures { self.new ≡ self.old }
     {
         if self.poller.is_none() {
             self.poller = Some(Poller::new(&self.runtime, self.alloc)?);
         }
+        Ok(())
+    }
+
+    // Has the waits tell of the listener.
+    fn watch(&mut self, listener: &mut TcpListener) -> io::Result<()>
+        ensures { self.new ≡ self.old }
+    {
+        self.have_poller()?;
         match &self.poller {
             Some(poller) => poller.add(listener, LISTENER),
             None => Ok(()),
@@ -216,17 +241,29 @@ impl<R: Net + Clock + Drop> TcpPorts<R> {
         }
     }
 
-    // Keeps a stream under the next number. Where that fails the stream is dropped.
-    fn keep(&mut self, mut stream: TcpStream) -> bool
-        ensures { self.new ≡ self.old }
+    // Keeps a stream under the next number, of one that was accepted or is asked. Where that fails the stream is dropped.
+    fn keep(&mut self, mut stream: TcpStream, is_asked: bool) -> Option<u64>
+        ensures { Begun self.old self.new result }
     {
         let port = self.opened;
+        if port == u64::MAX {
+            return None;
+        }
         let _ = stream.set_nodelay(true);
         let is_watched = match &self.poller {
             Some(poller) => poller.add(&mut stream, Token(port as usize)).is_ok(),
             None => false,
         };
-        is_watched && self.table.keep(port, stream, self.now)
+        let slot = if is_asked {
+            Slot::asking(stream, self.now)
+        } else {
+            Slot::new(stream, self.now)
+        };
+        if !is_watched || !self.table.keep(port, slot) {
+            return None;
+        }
+        self.opened += 1;
+        Some(port)
     }
 
     // What comes of the listener's turn: a new connection, or the end of one that makes room for it.
@@ -241,12 +278,38 @@ impl<R: Net + Clock + Drop> TcpPorts<R> {
             self.table.remove(port);
             return Some(Arrival::Closes { port });
         }
-        if self.opened == u64::MAX || !self.keep(stream) {
-            return None;
-        }
-        let port = self.opened;
-        self.opened += 1;
+        let port = self.keep(stream, false)?;
         Some(Arrival::Opens { port })
+    }
+
+    // A stream that begins to connect to a node.
+    fn connecting(&self, to: Node) -> Option<TcpStream> {
+        let peer = self.peers.as_slice().iter().find(|peer| peer.node == to)?;
+        let address = str::from_utf8(peer.address.as_slice()).ok()?;
+        let place = address.to_socket_addrs(&self.runtime).ok()?.next()?;
+        TcpStream::connect(&self.runtime, place).ok()
+    }
+
+    // Has room for one connection more. If the table is full, the one that was silent longest goes.
+    fn make_room(&mut self) -> Option<()>
+        ensures { self.new ≡ self.old }
+    {
+        if self.table.is_full() {
+            let port = self.table.longest_silent()?;
+            self.gone.push_back(port).ok()?;
+            self.table.remove(port);
+        }
+        Some(())
+    }
+
+    // A connection towards a node, under the next number.
+    fn begin(&mut self, to: Node) -> Option<u64>
+        ensures { Begun self.old self.new result }
+    {
+        let stream = self.connecting(to)?;
+        self.have_poller().ok()?;
+        self.make_room()?;
+        self.keep(stream, true)
     }
 
     // What comes of the next turn.
@@ -341,6 +404,9 @@ impl<R: Net + Clock + Drop> Ports for TcpPorts<R> {
     // Where it doesn't listen it fails.
     fn next(&mut self, buf: &mut [u8]) -> Result<Arrival, Fault> {
         self.tick();
+        if let Some(port) = self.gone.pop_front() {
+            return Ok(Arrival::Closes { port });
+        }
         if let Some(arrival) = self.round(buf) {
             return Ok(arrival);
         }
@@ -361,6 +427,14 @@ impl<R: Net + Clock + Drop> Ports for TcpPorts<R> {
         match self.round(buf) {
             Some(arrival) => Ok(arrival),
             None => Ok(Arrival::Quiet),
+        }
+    }
+
+    fn open(&mut self, to: Node) -> Result<u64, Fault> {
+        self.tick();
+        match self.begin(to) {
+            Some(port) => Ok(port),
+            None => Err(self.fault()),
         }
     }
 

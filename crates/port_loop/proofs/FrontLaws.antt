@@ -1,7 +1,7 @@
 -- What was put on a connection by lawful steps.
 use Rattle.std.proofs.Common.{ℕ, List, [], ◌∷◌, ◌++◌, refl, sym, ap, ◌∙◌, append_assoc}
 use Rattle.port_loop.specs.Ports.{went_on}
-use Rattle.port_loop.specs.declared.ports.Happening.TheVariants.{Began, Came, Went, Failed, Drained, Ended, Closed, Passed}
+use Rattle.port_loop.specs.declared.ports.Happening.TheVariants.{Began, Opened, Refused, Came, Went, Failed, Drained, Ended, Closed, Passed}
 use Rattle.port_loop.specs.Steps.{Answer, Change, Handled, IsFrontOnEach, Lawful, Step, Unsent, after_all, frames_on, handled_in, happened}
 use Rattle.port_loop.specs.Steps.Step.{Happens, Handles}
 use Rattle.port_loop.proofs.ListLaws.{everywhere, frames-append, same}
@@ -22,6 +22,8 @@ pub fronts : {S : Type 0} (reply : Answer S) (step : Change S) (first : S) (step
 fronts reply step first [] l = λ p. ([], refl)
 fronts reply step first (Handles h ∷ older) l = λ p. more-owed reply step first h older p (fronts reply step first older l.1 p)
 fronts reply step first (Happens (Began q) ∷ older) l = fronts reply step first older l.1
+fronts reply step first (Happens (Opened q to) ∷ older) l = absurd l.0
+fronts reply step first (Happens (Refused to) ∷ older) l = absurd l.0
 fronts reply step first (Happens (Came q bytes) ∷ older) l = fronts reply step first older l.1
 fronts reply step first (Happens (Failed q) ∷ older) l = fronts reply step first older l.1
 fronts reply step first (Happens (Drained q) ∷ older) l = fronts reply step first older l.1
@@ -34,3 +36,22 @@ fronts reply step first (Happens (Went q bytes full) ∷ older) l = λ p.
       rw (same q) (l.0.2 ∙ sym (append_assoc (went_on q (happened older)) bytes l.0.1)),
     )
     (λ ne. let u = fronts reply step first older l.1 p in (u.0, rw ne u.1))
+
+-- all connections that are open were begun by others
+pub guests : {S : Type 0} (reply : Answer S) (step : Change S) (first : S) (steps : List Step) (p : ℕ)
+    → Lawful reply step first steps → is_guest p (happened steps) ≡ is_open p (happened steps)
+guests reply step first [] p l = refl
+guests reply step first (Handles h ∷ older) p l = guests reply step first older p l.1
+guests reply step first (Happens (Began q) ∷ older) p l =
+    ap (λ (b : Bool). if nat_eq q p then true else b) (guests reply step first older p l.1)
+guests reply step first (Happens (Opened q to) ∷ older) p l = absurd l.0
+guests reply step first (Happens (Refused to) ∷ older) p l = absurd l.0
+guests reply step first (Happens (Came q bytes) ∷ older) p l = guests reply step first older p l.1
+guests reply step first (Happens (Went q bytes full) ∷ older) p l = guests reply step first older p l.1
+guests reply step first (Happens (Failed q) ∷ older) p l = guests reply step first older p l.1
+guests reply step first (Happens (Drained q) ∷ older) p l = guests reply step first older p l.1
+guests reply step first (Happens (Ended q) ∷ older) p l =
+    ap (λ (b : Bool). if nat_eq q p then false else b) (guests reply step first older p l.1)
+guests reply step first (Happens (Closed q) ∷ older) p l =
+    ap (λ (b : Bool). if nat_eq q p then false else b) (guests reply step first older p l.1)
+guests reply step first (Happens Passed ∷ older) p l = guests reply step first older p l.1

@@ -13,6 +13,7 @@ use Rattle.port_loop.specs.Serving.{Desk, HandlesAll}
 use Rattle.port_loop.specs.Sessions.{Reads, Sess, new_session, read_on}
 use Rattle.port_loop.specs.Steps.{Answer, Change, Follows, Handled, HasEnd, Step, Taken, after_all, frames_on, handled_in, happened, record_of, taken_in, taken_on, whole_in}
 use Rattle.port_loop.specs.Steps.Step.{Happens, Handles}
+use Rattle.port_loop.proofs.FrontLaws.{guests}
 use Rattle.port_loop.proofs.ListLaws.{after-append, everywhere, frames-append, handles-append, other, same}
 use Rattle.port_loop.proofs.StepLaws.{Alike, alike-other, apart, full-other, goes-settled, opens, port_of, rests-alike, stands-alike, unused-other}
 
@@ -157,8 +158,9 @@ goes-ended {H} {v} {first} {since} {a} {b} {at} {bt} {steps} p opened desk over 
   where
     ended : (o : Option Sess) → IsHeld v.reply_to v.state_after first steps p o → b.over ≡ with_over o a.over →
         b.over ≡ over_in (Ended p ∷ happened steps)
-    ended None shut e = rw shut (e ∙ g.over)
-    ended (Some s) held e = rw held.0 (e ∙ ap (λ (n : ℕ). n + 1) g.over)
+    ended None shut e = rw (guests v.reply_to v.state_after first steps p g.lawful, shut) (e ∙ g.over)
+    ended (Some s) held e =
+        rw (guests v.reply_to v.state_after first steps p g.lawful, held.0) (e ∙ ap (λ (n : ℕ). n + 1) g.over)
 
 -- ---- what the loop does
 
@@ -212,7 +214,8 @@ pub goes-closed : {H : Type 0} {v : Ghosts H} {first : v.State} {since : Desk H}
 goes-closed {H} {v} {first} {since} {a} {b} {at} {bt} {steps} p s is ends opened desk over sets g =
     let h : IsHeld v.reply_to v.state_after first steps p (Some s) =
     opens v.reply_to v.state_after first steps p s (at p) is (g.each p) in
-    goes-happens (Closed p) ends g.records desk (rw h.0 (over ∙ ap (λ (n : ℕ). n + 1) g.over))
+    goes-happens (Closed p) ends g.records desk
+    (rw (guests v.reply_to v.state_after first steps p g.lawful, h.0) (over ∙ ap (λ (n : ℕ). n + 1) g.over))
     (subst (λ (o : Option Sess). IsHeld v.reply_to v.state_after first (Happens (Closed p) ∷ steps) p o) (sym sets.here) (rw
     (same p) refl))
     (λ idle. subst (λ (o : Option Sess). Rests (Happens (Closed p) ∷ steps) p o) (sym sets.here) tt)

@@ -1,4 +1,4 @@
-mod ListLaws
+pub mod ListLaws
 pub mod FrontLaws
 mod StepLaws
 mod GoingLaws

@@ -68,13 +68,15 @@ pub adds-one : (h : Happening) (a b : Option (List Happening)) → Adds h a b �
 adds-one h a b (inl e) = inl e
 adds-one h a b (inr e) = inr e
 
+pub adds-more : (x y : List Happening) (a b c : Option (List Happening)) → AddsAll x a b → AddsAll y b c →
+    AddsAll (y ++ x) a c
+adds-more x y a b c e (inl f) = inl f
+adds-more x y a b c (inl e) (inr f) = inl (f ∙ ap (onto y) e)
+adds-more x y a b c (inr e) (inr f) = inr (f ∙ ap (onto y) e ∙ onto-then x y a)
+
 pub adds-then : (x y : List Step) (a b c : Option (List Happening)) → AddsAll (happened x) a b → AddsAll (happened y) b c →
     AddsAll (happened (y ++ x)) a c
-adds-then x y a b c e (inl f) = inl f
-adds-then x y a b c (inl e) (inr f) = inl (f ∙ ap (onto (happened y)) e)
-adds-then x y a b c (inr e) (inr f) =
-    inr (f ∙ ap (onto (happened y)) e ∙ onto-then (happened x) (happened y) a
-    ∙ ap (λ (l : List Happening). onto l a) (sym (happened-append y x)))
+adds-then x y a b c e f = rw (happened-append y x) (adds-more (happened x) (happened y) a b c e f)
 
 pub waits-append : (x y : List Step) (n m : ℕ) → waits_in x ≡ n → waits_in y ≡ m → waits_in (y ++ x) ≡ n + m
 waits-append x [] n m e f = omega (arith, e, f)

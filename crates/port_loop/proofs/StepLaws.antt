@@ -4,7 +4,7 @@ use Rattle.std.proofs.lemmas.List.{append-nil}
 use Rattle.port_loop.specs.Points.{Around, Goes, IsHeld, Rests, Unused, Work, calm}
 use Rattle.port_loop.specs.Ports.{came_on, is_full, is_known, is_open, went_on}
 use Rattle.port_loop.specs.declared.ports.Happening.{Happening}
-use Rattle.port_loop.specs.declared.ports.Happening.TheVariants.{Began, Came, Went, Failed, Drained, Ended, Closed, Passed}
+use Rattle.port_loop.specs.declared.ports.Happening.TheVariants.{Began, Opened, Refused, Came, Went, Failed, Drained, Ended, Closed, Passed}
 use Rattle.port_loop.specs.declared.handler.Handler.{Ghosts}
 use Rattle.port_loop.specs.Serving.{Desk, Ran}
 use Rattle.port_loop.specs.Sessions.{Sess}
@@ -31,6 +31,8 @@ rests-alike q new old (Some s) e r = record { begun = r.begun; bound = r.bound; 
 
 abbrev pub port_of : Happening → ℕ
 port_of (Began p) = p
+port_of (Opened p to) = p
+port_of (Refused to) = 0
 port_of (Came p bytes) = p
 port_of (Went p bytes full) = p
 port_of (Failed p) = p
@@ -42,6 +44,8 @@ port_of Passed = 0
 pub alike-other : {S : Type 0} {reply : Answer S} {step : Change S} {first : S} (q : ℕ) (x : Happening) (steps : List Step)
     → nat_eq (port_of x) q ≡ false → Alike reply step first q (Happens x ∷ steps) steps
 alike-other q (Began p) steps ne = record { stays = rw ne refl; came = refl; went = refl; frames = refl }
+alike-other q (Opened p to) steps ne = record { stays = rw ne refl; came = refl; went = refl; frames = refl }
+alike-other q (Refused to) steps ne = record { stays = refl; came = refl; went = refl; frames = refl }
 alike-other q (Came p bytes) steps ne = record { stays = refl; came = rw ne refl; went = refl; frames = refl }
 alike-other q (Went p bytes full) steps ne = record { stays = refl; came = refl; went = rw ne refl; frames = refl }
 alike-other q (Failed p) steps ne = record { stays = refl; came = refl; went = refl; frames = refl }
@@ -53,6 +57,8 @@ alike-other q Passed steps ne = record { stays = refl; came = refl; went = refl;
 pub full-other : (q : ℕ) (x : Happening) (steps : List Step) → nat_eq (port_of x) q ≡ false →
     is_full q (happened (Happens x ∷ steps)) ≡ is_full q (happened steps)
 full-other q (Began p) steps ne = refl
+full-other q (Opened p to) steps ne = refl
+full-other q (Refused to) steps ne = refl
 full-other q (Came p bytes) steps ne = refl
 full-other q (Went p bytes full) steps ne = rw ne refl
 full-other q (Failed p) steps ne = refl
@@ -64,6 +70,8 @@ full-other q Passed steps ne = refl
 known-other : (q : ℕ) (x : Happening) (steps : List Step) → nat_eq (port_of x) q ≡ false →
     is_known q (happened (Happens x ∷ steps)) ≡ is_known q (happened steps)
 known-other q (Began p) steps ne = rw ne refl
+known-other q (Opened p to) steps ne = rw ne refl
+known-other q (Refused to) steps ne = refl
 known-other q (Came p bytes) steps ne = refl
 known-other q (Went p bytes full) steps ne = refl
 known-other q (Failed p) steps ne = refl

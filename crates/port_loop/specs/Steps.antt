@@ -4,7 +4,7 @@ use Rattle.osd_bytes.specs.Records.{Begun, framed, fresh, split}
 use Rattle.port_loop.specs.declared.serving.TheConstants.{MOST_UNSENT}
 use Rattle.port_loop.specs.Ports.{came_on, is_full, is_known, is_open, has_failed, waits_of, went_on}
 use Rattle.port_loop.specs.declared.ports.Happening.{Happening}
-use Rattle.port_loop.specs.declared.ports.Happening.TheVariants.{Began, Came, Went, Failed, Drained, Ended, Closed, Passed}
+use Rattle.port_loop.specs.declared.ports.Happening.TheVariants.{Began, Opened, Refused, Came, Went, Failed, Drained, Ended, Closed, Passed}
 use Rattle.port_loop.specs.Sessions.{read_on}
 
 -- a record that came whole, and on which connection
@@ -118,11 +118,13 @@ HasEnd reply step first p older =
     ⊎ ((unsent : List ℕ) × Unsent reply step first p older unsent × (MOST_UNSENT < length unsent))
 
 -- a step after the older ones. What comes from outside is waited for if all before it is settled, and a number is given
--- once. What is put on an open connection comes next in the frames of the replies to the records that were handled on it.
+-- once; none is opened from here. What is put on an open connection comes next in the frames of the replies to the records that were handled on it.
 -- The record that is handled is the next one of all that were taken.
 abbrev pub Follows : {S : Type 0} → Answer S → Change S → S → Step → List Step → Type 0
 Follows reply step first (Happens (Began p)) older =
     Settled reply step first older × (is_known p (happened older) ≡ false)
+Follows reply step first (Happens (Opened p to)) older = ⊥
+Follows reply step first (Happens (Refused to)) older = ⊥
 Follows reply step first (Happens (Came p bytes)) older = Settled reply step first older
 Follows reply step first (Happens (Drained p)) older = Settled reply step first older
 Follows reply step first (Happens (Ended p)) older = Settled reply step first older

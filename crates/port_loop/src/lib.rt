@@ -18,4 +18,5 @@ pub use handler::{Handler, HandlerErr};
 pub use mem_ports::{MemPorts, Planned, Room};
 pub use notes::{MemNotes, Notes};
 pub use ports::{Arrival, Happening, Ports};
-pub use serving::{LoopErr, MOST_UNSENT, serve_many};
+pub use serving::{LoopErr, MOST_UNSENT, PIECE, serve_many};
+pub use session::Session;

@@ -4,7 +4,7 @@ ghost use Rattle.port_loop.specs.InMemory.{Arrived, nothing_happened};
 ghost use Rattle.port_loop.specs.Ports.{Adds, PutsOn};
 
 use crate::ports::{Arrival, Happening, Ports};
-use osd_bytes::{Bytes, Fault, Sequence};
+use osd_bytes::{Bytes, Fault, Node, Sequence};
 use std::alloc::Global;
 use std::marker::Model;
 use std::mem;
@@ -33,7 +33,7 @@ pub enum Room {
     Fails,
 }
 
-/// Connections in memory. They do what is planned, and tell what happened, as long as there is memory to keep that.
+/// Connections in memory. They do what is planned, open towards any node, and tell what happened, as long as there is memory to keep that.
 #[derive(Drop)]
 pub struct MemPorts {
     alloc: Global,
@@ -157,7 +157,7 @@ impl MemPorts {
         Arrival::Quiet
     }
 
-    fn open(&mut self) -> Arrival
+    fn begin(&mut self) -> Arrival
         ensures { Arrived self.old self.new result [] }
     {
         if self.opened == u64::MAX {
@@ -224,7 +224,7 @@ impl Ports for MemPorts {
 
     fn next(&mut self, buf: &mut [u8]) -> Result<Arrival, Fault> {
         match self.planned() {
-            Planned::Opens => Ok(self.open()),
+            Planned::Opens => Ok(self.begin()),
             Planned::Brings { port, bytes } => Ok(self.bring(port, bytes, buf)),
             Planned::Drains { port } => {
                 self.note(Happening::Drained { port });
@@ -236,6 +236,17 @@ impl Ports for MemPorts {
             }
             Planned::Quiet => Ok(self.rest()),
         }
+    }
+
+    fn open(&mut self, to: Node) -> Result<u64, Fault> {
+        if self.opened == u64::MAX {
+            self.note(Happening::Refused { to });
+            return Err(self.fault());
+        }
+        let port = self.opened;
+        self.opened += 1;
+        self.note(Happening::Opened { port, to });
+        Ok(port)
     }
 
     fn put(&mut self, port: u64, bytes: &[u8]) -> Result<usize, Fault> {

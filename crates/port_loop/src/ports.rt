@@ -1,10 +1,10 @@
 ghost use Rattle.std.specs.Prelude.{◌≡◌, ℕ, List, Option, Some, OnOk, OnErr};
 ghost use Rattle.osd_bytes.specs.Causes.{HasCause};
-ghost use Rattle.port_loop.specs.Ports.{Adds, Arrives, PutsOn};
+ghost use Rattle.port_loop.specs.Ports.{Adds, Arrives, Opens, PutsOn};
 ghost use Rattle.port_loop.specs.declared.ports.Happening.{Happening};
 ghost use Rattle.port_loop.specs.declared.ports.Happening.TheVariants.{Closed};
 
-use osd_bytes::{Bytes, Fault};
+use osd_bytes::{Bytes, Fault, Node};
 
 /// What happened next on some connection.
 #[derive(Clone, Copy)]
@@ -27,6 +27,15 @@ pub enum Happening {
     /// It began.
     Began {
         port: u64,
+    },
+    /// It was opened from here, towards this node.
+    Opened {
+        port: u64,
+        to: Node,
+    },
+    /// None could be opened towards this node.
+    Refused {
+        to: Node,
     },
     /// Bytes came on it.
     Came {
@@ -60,7 +69,7 @@ pub enum Happening {
 }
 
 /// Connections that stand side by side, each under a number of its own, which is never used again. They are those that
-/// peers open at the address at which the ports listen.
+/// peers open at the address at which the ports listen, and those that are opened from here.
 ///
 /// No call waits for one peer: `next` waits for all of them, and `put` leaves what there is no room for. A connection on
 /// which a `put` didn't take all is full until it drains.
@@ -90,6 +99,16 @@ pub trait Ports {
     /// Waits for what happens next on any connection, at most for a while. The buffer isn't empty.
     fn next(&mut self, buf: &mut [u8]) -> Result<Arrival, Fault>
         ensures arrives { Arrives (opened self.old) (opened self.new) (told self.old) (told self.new) result buf.new }
+        ensures listens { listens self.new ≡ listens self.old }
+        ensures cause { HasCause (faults self.old) (faults self.new) result };
+
+    /// Begins a connection towards a node, under the next number. It is open then. One that can't be connected ends.
+    ///
+    /// # Errors
+    ///
+    /// [`Fault`] if it can't be begun, as for want of the node's address.
+    fn open(&mut self, to: Node) -> Result<u64, Fault>
+        ensures opens { Opens to (opened self.old) (opened self.new) (told self.old) (told self.new) result }
         ensures listens { listens self.new ≡ listens self.old }
         ensures cause { HasCause (faults self.old) (faults self.new) result };
 

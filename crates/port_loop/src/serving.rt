@@ -22,8 +22,8 @@ use thiserror::Error;
 /// How many bytes of replies may wait on a connection. One on which more wait after a put is closed.
 pub const MOST_UNSENT: usize = 8_388_608;
 
-// How many bytes are taken of a connection at once at most.
-const PIECE: usize = 16_384;
+/// How many bytes are taken of a connection at once at most.
+pub const PIECE: usize = 16_384;
 
 /// Why the loop ended before its time.
 #[derive(Clone, Copy, Debug, PartialEq, Eq, Error)]

@@ -8,9 +8,9 @@ use osd_bytes::{ByteLists, Bytes, Memory, RecordErr, Records, frame};
 use std::alloc::Global;
 use std::marker::Model;
 
-/// What is kept of a connection that is open.
+/// What is kept of a connection that is open: what came of its next record, and what is still to be put on it.
 #[derive(Drop)]
-pub(crate) struct Session {
+pub struct Session {
     alloc: Global,
     records: Records,
     // A record was too long.
@@ -61,7 +61,7 @@ fn read_bytes(
 
 impl Session {
     /// Of a connection on which nothing came.
-    pub(crate) fn new(alloc: Global) -> Self
+    pub fn new(alloc: Global) -> Self
         ensures { result ≡ new_session }
     {
         Session {
@@ -73,7 +73,7 @@ impl Session {
     }
 
     /// The records that a piece completes, up to one that is too long. After such a one there are none.
-    pub(crate) fn read(&mut self, piece: &[u8]) -> Result<ByteLists, Memory>
+    pub fn read(&mut self, piece: &[u8]) -> Result<ByteLists, Memory>
         ensures { IfOk result (λ records. Reads piece.now records self.old self.new) }
     {
         if self.is_broken {
@@ -91,14 +91,14 @@ impl Session {
     }
 
     /// Whether a record was too long.
-    pub(crate) fn is_broken(&self) -> bool
+    pub fn is_broken(&self) -> bool
         ensures { IsTrue result ↔ (self.now.begun ≡ None) }
     {
         self.is_broken
     }
 
     /// One more message is to be put, as one record.
-    pub(crate) fn owe(&mut self, message: &[u8]) -> Result<(), Memory>
+    pub fn owe(&mut self, message: &[u8]) -> Result<(), Memory>
         requires { length message.now ≤ MAX_RECORD }
         ensures { OnOk result (self.new ≡ record self.old { unsent = self.old.unsent ++ framed message.now }) }
     {
@@ -108,14 +108,14 @@ impl Session {
     }
 
     /// What is still to be put.
-    pub(crate) fn unsent(&self) -> &[u8]
+    pub fn unsent(&self) -> &[u8]
         ensures { result.now ≡ self.now.unsent }
     {
         self.out.as_slice()
     }
 
     /// So many bytes were put.
-    pub(crate) fn went(&mut self, count: usize) -> Result<(), Memory>
+    pub fn went(&mut self, count: usize) -> Result<(), Memory>
         requires { count ≤ length self.old.unsent }
         ensures { OnOk result (self.new ≡ record self.old { unsent = drop count self.old.unsent }) }
     {
