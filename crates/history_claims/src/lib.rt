@@ -1,4 +1,4 @@
-//! What holds of every lawful history, as one record in the words of its lines.
+//! What holds of every lawful history, as one record of eight in the words of its lines.
 //!
 //! The parts are laws of the crates below: `history_law`, `exchange_law`, `component_law`, `cause_law`, `ready_law`
 //! and `headline_law`. Here are more: messages are numbered as they are sent, and are taken by who hears; an event
@@ -12,14 +12,16 @@
 
 mod laws;
 mod note_laws;
+mod sound_laws;
 
 pub use laws::{
     clients_refuse, components_stand_spread, components_time_out, ended_calls_are_logged,
-    events_deliver, files_are_created, histories_are_sound, messages_are_numbered,
-    messages_are_received, ready_reads_are_plain, recalls_are_caused, repairs_leave_counted_short,
-    replies_carry_bytes, writes_are_stored,
+    events_deliver, files_are_created, messages_are_numbered, messages_are_received,
+    ready_reads_are_plain, recalls_are_caused, repairs_leave_counted_short, replies_carry_bytes,
+    writes_are_stored,
 };
 pub use note_laws::{
     formats_have_causes, founds_have_causes, heard_have_causes, jobs_wait, notes_have_causes,
     reaches_have_causes, refusals_are_told, stages_have_ends,
 };
+pub use sound_laws::histories_are_sound;
