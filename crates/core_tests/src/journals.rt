@@ -155,8 +155,8 @@ enum Opened {
     Failed,
 }
 
-// Whether a step notes and sends this.
-fn says(alloc: Global, step: &Step, words: &str) -> bool {
+/// Whether a step notes and sends this.
+pub fn says(alloc: Global, step: &Step, words: &str) -> bool {
     let mut told = Bytes::new(alloc);
     let mut questions = Questions::new(alloc);
     tell(&mut told, &mut questions, step).is_ok() && told.as_slice() == words.as_bytes()

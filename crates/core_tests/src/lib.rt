@@ -28,6 +28,10 @@ mod line;
 #[cfg(test)]
 mod moves;
 #[cfg(test)]
+mod named_orders;
+#[cfg(test)]
+mod named_plans;
+#[cfg(test)]
 mod places;
 #[cfg(test)]
 mod placing;

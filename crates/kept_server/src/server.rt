@@ -338,48 +338,6 @@ impl KeptServer {
         Ok(step)
     }
 
-    /// A fence of a file begins, as [`ServerCore::revoke`] begins it.
-    pub fn revoke<P: Place>(&mut self, file: u32, placer: &P) -> Result<Step, Memory>
-        requires room { HasRoom self.old.server }
-        requires placer { P.is_placer placer.now }
-        ensures did { IfOk result (λ out. (chosen : List ℕ)
-            × Did out self.new.server (ordered self.old.server chosen order.Revoke file).step) }
-        ensures kept { Keeps self.old self.new }
-        ensures quiet { IsQuiet self.old self.new }
-        ensures stays_over { StaysOver self.old self.new }
-        ensures over { self.new.is_over ≡ is_err result }
-    {
-        self.order(OrderKind::Revoke, file, placer)
-    }
-
-    /// The missing components of a file are made anew, as [`ServerCore::rebuild`] makes them.
-    pub fn rebuild<P: Place>(&mut self, file: u32, placer: &P) -> Result<Step, Memory>
-        requires room { HasRoom self.old.server }
-        requires placer { P.is_placer placer.now }
-        ensures did { IfOk result (λ out. (chosen : List ℕ)
-            × Did out self.new.server (ordered self.old.server chosen order.Rebuild file).step) }
-        ensures kept { Keeps self.old self.new }
-        ensures quiet { IsQuiet self.old self.new }
-        ensures stays_over { StaysOver self.old self.new }
-        ensures over { self.new.is_over ≡ is_err result }
-    {
-        self.order(OrderKind::Rebuild, file, placer)
-    }
-
-    /// The stripes of a file are read and compared, as [`ServerCore::audit`] does.
-    pub fn audit<P: Place>(&mut self, file: u32, placer: &P) -> Result<Step, Memory>
-        requires room { HasRoom self.old.server }
-        requires placer { P.is_placer placer.now }
-        ensures did { IfOk result (λ out. (chosen : List ℕ)
-            × Did out self.new.server (ordered self.old.server chosen order.Audit file).step) }
-        ensures kept { Keeps self.old self.new }
-        ensures quiet { IsQuiet self.old self.new }
-        ensures stays_over { StaysOver self.old self.new }
-        ensures over { self.new.is_over ≡ is_err result }
-    {
-        self.order(OrderKind::Audit, file, placer)
-    }
-
     /// A drive has failed, as [`ServerCore::declare`] takes it.
     ///
     /// # Errors

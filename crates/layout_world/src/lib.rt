@@ -11,7 +11,6 @@ mod by_client;
 mod by_server;
 mod changing;
 mod delivering;
-mod err_name;
 mod following;
 mod machine;
 mod making;
@@ -24,7 +23,6 @@ mod rules;
 mod server;
 mod world;
 
-pub use err_name::error_name;
 pub use server::WorldServer;
 pub use world::World;
 pub use world_history::{Summary, WorldErr};

@@ -1,6 +1,6 @@
 -- What was put on a connection by lawful steps.
-use Rattle.std.proofs.Common.{ℕ, List, [], ◌∷◌, ◌++◌, refl, sym, ap, ◌∙◌, append_assoc}
-use Rattle.port_loop.specs.Ports.{went_on}
+use Rattle.std.proofs.Common.{◌≡◌, ℕ, Bool, true, false, nat_eq, if◌then◌else◌, List, [], ◌∷◌, ◌++◌, refl, sym, ap, ◌∙◌, append_assoc}
+use Rattle.port_loop.specs.Ports.{is_guest, is_open, went_on}
 use Rattle.port_loop.specs.declared.ports.Happening.TheVariants.{Began, Opened, Refused, Came, Went, Failed, Drained, Ended, Closed, Passed}
 use Rattle.port_loop.specs.Steps.{Answer, Change, Handled, IsFrontOnEach, Lawful, Step, Unsent, after_all, frames_on, handled_in, happened}
 use Rattle.port_loop.specs.Steps.Step.{Happens, Handles}

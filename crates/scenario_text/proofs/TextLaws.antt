@@ -91,7 +91,7 @@ echoed ps p qs is =
     subst (λ (rs : List Part). codes "=" ++ behind 32 (map word_of rs) ≡ codes "= " ++ spaced (map word_of rs)) (sym is)
     (ap (λ (x : List ℕ). codes "= " ++ x) (sym (joined_is 32 (word_of p) (map word_of qs))))
 
-pub event_echoes : (e : Event) (text : List ℕ) → text ≡ codes "=" ++ behind 32 (map word_of (event_parts e)) → EchoesEvent e text
+event_echoes : (e : Event) (text : List ℕ) → text ≡ codes "=" ++ behind 32 (map word_of (event_parts e)) → EchoesEvent e text
 event_echoes e text h = λ fits.
     let f = first_part Either (event_by Either) event_parts (event_exact Either) e (event_path Either e) in
     (event_text e, h ∙ echoed (event_parts e) f.0 f.1 f.2, event_text_spells e fits)

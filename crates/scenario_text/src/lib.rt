@@ -28,6 +28,6 @@ pub use line::{
     CallKind, Delivery, Ending, LayoutFault, Line, MapFault, Note, Outcome, Party, Refusal, Verdict,
 };
 pub use line_reader::read_line;
-pub use line_writer::{append_lines, write_event_line, write_line, write_lines};
+pub use line_writer::{append_lines, write_line, write_lines};
 pub use names::{CLIENTS, ClientName, DRIVES, DriveName, FILES, FileName, Name};
 pub use words::decimal;

@@ -2,13 +2,11 @@ ghost use Rattle.std.specs.Prelude.{◌≡◌, ◌++◌, ◌∷◌, [], map, cod
 ghost use Rattle.scenario_text.specs.Words.{behind};
 ghost use Rattle.scenario_text.specs.Parts.{word_of};
 ghost use Rattle.scenario_text.specs.Written.{written};
-ghost use Rattle.scenario_text.specs.Spelling.{event_parts};
 ghost use Rattle.scenario_text.specs.LineSpelling.{party_part, kind_word, layout_fault_word, map_fault_word};
 ghost use Rattle.scenario_text.specs.LineSpelling.{refusal_word, yes_or_no, verdict_parts, delivery_parts};
 ghost use Rattle.scenario_text.specs.LineSpelling.{ending_parts, outcome_parts, note_parts, head_word, tail_parts};
-ghost use Rattle.scenario_text.specs.LineSpelling.{last_words, line_text, lines_text, EchoesEvent, SpellsItsEvent};
+ghost use Rattle.scenario_text.specs.LineSpelling.{last_words, line_text, lines_text, SpellsItsEvent};
 
-use crate::event::Event;
 use crate::event_writer::put_event;
 use crate::line::{
     CallKind, Delivery, Ending, LayoutFault, Line, MapFault, Note, Outcome, Party, Refusal, Verdict,
@@ -318,15 +316,6 @@ fn line_bytes(alloc: Global, line: &Line) -> Result<Bytes, Memory>
     Ok(out)
 }
 
-fn event_bytes(alloc: Global, event: &Event) -> Result<Bytes, Memory>
-    ensures { IfOk result (λ text. text ≡ codes "=" ++ behind 32 (map word_of (event_parts event.now))) }
-{
-    let mut out = Bytes::with_capacity(alloc, LINE)?;
-    out.extend_from_slice(b"=")?;
-    put_event(&mut out, event)?;
-    Ok(out)
-}
-
 /// The text of a line of a transcript, without its newline. Hexadecimal digits are in lower case.
 ///
 /// The text of an event's line is `= ` and a text that [`crate::read_event`] reads as the event.
@@ -335,15 +324,6 @@ pub fn write_line(alloc: Global, line: &Line) -> Result<Bytes, Memory>
     ensures spells { IfOk result (SpellsItsEvent line.now) }
 {
     line_bytes(alloc, line)
-}
-
-/// The text of the line of an event, as [`write_line`] gives it for a [`Line::Event`], with no copy of
-/// the event.
-pub fn write_event_line(alloc: Global, event: &Event) -> Result<Bytes, Memory>
-    ensures text { IfOk result (λ text. text ≡ line_text (Line.Event event.now)) }
-    ensures spells { IfOk result (EchoesEvent event.now) }
-{
-    event_bytes(alloc, event)
 }
 
 /// A text, and behind it the text of the lines of a history, each with its newline.

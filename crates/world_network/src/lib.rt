@@ -26,7 +26,7 @@ pub use laws::network_shows;
 pub use members::take_member;
 pub use move_laws::acts_are_moves;
 pub use network::{Lines, Network};
-pub use notes::{told_file_refusal, told_map_err, told_note};
+pub use notes::{told_map_err, told_note};
 pub use outcomes::{kind_of, told_outcome, told_refusal, told_why};
 pub use parties::{node_of, party_of};
 pub use performing::{behind, perform};

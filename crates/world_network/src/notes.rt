@@ -1,10 +1,10 @@
 ghost use Rattle.std.specs.Prelude.{◌≡◌};
-ghost use Rattle.world_history.specs.Told.{told_map_err, told_file_refusal};
+ghost use Rattle.world_history.specs.Told.{told_map_err};
 ghost use Rattle.world_history.specs.Names.{known_note, known_note_line};
 
 use data_map::MapErr;
 use scenario_text::{DriveName, FileName, Line, MapFault, Note};
-use server_rules::{Note as FileNote, NoteKind, Refusal};
+use server_rules::{Note as FileNote, NoteKind};
 
 /// A note of the server, `None` exactly where it names a drive that no line can name.
 pub fn told_note(kind: NoteKind) -> Option<Note>
@@ -66,19 +66,5 @@ pub fn told_map_err(error: MapErr) -> MapFault
         MapErr::Multiple => MapFault::Multiple,
         MapErr::Width => MapFault::Width,
         MapErr::Depth => MapFault::Depth,
-    }
-}
-
-/// Why a file isn't made.
-pub fn told_file_refusal(refusal: Refusal) -> Note
-    ensures { result ≡ told_file_refusal refusal }
-{
-    match refusal {
-        Refusal::FileExists => Note::Exists,
-        Refusal::BadMap(error) => Note::BadMap {
-            why: told_map_err(error),
-        },
-        Refusal::TooFewDrives { online } => Note::TooFew { online },
-        Refusal::NoSpread { online } => Note::NoSpread { online },
     }
 }
