@@ -151,7 +151,8 @@ unhit_runs_are_unguessed steps n =
 
 pub calm_runs_are_right : EachRunIsSound → EachRunIsOfScenario → UnhitRunsAreUnguessed → CalmRunsAreRight
 calm_runs_are_right sound scenario fair steps run unhit is_calm =
-    (sound steps run.steps_are).reads.right (history_of empty_cluster steps) [] (sym (append-nil (history_of empty_cluster steps)))
+    (sound steps run.steps_are).reads.right (history_of empty_cluster steps) []
+    (sym (append-nil (history_of empty_cluster steps)))
     (record {
       scenario = scenario steps run;
       is_calm = is_calm;

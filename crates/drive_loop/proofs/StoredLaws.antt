@@ -22,8 +22,8 @@ use Rattle.drive_loop.specs.StoredService.{LeavesRun, ServesFrom, StaysSince, St
 use Rattle.port_loop.specs.Steps.{Step}
 
 module _ {D : Type 0} (s : DiskGhosts D) where
-  stays_since : (old new : StoredDrive D) (handled cut_off : List Handled) (left : D) → Carried s handled cut_off old new → Kept s old
-      → left ≡ disk_in new
+  stays_since : (old new : StoredDrive D) (handled cut_off : List Handled) (left : D)
+      → Carried s handled cut_off old new → Kept s old → left ≡ disk_in new
       → StaysSince s (core_of old) handled cut_off left
   stays_since old new handled cut_off left x k same =
       subst (λ (d : D). StaysSince s (core_of old) handled cut_off d) (sym same)

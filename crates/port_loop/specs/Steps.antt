@@ -118,8 +118,8 @@ HasEnd reply step first p older =
     ⊎ ((unsent : List ℕ) × Unsent reply step first p older unsent × (MOST_UNSENT < length unsent))
 
 -- a step after the older ones. What comes from outside is waited for if all before it is settled, and a number is given
--- once; none is opened from here. What is put on an open connection comes next in the frames of the replies to the records that were handled on it.
--- The record that is handled is the next one of all that were taken.
+-- once; none is opened from here. What is put on an open connection comes next in the frames of the replies to the records
+-- that were handled on it. The record that is handled is the next one of all that were taken.
 abbrev pub Follows : {S : Type 0} → Answer S → Change S → S → Step → List Step → Type 0
 Follows reply step first (Happens (Began p)) older =
     Settled reply step first older × (is_known p (happened older) ≡ false)

@@ -33,7 +33,8 @@ pub enum Room {
     Fails,
 }
 
-/// Connections in memory. They do what is planned, open towards any node, and tell what happened, as long as there is memory to keep that.
+/// Connections in memory. They do what is planned, open towards any node, and tell what happened, as long as there is memory
+/// to keep that.
 #[derive(Drop)]
 pub struct MemPorts {
     alloc: Global,
