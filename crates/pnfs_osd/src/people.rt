@@ -14,7 +14,7 @@ use std::io::Eprint;
 pub struct Causes<'a> {
     /// What was read, as far as it was kept.
     pub input: Option<&'a [u8]>,
-    /// What failed last on the links.
+    /// What failed last of the ports or on the links.
     pub links: Option<LinkFault<'a>>,
     /// What failed last on the disk.
     pub disk: Option<&'a FileCause>,

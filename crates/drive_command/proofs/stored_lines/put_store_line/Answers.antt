@@ -1,6 +1,6 @@
 use Rattle.std.proofs.Common.{◌∙◌, ℕ, List, subst}
 use Rattle.cluster_text.specs.Lines.{PutsLine}
-use Rattle.drive_command.proofs.stored_command.put_store_line.Goals as goal
+use Rattle.drive_command.proofs.stored_lines.put_store_line.Goals as goal
 
 pub returns-clause-ok : goal.returns-clause-ok
 returns-clause-ok g c =
