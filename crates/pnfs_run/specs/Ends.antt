@@ -10,7 +10,7 @@ use Rattle.osd_bytes.specs.Asking as asking
 use Rattle.drive_command.specs.Connections as drive
 use Rattle.osd_replay.specs.Ends as replay
 use Rattle.cluster_text.specs.Outside.{Streams, streams}
-use Rattle.client_command.specs.Reports.{OnLinks, on_links}
+use Rattle.client_command.specs.OnLinks.{OnLinks, on_links}
 
 -- the bytes that the source has left and that the sink has taken, what came and went on the links, and the times of the
 -- clock, where they tell them; the counts of the calls that failed; and the addresses of the links
