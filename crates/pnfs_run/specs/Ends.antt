@@ -10,7 +10,7 @@ use Rattle.osd_bytes.specs.Asking as asking
 use Rattle.drive_loop.specs.Service as drive
 use Rattle.osd_replay.specs.Ends as replay
 use Rattle.cluster_text.specs.Outside.{Streams, streams}
-use Rattle.client_command.specs.Reports.{OnLinks, on_links}
+use Rattle.client_command.specs.OnLinks.{OnLinks, on_links}
 use Rattle.port_loop.specs.declared.notes.Notes.{Ghosts as NotesGhosts}
 use Rattle.port_loop.specs.declared.ports.Happening.{Happening}
 use Rattle.port_loop.specs.declared.ports.Ports.{Ghosts as PortsGhosts}

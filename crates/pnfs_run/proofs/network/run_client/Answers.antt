@@ -5,15 +5,15 @@ use Rattle.command_words.specs.Options.{client_options}
 use Rattle.command_words.specs.Asked.{client_gives}
 use Rattle.pnfs_run.specs.Network.{ClientEnds}
 use Rattle.pnfs_run.specs.Ends.{ends}
-use Rattle.pnfs_run.proofs.Asked.{number_fits, sequence_fits}
+use Rattle.pnfs_run.proofs.Asked.{first_fits, number_fits}
 use Rattle.pnfs_run.proofs.Judging.{stopped}
 use Rattle.pnfs_run.proofs.network.run_client.Goals as goal
 
 pub client_command-requires-clause-number : goal.client_command-requires-clause-number
 client_command-requires-clause-number g c = number_fits _ c.in-Ok.asked c.in-Ok.ensures.asks.1
 
-pub client_command-requires-clause-sequence : goal.client_command-requires-clause-sequence
-client_command-requires-clause-sequence g c = sequence_fits _ c.in-Ok.asked c.in-Ok.ensures.asks.1
+pub client_command-requires-clause-first : goal.client_command-requires-clause-first
+client_command-requires-clause-first g c = first_fits _ c.in-Ok.asked c.in-Ok.ensures.asks.1
 
 pub returns-in-Err-client_command-clause-promise :
     goal.returns-in-Err-client_command-clause-promise
