@@ -323,14 +323,12 @@ fn sent_is(links: &MemLinks, sent: &[&[u8]]) -> bool {
 
 // Whether exactly this went out on the connections of ports.
 fn replies_are(alloc: Global, ports: &MemPorts, replies: &[&[u8]]) -> bool {
-    let mut port = 0;
-    for reply in replies {
-        if put_on(alloc, ports, port).as_slice() != *reply {
+    for (port, reply) in replies.iter().enumerate() {
+        if put_on(alloc, ports, port as u64).as_slice() != *reply {
             return false;
         }
-        port += 1;
     }
-    put_on(alloc, ports, port).is_empty()
+    put_on(alloc, ports, replies.len() as u64).is_empty()
 }
 
 // Whether exactly these notes were told, on links or beside a drive.
