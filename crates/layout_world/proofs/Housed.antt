@@ -8,6 +8,7 @@ use Rattle.osd_disk.specs.Medium.{Medium}
 use Rattle.gate_log.specs.declared.log.GateLog.{GateLog}
 use Rattle.server_rules.specs.declared.files.File.{File}
 use Rattle.server_rules.specs.Making.{new_server}
+use Rattle.server_rules.specs.declared.notes.Note.{Note}
 use Rattle.server_rules.specs.declared.server.Server.{Server}
 use Rattle.server_rules.specs.Files.{file_at}
 use Rattle.server_rules.specs.Openings.{crash, crashed_file}
@@ -23,7 +24,7 @@ use Rattle.server_journal.specs.declared.server.JournaledServer.{JournaledServer
 use Rattle.server_journal.specs.Calls.{IsRefused, MakesNot, Stays}
 use Rattle.server_journal.specs.Errors.{HasErrCause, HasJournalCause, IsOfDisk, NotAJournalSays, NotEmptySays, file_told_by}
 use Rattle.server_journal.specs.declared.made.MadeObject.{MadeObject}
-use Rattle.server_journal.specs.Journals.{IsKept, KeepsServer, core_of, is_over_in, made_of}
+use Rattle.server_journal.specs.Journals.{IsKept, KeepsServer, core_of, is_over_in, made_of, noted_of}
 use Rattle.layout_world.specs.Machine.{IsWell, told_back}
 
 -- ---- a journal whose disk doesn't fail, and whose contents aren't refused, wants memory
@@ -61,9 +62,10 @@ module _ (k : Ghosts Medium) where
   -- a call that was refused leaves its log
   pub well_still : (old new : JournaledServer Medium) → IsKept k old → Stays old new → IsWell k new
   well_still old new kept s = λ on.
-      subst (λ (l : GateLog Medium). KeepsServer k (crash (core_of new)) (made_of new) l) (sym s.log)
-      (subst (λ (ms : List MadeObject). KeepsServer k (crash (core_of new)) ms old.log) (sym s.made)
-      (subst (λ (x : Server). KeepsServer k (crash x) (made_of old) old.log) (sym s.server) kept))
+      subst (λ (l : GateLog Medium). KeepsServer k (crash (core_of new)) (made_of new) (noted_of new) l) (sym s.log)
+      (subst (λ (ns : List Note). KeepsServer k (crash (core_of new)) (made_of new) ns old.log) (sym s.noted)
+      (subst (λ (ms : List MadeObject). KeepsServer k (crash (core_of new)) ms (noted_of old) old.log) (sym s.made)
+      (subst (λ (x : Server). KeepsServer k (crash x) (made_of old) (noted_of old) old.log) (sym s.server) kept)))
 
   -- ---- a file that isn't made
 

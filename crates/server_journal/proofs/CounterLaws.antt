@@ -28,7 +28,9 @@ use Rattle.server_entries.specs.Reading.{record_in}
 use Rattle.server_journal.specs.Counters.{CountsOn}
 use Rattle.server_journal.specs.declared.made.MadeObject.{MadeObject}
 use Rattle.server_journal.specs.Made.{made_in}
-use Rattle.server_journal.specs.Records.{LeadTo, after_reading, after_record, replayed, unless_made}
+use Rattle.server_journal.specs.Records.{LeadTo, after_reading, after_record, replayed, unless_made, unless_remarked}
+use Rattle.server_notes.specs.Reading.{remark_in}
+use Rattle.server_notes.specs.declared.remark.Remark.{Remark}
 use Rattle.server_journal.proofs.RecordLaws.{replayed-none, replayed-then}
 
 some_is : (s t : Server) → Some s ≡ Some t → s ≡ t
@@ -131,10 +133,15 @@ reading_counts : (s : Server) (r : Result Record LayoutErr) (t : Server) → aft
 reading_counts s (Ok r) t is = entries_count r.entries s t is
 reading_counts s (Err e) t is = none_is t is
 
-record_counts : (s : Server) (o : Option MadeObject) (r : Result Record LayoutErr) (t : Server) →
-    unless_made s o r ≡ Some t → CountsOn s t
-record_counts s None r t is = reading_counts s r t is
-record_counts s (Some m) r t is = made true s s t (counts_same s) is
+remark_counts : (s : Server) (n : Option Remark) (r : Result Record LayoutErr) (t : Server)
+    → unless_remarked s n r ≡ Some t → CountsOn s t
+remark_counts s None r t is = reading_counts s r t is
+remark_counts s (Some n) r t is = made true s s t (counts_same s) is
+
+record_counts : (s : Server) (o : Option MadeObject) (n : Option Remark) (r : Result Record LayoutErr) (t : Server)
+    → unless_made s o n r ≡ Some t → CountsOn s t
+record_counts s None n r t is = remark_counts s n r t is
+record_counts s (Some m) n r t is = made true s s t (counts_same s) is
 
 records_from : (s : Server) (o : Option Server) (records : List (List ℕ)) (t : Server) →
     ((u : Server) → o ≡ Some u → CountsOn s u)
@@ -145,7 +152,8 @@ records_from s (Some u) records t first next is = counts_then s u t (first u ref
 records_count : (records : List (List ℕ)) (s t : Server) → replayed (Some s) records ≡ Some t → CountsOn s t
 records_count [] s t is = made true s s t (counts_same s) is
 records_count (bytes ∷ records) s t is =
-    records_from s (after_record s bytes) records t (λ u. record_counts s (made_in bytes) (whole record_in bytes) u)
+    records_from s (after_record s bytes) records t
+    (λ u. record_counts s (made_in bytes) (remark_in bytes) (whole record_in bytes) u)
     (λ u. records_count records u t) is
 
 -- and so no records that are added

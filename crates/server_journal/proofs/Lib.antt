@@ -3,3 +3,4 @@ pub mod CounterLaws
 pub mod JournalLaws
 pub mod OpeningLaws
 pub mod RecordLaws
+pub mod StepLaws

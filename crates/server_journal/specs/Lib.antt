@@ -5,6 +5,7 @@ pub mod Header
 pub mod Journals
 pub mod Laws
 pub mod Made
+pub mod Notes
 pub mod Opening
 pub mod Records
 pub mod Resting

@@ -6,6 +6,7 @@ use Rattle.gate_log.specs.Broken.{IsBrokenAt}
 use Rattle.gate_log.specs.declared.reader.LogReader.{LogReader}
 use Rattle.gate_log.specs.Logs.{IsFront}
 use Rattle.gate_log.specs.Standing.{HasRead}
+use Rattle.server_rules.specs.declared.notes.Note.{Note}
 use Rattle.server_rules.specs.declared.server.Server.{Server}
 use Rattle.server_rules.specs.Openings.{crash, reopen}
 use Rattle.server_state.specs.declared.step.Step.{Step}
@@ -14,8 +15,10 @@ use Rattle.server_journal.specs.declared.server.JournaledServer.{JournaledServer
 use Rattle.server_journal.specs.Counters.{CountsOn}
 use Rattle.server_journal.specs.Header.{journal_header}
 use Rattle.server_journal.specs.declared.made.MadeObject.{MadeObject}
-use Rattle.server_journal.specs.Journals.{IsJournalOf, IsJournalWith, IsKept, StandForEither, core_of, disk_in, made_of}
+use Rattle.server_journal.specs.Journals.{IsJournalWith, IsKept, StandsBesideStep, core_of, disk_in, made_of, noted_of}
 use Rattle.server_journal.specs.Made.{made_by}
+use Rattle.server_journal.specs.Notes.{notes_kept}
+use Rattle.server_notes.specs.Asking.{asking}
 use Rattle.server_journal.specs.Records.{LeadTo, after_record}
 
 -- this header and these bodies stand in front of a gate, which is at this place
@@ -27,16 +30,20 @@ pub record StandBefore (header : List ℕ) (bodies : List (List ℕ)) (c : List 
   pub contents : c ≡ front ++ gate ∷ rest
   pub place : at ≡ length front
 
--- the records that a reader has read lead to the server, and tell of these objects
-pub record HasTaken {D : Type 0} (k : Ghosts D) (s : Server) (made : List MadeObject) (reader : LogReader D) : Type 0 where
+-- the records that a reader has read lead to the server, tell of these objects and keep these notes
+pub record HasTaken {D : Type 0} (k : Ghosts D) (s : Server) (made : List MadeObject) (notes : List Note) (reader : LogReader D)
+    : Type 0 where
   pub records : List (List ℕ)
   pub lead : LeadTo records s
   pub objects : made_by records ≡ made
+  pub noted : notes_kept records ≡ notes
   pub read : HasRead k.tells k.seen k.may_leave journal_header records reader
 
--- contents stand for the server that these contents stood for, before the step of its opening or after it
+-- contents stand for the server that these contents stood for, before the step of its opening or after it, with its notes
 abbrev pub IsOfOpening : (opened c : List ℕ) → Type 0
-IsOfOpening opened c = (s : Server) × IsJournalOf s opened × StandForEither s (crash (reopen s).state) c
+IsOfOpening opened c =
+    (s : Server) × (made : List MadeObject) × (notes : List Note) × IsJournalWith s made notes opened
+    × StandsBesideStep made s notes (crash (reopen s).state) (reopen s).notes c
 
 -- A crash while a disk is opened leaves what it might have left before, or what comes of the step of the opening.
 abbrev pub LeavesOpening : {D : Type 0} → Ghosts D → (old new : D) → Type 0
@@ -45,13 +52,16 @@ LeavesOpening k old new = LeavesOnly k.moment k.left_since old new (λ c. k.may_
 -- the contents of a disk stood for a server without jobs, and this is what the rules make of it at its opening
 pub record Opened {D : Type 0} (k : Ghosts D) (disk : D) (new : JournaledServer D) (out : Step) : Type 0 where
   pub before : Server
-  pub stood : IsJournalWith before (made_of new) (k.seen disk)
+  pub notes : List Note
+  pub stood : IsJournalWith before (made_of new) notes (k.seen disk)
   pub did : Did out (core_of new) (reopen before)
+  pub noted : noted_of new ≡ notes ++ asking out.notes
   pub kept : IsKept k new
   pub counts : CountsOn before (core_of new)
   pub any_moment : LeavesOpening k disk (disk_in new)
-  -- nothing is written if the step changes nothing that is kept
-  pub idle : before ≡ crash (reopen before).state → OnlyRead k.tells k.seen k.may_leave k.moment k.left_since disk (disk_in new)
+  -- nothing is written if the step changes nothing that is kept, and none of its notes asks for something
+  pub idle : before ≡ crash (reopen before).state → asking out.notes ≡ []
+      → OnlyRead k.tells k.seen k.may_leave k.moment k.left_since disk (disk_in new)
 
 -- ---- refusals
 

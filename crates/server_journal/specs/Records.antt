@@ -9,20 +9,28 @@ use Rattle.server_entries.specs.declared.record.Record.{Record}
 use Rattle.server_entries.specs.Reading.{record_in}
 use Rattle.server_journal.specs.declared.made.MadeObject.{MadeObject}
 use Rattle.server_journal.specs.Made.{made_in}
+use Rattle.server_notes.specs.Reading.{remark_in}
+use Rattle.server_notes.specs.declared.remark.Remark.{Remark}
 
 -- a server after the entries that bytes spelled, if they spelled some
 abbrev pub after_reading : Server → Result Record LayoutErr → Option Server
 after_reading s (Ok r) = applied_all s r.entries
 after_reading s (Err e) = None
 
--- the server stays as it is where a record tells of an object that a drive has made
-abbrev pub unless_made : Server → (made : Option MadeObject) → Result Record LayoutErr → Option Server
-unless_made s (Some m) r = Some s
-unless_made s None r = after_reading s r
+-- the server stays as it is where a record tells of notes
+abbrev pub unless_remarked : Server → Option Remark → Result Record LayoutErr → Option Server
+unless_remarked s (Some n) r = Some s
+unless_remarked s None r = after_reading s r
 
--- a server after a record; none if the bytes tell of no made object and spell no entries, or nothing can be made of one of them
+-- and where one tells of an object that a drive has made
+abbrev pub unless_made : Server → (made : Option MadeObject) → Option Remark → Result Record LayoutErr → Option Server
+unless_made s (Some m) n r = Some s
+unless_made s None n r = unless_remarked s n r
+
+-- a server after a record; none if the bytes tell of no made object and of no note and spell no entries, or nothing can be made
+-- of one of them
 abbrev pub after_record : Server → List ℕ → Option Server
-after_record s bytes = unless_made s (made_in bytes) (whole record_in bytes)
+after_record s bytes = unless_made s (made_in bytes) (remark_in bytes) (whole record_in bytes)
 
 abbrev pub after_record_of : Option Server → List ℕ → Option Server
 after_record_of None bytes = None

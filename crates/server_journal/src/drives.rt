@@ -1,5 +1,5 @@
 // The calls of an administrator: drives, their zones, and the format.
-ghost use Rattle.std.specs.Prelude.{◌≡◌, ◌<◌, ◌↔◌, false, is_err, IsErr, IsTrue, IfErr, IfOk, OnErr, OnOk};
+ghost use Rattle.std.specs.Prelude.{◌≡◌, ◌<◌, ◌↔◌, [], false, is_err, IsErr, IsTrue, IfErr, IfOk, OnErr, OnOk};
 ghost use Rattle.zone_place.specs.declared.loads.TheConstants.{MAX_DRIVES};
 ghost use Rattle.server_rules.specs.Making.{add_drive, set_format};
 ghost use Rattle.layout_server.specs.Adding.{IsNew, drive_of};
@@ -26,7 +26,7 @@ impl<D: Disk> JournaledServer<D> {
         requires low { info.number < MAX_DRIVES }
         ensures did { OnOk result
             (core_of self.new ≡ record (core_of self.old) { drives = add_drive (core_of self.old).drives (drive_of info) }) }
-        ensures answered { OnOk result (Answered D.Disk self.old self.new) }
+        ensures answered { OnOk result (Answered D.Disk self.old self.new []) }
         ensures cut_off { OnErr result (CutOffBefore D.Disk self.old self.new
             (record (core_of self.old) { drives = add_drive (core_of self.old).drives (drive_of info) })) }
         ensures error { IfErr result IsOfDisk }
@@ -35,7 +35,7 @@ impl<D: Disk> JournaledServer<D> {
     {
         self.is_over = true;
         self.kept.add_drive(info)?;
-        match self.keep() {
+        match self.keep(&[]) {
             Ok(()) => Ok(()),
             Err(e) => Err(e),
         }
@@ -49,7 +49,7 @@ impl<D: Disk> JournaledServer<D> {
     pub fn set_format(&mut self, format: u8) -> Result<(), JournalErr>
         requires goes_on { is_over_in self.old ≡ false }
         ensures did { OnOk result (core_of self.new ≡ set_format (core_of self.old) format) }
-        ensures answered { OnOk result (Answered D.Disk self.old self.new) }
+        ensures answered { OnOk result (Answered D.Disk self.old self.new []) }
         ensures cut_off { OnErr result (CutOffBefore D.Disk self.old self.new (set_format (core_of self.old) format)) }
         ensures error { IfErr result IsOfDisk }
         ensures over { is_over_in self.new ≡ is_err result }
@@ -57,7 +57,7 @@ impl<D: Disk> JournaledServer<D> {
     {
         self.is_over = true;
         self.kept.set_format(format)?;
-        match self.keep() {
+        match self.keep(&[]) {
             Ok(()) => Ok(()),
             Err(e) => Err(e),
         }
@@ -75,7 +75,7 @@ impl<D: Disk> JournaledServer<D> {
         ensures did { OnOk result (core_of self.new ≡ after_putting (core_of self.old) drive zone) }
         ensures taken { IfOk result (λ put. IsErr put ↔ IsTrue (is_in_zone drive (core_of self.old).drives)) }
         ensures stays { IfOk result (λ put. IsErr put → core_of self.new ≡ core_of self.old) }
-        ensures answered { OnOk result (Answered D.Disk self.old self.new) }
+        ensures answered { OnOk result (Answered D.Disk self.old self.new []) }
         ensures cut_off { OnErr result (CutOffBefore D.Disk self.old self.new (after_putting (core_of self.old) drive zone)) }
         ensures error { IfErr result IsOfDisk }
         ensures over { is_over_in self.new ≡ is_err result }
@@ -83,7 +83,7 @@ impl<D: Disk> JournaledServer<D> {
     {
         self.is_over = true;
         let put = self.kept.set_zone(drive, zone)?;
-        match self.keep() {
+        match self.keep(&[]) {
             Ok(()) => Ok(put),
             Err(e) => Err(e),
         }

@@ -5,6 +5,7 @@
 //! the disk before it answers, so before anything that the step sends goes out.
 #![tactic(auto)]
 
+mod dealing;
 mod drives;
 mod errors;
 mod header;

@@ -34,7 +34,7 @@ impl<D: Disk> JournaledServer<D> {
         requires placer { P.is_placer placer.now }
         requires algorithm { HasAlgorithm raw }
         ensures made { IfOk result (λ out. Makes file raw tag false (core_of self.old) (core_of self.new) out) }
-        ensures answered { OnOk result (Answered D.Disk self.old self.new) }
+        ensures answered { IfOk result (λ out. Answered D.Disk self.old self.new out.notes) }
         ensures goes_on { OnOk result (is_over_in self.new ≡ false) }
         ensures same { OnOk result (D.faults (disk_in self.new) ≡ D.faults (disk_in self.old)) }
         ensures refused { IfErr result (MakesNot D.Disk self.old self.new file raw tag false) }
@@ -48,7 +48,7 @@ impl<D: Disk> JournaledServer<D> {
                 return Err(JournalFileErr::from(e));
             }
         };
-        match self.keep() {
+        match self.keep(step.notes.as_slice()) {
             Ok(()) => Ok(step),
             Err(e) => Err(JournalFileErr::Journal(e)),
         }
@@ -73,7 +73,7 @@ impl<D: Disk> JournaledServer<D> {
         requires placer { P.is_placer placer.now }
         requires algorithm { HasAlgorithm raw }
         ensures made { IfOk result (λ out. Makes file raw tag true (core_of self.old) (core_of self.new) out) }
-        ensures answered { OnOk result (Answered D.Disk self.old self.new) }
+        ensures answered { IfOk result (λ out. Answered D.Disk self.old self.new out.notes) }
         ensures goes_on { OnOk result (is_over_in self.new ≡ false) }
         ensures same { OnOk result (D.faults (disk_in self.new) ≡ D.faults (disk_in self.old)) }
         ensures refused { IfErr result (MakesNot D.Disk self.old self.new file raw tag true) }
@@ -87,7 +87,7 @@ impl<D: Disk> JournaledServer<D> {
                 return Err(JournalFileErr::from(e));
             }
         };
-        match self.keep() {
+        match self.keep(step.notes.as_slice()) {
             Ok(()) => Ok(step),
             Err(e) => Err(JournalFileErr::Journal(e)),
         }

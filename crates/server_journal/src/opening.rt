@@ -1,5 +1,5 @@
 // A journal that is made, and one that is opened.
-ghost use Rattle.std.specs.Prelude.{◌≡◌, ◌<◌, [], false, length, IsTrue, IfOk, IfErr, OnOk};
+ghost use Rattle.std.specs.Prelude.{◌≡◌, ◌<◌, ◌++◌, [], false, length, IsTrue, IfOk, IfErr, OnOk};
 ghost use Rattle.osd_disk.specs.Crashes.{OnlyRead};
 ghost use Rattle.gate_log.specs.Standing.{disk_of, gate_of, over_of, read_disk};
 ghost use Rattle.server_rules.specs.declared.server.Server.{Server};
@@ -8,6 +8,7 @@ ghost use Rattle.server_rules.specs.Openings.{crash, reopen};
 ghost use Rattle.server_state.specs.States.{Did};
 ghost use Rattle.layout_server.specs.Adding.{CanAdd, and_drives};
 ghost use Rattle.kept_server.specs.Keeping.{Follows};
+ghost use Rattle.server_notes.specs.Asking.{asking};
 ghost use Rattle.server_journal.specs.Counters.{CountsOn};
 ghost use Rattle.server_journal.specs.Errors.{HasErrCause, HasJournalCause, IsOfDisk, NotAJournalSays, NotEmptySays};
 ghost use Rattle.server_journal.specs.Opening.{HasTaken, IsNoJournalAt};
@@ -22,6 +23,8 @@ use kept_server::{KeptServer, Restoration};
 use layout_server::{DriveTable, Step};
 use osd_disk::Disk;
 use server_entries::Applied;
+use server_notes::KeptNotes;
+use server_rules::Note;
 use std::alloc::Global;
 
 // Takes all records that come into the server to which those before them lead.
@@ -30,18 +33,19 @@ fn take_records<D: Disk>(
     reader: &mut LogReader<D>,
     restoration: &mut Restoration,
     made: &mut MadeObjects,
+    noted: &mut KeptNotes,
 ) -> Result<(), JournalErr>
-    ensures taken { OnOk result (HasTaken D.Disk restoration.old made.old reader.old
-        → HasTaken D.Disk restoration.new made.new reader.new) }
+    ensures taken { OnOk result (HasTaken D.Disk restoration.old made.old noted.old reader.old
+        → HasTaken D.Disk restoration.new made.new noted.new reader.new) }
     ensures end { OnOk result (gate_of reader.new ≡ 0) }
-    ensures refused { IfErr result (NotAJournalSays (λ at. HasTaken D.Disk restoration.old made.old reader.old
+    ensures refused { IfErr result (NotAJournalSays (λ at. HasTaken D.Disk restoration.old made.old noted.old reader.old
         → IsNoJournalAt (D.seen (read_disk reader.old)) at)) }
     ensures disk { OnlyRead D.tells D.seen D.may_leave D.moment D.left_since (read_disk reader.old) (read_disk reader.new) }
     ensures cause { HasJournalCause (D.faults (read_disk reader.old)) (D.faults (read_disk reader.new)) result }
 {
     let mut at = reader.place();
     while let Some(body) = reader.next(alloc)? {
-        match take_record(alloc, restoration, made, body.as_slice())? {
+        match take_record(alloc, restoration, made, noted, body.as_slice())? {
             Applied::Done => {}
             Applied::Unmade => return Err(JournalErr::NotAJournal { at }),
         }
@@ -51,32 +55,36 @@ fn take_records<D: Disk>(
 }
 
 impl<D: Disk> JournaledServer<D> {
-    ghost use Rattle.server_journal.specs.Journals.{IsKept, KeepsServer, LeavesEither, core_of, disk_in, is_over_in, made_of};
+    ghost use Rattle.server_journal.specs.Journals.{IsKept, KeepsServer, LeavesStep, core_of, disk_in, is_over_in, made_of, noted_of};
     ghost use Rattle.server_journal.specs.Opening.{LeavesOpening, Opened};
 
-    // The server with its log, once what its first call changed is there.
+    // The server with its log, once what its first call changed and told is there.
     fn begin(
         alloc: Global,
         kept: KeptServer,
         made: MadeObjects,
+        noted: KeptNotes,
+        told: &[Note],
         log: GateLog<D>,
     ) -> Result<Self, (JournalErr, D)>
         requires runs { over_of log ≡ false }
         ensures server { IfOk result (λ j. core_of j ≡ kept.server) }
         ensures objects { IfOk result (λ j. made_of j ≡ made) }
-        ensures any_moment { IfOk result (λ j. (was : Server) → Follows was kept → KeepsServer D.Disk was made log
-            → LeavesEither D.Disk (disk_of log) (disk_in j) was (crash kept.server)) }
-        ensures kept { IfOk result (λ j. (was : Server) → Follows was kept → KeepsServer D.Disk was made log → IsKept D.Disk j) }
+        ensures notes { IfOk result (λ j. noted_of j ≡ noted ++ asking told.now) }
+        ensures any_moment { IfOk result (λ j. (was : Server) → Follows was kept → KeepsServer D.Disk was made noted log
+            → LeavesStep D.Disk (disk_of log) (disk_in j) made was noted (crash kept.server) told.now) }
+        ensures kept { IfOk result (λ j. (was : Server) → Follows was kept → KeepsServer D.Disk was made noted log
+            → IsKept D.Disk j) }
         ensures goes_on { IfOk result (λ j. is_over_in j ≡ false) }
-        ensures cut_off { IfErr result (λ e. (was : Server) → Follows was kept → KeepsServer D.Disk was made log
-            → LeavesEither D.Disk (disk_of log) e.1 was (crash kept.server)) }
+        ensures cut_off { IfErr result (λ e. (was : Server) → Follows was kept → KeepsServer D.Disk was made noted log
+            → LeavesStep D.Disk (disk_of log) e.1 made was noted (crash kept.server) told.now) }
         ensures error { IfErr result (λ e. IsOfDisk e.0) }
         ensures cause { IfErr result (λ e. HasErrCause (D.faults (disk_of log)) (D.faults e.1) e.0) }
         ensures no_fault { IfOk result (λ j. D.faults (disk_in j) ≡ D.faults (disk_of log)) }
-        ensures quiet { IfOk result (λ j. kept.changes.entries ≡ [] → disk_in j ≡ disk_of log) }
+        ensures quiet { IfOk result (λ j. kept.changes.entries ≡ [] → asking told.now ≡ [] → disk_in j ≡ disk_of log) }
     {
-        let mut server = JournaledServer::of(alloc, kept, made, log);
-        match server.keep() {
+        let mut server = JournaledServer::of(alloc, kept, made, noted, log);
+        match server.keep(told) {
             Ok(()) => Ok(server),
             Err(e) => Err((e, server.into_disk())),
         }
@@ -87,28 +95,33 @@ impl<D: Disk> JournaledServer<D> {
         alloc: Global,
         restoration: Restoration,
         made: MadeObjects,
+        noted: KeptNotes,
         log: GateLog<D>,
     ) -> Result<(Self, Step), (JournalErr, D)>
         requires runs { over_of log ≡ false }
         ensures did { IfOk result (λ found. Did found.1 (core_of found.0) (reopen restoration)) }
         ensures objects { IfOk result (λ found. made_of found.0 ≡ made) }
-        ensures any_moment { IfOk result (λ found. KeepsServer D.Disk restoration made log
-            → LeavesEither D.Disk (disk_of log) (disk_in found.0) restoration (crash (reopen restoration).state)) }
-        ensures kept { IfOk result (λ found. KeepsServer D.Disk restoration made log → IsKept D.Disk found.0) }
+        ensures notes { IfOk result (λ found. noted_of found.0 ≡ noted ++ asking found.1.notes) }
+        ensures any_moment { IfOk result (λ found. KeepsServer D.Disk restoration made noted log
+            → LeavesStep D.Disk (disk_of log) (disk_in found.0) made restoration noted (crash (reopen restoration).state)
+            (reopen restoration).notes) }
+        ensures kept { IfOk result (λ found. KeepsServer D.Disk restoration made noted log → IsKept D.Disk found.0) }
         ensures counts { IfOk result (λ found. CountsOn restoration (core_of found.0)) }
         ensures goes_on { IfOk result (λ found. is_over_in found.0 ≡ false) }
-        ensures cut_off { IfErr result (λ e. KeepsServer D.Disk restoration made log
-            → LeavesEither D.Disk (disk_of log) e.1 restoration (crash (reopen restoration).state)) }
+        ensures cut_off { IfErr result (λ e. KeepsServer D.Disk restoration made noted log
+            → LeavesStep D.Disk (disk_of log) e.1 made restoration noted (crash (reopen restoration).state)
+            (reopen restoration).notes) }
         ensures error { IfErr result (λ e. IsOfDisk e.0) }
         ensures cause { IfErr result (λ e. HasErrCause (D.faults (disk_of log)) (D.faults e.1) e.0) }
         ensures no_fault { IfOk result (λ found. D.faults (disk_in found.0) ≡ D.faults (disk_of log)) }
-        ensures idle { IfOk result (λ found. restoration ≡ crash (reopen restoration).state → disk_in found.0 ≡ disk_of log) }
+        ensures idle { IfOk result (λ found. restoration ≡ crash (reopen restoration).state → asking found.1.notes ≡ []
+            → disk_in found.0 ≡ disk_of log) }
     {
         let (kept, step) = match restoration.open(alloc) {
             Ok(opened) => opened,
             Err(_) => return Err((JournalErr::Memory, log.into_disk())),
         };
-        match JournaledServer::begin(alloc, kept, made, log) {
+        match JournaledServer::begin(alloc, kept, made, noted, step.notes.as_slice(), log) {
             Ok(server) => Ok((server, step)),
             Err(refusal) => Err(refusal),
         }
@@ -126,6 +139,7 @@ impl<D: Disk> JournaledServer<D> {
         requires drives { CanAdd [] drives }
         ensures server { IfOk result (λ j. core_of j ≡ new_server (and_drives [] drives)) }
         ensures none { IfOk result (λ j. made_of j ≡ []) }
+        ensures silent { IfOk result (λ j. noted_of j ≡ []) }
         ensures kept { IfOk result (λ j. IsTrue (D.tells disk) → IsKept D.Disk j) }
         ensures empty { IfOk result (λ j. IsTrue (D.tells disk) → D.seen disk ≡ []) }
         ensures goes_on { IfOk result (λ j. is_over_in j ≡ false) }
@@ -144,15 +158,16 @@ impl<D: Disk> JournaledServer<D> {
             Err((e, disk)) => return Err((JournalErr::from(e), disk)),
         };
         let made = MadeObjects::new(alloc);
-        match JournaledServer::begin(alloc, kept, made, log) {
+        let noted = KeptNotes::new(alloc);
+        match JournaledServer::begin(alloc, kept, made, noted, &[], log) {
             Ok(server) => Ok(server),
             Err(refusal) => Err(refusal),
         }
     }
 
     /// Opens the journal that stands on a disk: the server to which its records lead, as the rules open it, and what that
-    /// step sends. What the step changes is on the disk at `Ok`; if that is nothing, nothing is written. It reads one record at a
-    /// time.
+    /// step sends. What the step changes, and each of its notes that asks for something, is on the disk at `Ok`; if that is
+    /// nothing, nothing is written. It reads one record at a time.
     ///
     /// # Errors
     ///
@@ -177,11 +192,12 @@ impl<D: Disk> JournaledServer<D> {
         }
         let mut restoration = Restoration::new(alloc);
         let mut made = MadeObjects::new(alloc);
-        match take_records(alloc, &mut reader, &mut restoration, &mut made) {
+        let mut noted = KeptNotes::new(alloc);
+        match take_records(alloc, &mut reader, &mut restoration, &mut made, &mut noted) {
             Ok(()) => {}
             Err(e) => return Err((e, reader.into_disk())),
         }
-        match JournaledServer::reopen(alloc, restoration, made, reader.into_log()) {
+        match JournaledServer::reopen(alloc, restoration, made, noted, reader.into_log()) {
             Ok(opened) => Ok(opened),
             Err(refusal) => Err(refusal),
         }

@@ -32,16 +32,16 @@ impl<D: Disk> JournaledServer<D> {
         requires placer { P.is_placer placer.now }
         ensures did { IfOk result (λ out. (chosen : List ℕ)
             × Did out (core_of self.new) (ordered (core_of self.old) chosen kind target).step) }
-        ensures answered { OnOk result (Answered D.Disk self.old self.new) }
+        ensures answered { IfOk result (λ out. Answered D.Disk self.old self.new out.notes) }
         ensures cut_off { OnErr result (CutOff D.Disk self.old self.new
-            (λ chosen. (ordered (core_of self.old) chosen kind target).step.state)) }
+            (λ chosen. (ordered (core_of self.old) chosen kind target).step)) }
         ensures error { IfErr result IsOfDisk }
         ensures over { is_over_in self.new ≡ is_err result }
         ensures cause { HasJournalCause (D.faults (disk_in self.old)) (D.faults (disk_in self.new)) result }
     {
         self.is_over = true;
         let step = self.kept.order(kind, target, placer)?;
-        match self.keep() {
+        match self.keep(step.notes.as_slice()) {
             Ok(()) => Ok(step),
             Err(e) => Err(e),
         }
@@ -57,16 +57,16 @@ impl<D: Disk> JournaledServer<D> {
         requires room { HasRoom (core_of self.old) }
         ensures did { IfOk result (λ out. (chosen : List ℕ)
             → Did out (core_of self.new) (ordered (core_of self.old) chosen order.Recall file).step) }
-        ensures answered { OnOk result (Answered D.Disk self.old self.new) }
+        ensures answered { IfOk result (λ out. Answered D.Disk self.old self.new out.notes) }
         ensures cut_off { OnErr result (CutOff D.Disk self.old self.new
-            (λ chosen. (ordered (core_of self.old) chosen order.Recall file).step.state)) }
+            (λ chosen. (ordered (core_of self.old) chosen order.Recall file).step)) }
         ensures error { IfErr result IsOfDisk }
         ensures over { is_over_in self.new ≡ is_err result }
         ensures cause { HasJournalCause (D.faults (disk_in self.old)) (D.faults (disk_in self.new)) result }
     {
         self.is_over = true;
         let step = self.kept.recall(file)?;
-        match self.keep() {
+        match self.keep(step.notes.as_slice()) {
             Ok(()) => Ok(step),
             Err(e) => Err(e),
         }
@@ -83,9 +83,9 @@ impl<D: Disk> JournaledServer<D> {
         requires placer { P.is_placer placer.now }
         ensures did { IfOk result (λ out. (chosen : List ℕ)
             × Did out (core_of self.new) (ordered (core_of self.old) chosen order.Revoke file).step) }
-        ensures answered { OnOk result (Answered D.Disk self.old self.new) }
+        ensures answered { IfOk result (λ out. Answered D.Disk self.old self.new out.notes) }
         ensures cut_off { OnErr result (CutOff D.Disk self.old self.new
-            (λ chosen. (ordered (core_of self.old) chosen order.Revoke file).step.state)) }
+            (λ chosen. (ordered (core_of self.old) chosen order.Revoke file).step)) }
         ensures error { IfErr result IsOfDisk }
         ensures over { is_over_in self.new ≡ is_err result }
         ensures cause { HasJournalCause (D.faults (disk_in self.old)) (D.faults (disk_in self.new)) result }
@@ -108,9 +108,9 @@ impl<D: Disk> JournaledServer<D> {
         requires placer { P.is_placer placer.now }
         ensures did { IfOk result (λ out. (chosen : List ℕ)
             × Did out (core_of self.new) (ordered (core_of self.old) chosen order.Rebuild file).step) }
-        ensures answered { OnOk result (Answered D.Disk self.old self.new) }
+        ensures answered { IfOk result (λ out. Answered D.Disk self.old self.new out.notes) }
         ensures cut_off { OnErr result (CutOff D.Disk self.old self.new
-            (λ chosen. (ordered (core_of self.old) chosen order.Rebuild file).step.state)) }
+            (λ chosen. (ordered (core_of self.old) chosen order.Rebuild file).step)) }
         ensures error { IfErr result IsOfDisk }
         ensures over { is_over_in self.new ≡ is_err result }
         ensures cause { HasJournalCause (D.faults (disk_in self.old)) (D.faults (disk_in self.new)) result }
@@ -132,9 +132,9 @@ impl<D: Disk> JournaledServer<D> {
         requires placer { P.is_placer placer.now }
         ensures did { IfOk result (λ out. (chosen : List ℕ)
             × Did out (core_of self.new) (ordered (core_of self.old) chosen order.Audit file).step) }
-        ensures answered { OnOk result (Answered D.Disk self.old self.new) }
+        ensures answered { IfOk result (λ out. Answered D.Disk self.old self.new out.notes) }
         ensures cut_off { OnErr result (CutOff D.Disk self.old self.new
-            (λ chosen. (ordered (core_of self.old) chosen order.Audit file).step.state)) }
+            (λ chosen. (ordered (core_of self.old) chosen order.Audit file).step)) }
         ensures error { IfErr result IsOfDisk }
         ensures over { is_over_in self.new ≡ is_err result }
         ensures cause { HasJournalCause (D.faults (disk_in self.old)) (D.faults (disk_in self.new)) result }
@@ -156,16 +156,16 @@ impl<D: Disk> JournaledServer<D> {
         requires placer { P.is_placer placer.now }
         ensures did { IfOk result (λ out. (chosen : List ℕ)
             × Did out (core_of self.new) (ordered (core_of self.old) chosen order.Declare drive).step) }
-        ensures answered { OnOk result (Answered D.Disk self.old self.new) }
+        ensures answered { IfOk result (λ out. Answered D.Disk self.old self.new out.notes) }
         ensures cut_off { OnErr result (CutOff D.Disk self.old self.new
-            (λ chosen. (ordered (core_of self.old) chosen order.Declare drive).step.state)) }
+            (λ chosen. (ordered (core_of self.old) chosen order.Declare drive).step)) }
         ensures error { IfErr result IsOfDisk }
         ensures over { is_over_in self.new ≡ is_err result }
         ensures cause { HasJournalCause (D.faults (disk_in self.old)) (D.faults (disk_in self.new)) result }
     {
         self.is_over = true;
         let step = self.kept.declare(drive, placer)?;
-        match self.keep() {
+        match self.keep(step.notes.as_slice()) {
             Ok(()) => Ok(step),
             Err(e) => Err(e),
         }

@@ -12,45 +12,57 @@ ghost use Rattle.server_rules.specs.declared.server.Server.{Server};
 ghost use Rattle.kept_server.specs.Keeping.{Follows};
 ghost use Rattle.layout_server.specs.Resending.{waited_of};
 ghost use Rattle.server_journal.specs.declared.errors.JournalErr.TheVariants.{Memory as NoMemory};
+ghost use Rattle.server_notes.specs.Asking.{asking};
 ghost use Rattle.server_journal.specs.Errors.{HasJournalCause, IsOfDisk};
 
 use crate::errors::JournalErr;
 use crate::made::{MadeObject, MadeObjects, made_bytes};
-use crate::record::entry_of;
+use crate::record::entries_of;
 use gate_log::{Entry, GateLog};
 use kept_server::KeptServer;
 use layout_server::{Sends, Step};
 use osd_disk::Disk;
 use osd_lists::{Node, Numbers};
-use server_rules::{Drive, Kept};
+use server_notes::{KeptNotes, keep_asking};
+use server_rules::{Drive, Kept, Note};
 use std::alloc::Global;
 use stripe_repair::Place;
 
 /// A metadata server that has each change on a disk before it answers.
 #[derive(Drop)]
 pub struct JournaledServer<D> {
-    alloc: Global,
+    pub(crate) alloc: Global,
     pub(crate) kept: KeptServer,
     // What drives have made for it, as its log tells.
-    made: MadeObjects,
-    log: GateLog<D>,
+    pub(crate) made: MadeObjects,
+    // What asks for something, as its log tells.
+    pub(crate) noted: KeptNotes,
+    pub(crate) log: GateLog<D>,
     // A call that changes the server began and wasn't answered.
     pub(crate) is_over: bool,
     ghost log_runs: { is_over ≡ false → over_of log ≡ false },
 }
 
 impl<D> JournaledServer<D> {
-    ghost use Rattle.server_journal.specs.Journals.{core_of, disk_in, is_over_in, made_of};
+    ghost use Rattle.server_journal.specs.Journals.{core_of, disk_in, is_over_in, made_of, noted_of};
 
     // The server with its log, before its first call.
-    pub(crate) fn of(alloc: Global, kept: KeptServer, made: MadeObjects, log: GateLog<D>) -> Self
+    pub(crate) fn of(
+        alloc: Global,
+        kept: KeptServer,
+        made: MadeObjects,
+        noted: KeptNotes,
+        log: GateLog<D>,
+    ) -> Self
         requires { over_of log ≡ false }
-        ensures { (result.kept ≡ kept) × (result.log ≡ log) × (made_of result ≡ made) × (is_over_in result ≡ false) }
+        ensures { (result.kept ≡ kept) × (result.log ≡ log) × (made_of result ≡ made) × (noted_of result ≡ noted)
+            × (is_over_in result ≡ false) }
     {
         JournaledServer {
             alloc,
             kept,
             made,
+            noted,
             log,
             is_over: false,
         }
@@ -141,58 +153,47 @@ impl<D> JournaledServer<D> {
     {
         self.made.as_slice()
     }
+
+    /// The notes that ask for something, in the order in which they were told, without those with which an operator has dealt.
+    pub fn noted(&self) -> &[Note]
+        ensures { result.now ≡ noted_of self.now }
+    {
+        self.noted.as_slice()
+    }
 }
 
 impl<D: Disk> JournaledServer<D> {
     ghost use Rattle.server_journal.specs.Calls.{Answered, CutOff};
-    ghost use Rattle.server_journal.specs.Journals.{IsKept, KeepsServer, LeavesEither, core_of, disk_in, is_over_in, made_of};
-    ghost use Rattle.server_journal.specs.Journals.{LeavesMade};
+    ghost use Rattle.server_journal.specs.Journals.{IsKept, KeepsServer, LeavesStep, core_of, disk_in, is_over_in, made_of};
+    ghost use Rattle.server_journal.specs.Journals.{LeavesMade, noted_of};
 
-    // Has the record of the last call on the disk.
-    fn append(&mut self) -> Result<(), JournalErr>
+    // Has what the last call changed of what is kept on the disk, and those of its notes that ask for something. Where there is
+    // neither, no call of the disk is made.
+    pub(crate) fn keep(&mut self, told: &[Note]) -> Result<(), JournalErr>
         requires runs { over_of self.old.log ≡ false }
         ensures kept_server { self.new.kept ≡ self.old.kept }
         ensures kept_made { made_of self.new ≡ made_of self.old }
-        ensures any_moment { (was : Server) → Follows was self.old.kept → KeepsServer D.Disk was self.old.made self.old.log
-            → LeavesEither D.Disk (disk_in self.old) (disk_in self.new) was (crash (core_of self.old)) }
-        ensures kept { OnOk result ((was : Server) → Follows was self.old.kept → KeepsServer D.Disk was self.old.made self.old.log
-            → IsKept D.Disk self.new) }
+        ensures noted { OnOk result (noted_of self.new ≡ noted_of self.old ++ asking told.now) }
+        ensures any_moment { (was : Server) → Follows was self.old.kept
+            → KeepsServer D.Disk was self.old.made self.old.noted self.old.log
+            → LeavesStep D.Disk (disk_in self.old) (disk_in self.new) (made_of self.old) was (noted_of self.old)
+            (crash (core_of self.old)) told.now }
+        ensures kept { OnOk result ((was : Server) → Follows was self.old.kept
+            → KeepsServer D.Disk was self.old.made self.old.noted self.old.log → IsKept D.Disk self.new) }
+        ensures quiet { self.old.kept.changes.entries ≡ [] → asking told.now ≡ [] → disk_in self.new ≡ disk_in self.old }
         ensures error { IfErr result IsOfDisk }
         ensures over { is_over_in self.new ≡ is_err result }
         ensures cause { HasJournalCause (D.faults (disk_in self.old)) (D.faults (disk_in self.new)) result }
     {
         self.is_over = true;
-        let entry = entry_of(self.alloc, self.kept.changes())?;
-        match self.log.append(&entry) {
+        let entries = entries_of(self.alloc, self.kept.changes(), told)?;
+        keep_asking(self.alloc, &mut self.noted, told)?;
+        match self.log.append_all(&entries) {
             Ok(()) => {}
             Err(e) => return Err(JournalErr::from(e)),
         }
         self.is_over = false;
         Ok(())
-    }
-
-    // Has what the last call changed of what is kept on the disk. Where it changed nothing, no call of the disk is made.
-    pub(crate) fn keep(&mut self) -> Result<(), JournalErr>
-        requires runs { over_of self.old.log ≡ false }
-        ensures kept_server { self.new.kept ≡ self.old.kept }
-        ensures kept_made { made_of self.new ≡ made_of self.old }
-        ensures any_moment { (was : Server) → Follows was self.old.kept → KeepsServer D.Disk was self.old.made self.old.log
-            → LeavesEither D.Disk (disk_in self.old) (disk_in self.new) was (crash (core_of self.old)) }
-        ensures kept { OnOk result ((was : Server) → Follows was self.old.kept → KeepsServer D.Disk was self.old.made self.old.log
-            → IsKept D.Disk self.new) }
-        ensures quiet { self.old.kept.changes.entries ≡ [] → disk_in self.new ≡ disk_in self.old }
-        ensures error { IfErr result IsOfDisk }
-        ensures over { is_over_in self.new ≡ is_err result }
-        ensures cause { HasJournalCause (D.faults (disk_in self.old)) (D.faults (disk_in self.new)) result }
-    {
-        if self.kept.changes().entries.len() == 0 {
-            self.is_over = false;
-            return Ok(());
-        }
-        match self.append() {
-            Ok(()) => Ok(()),
-            Err(stop) => Err(stop),
-        }
     }
 
     /// A drive has made an object for the server, as its answer to a CREATE said. That is on the disk at `Ok`, and the server
@@ -205,6 +206,7 @@ impl<D: Disk> JournaledServer<D> {
     pub fn keep_made(&mut self, object: MadeObject) -> Result<(), JournalErr>
         requires goes_on { is_over_in self.old ≡ false }
         ensures server { core_of self.new ≡ core_of self.old }
+        ensures noted { noted_of self.new ≡ noted_of self.old }
         ensures made { OnOk result (made_of self.new ≡ made_of self.old ++ object ∷ []) }
         ensures any_moment { IsKept D.Disk self.old → LeavesMade D.Disk self.old self.new object }
         ensures kept { OnOk result (IsKept D.Disk self.old → IsKept D.Disk self.new) }
@@ -227,7 +229,8 @@ impl<D: Disk> JournaledServer<D> {
     /// Bytes come from a node, at a time of the server's clock in seconds. Nothing changes where they can't be read,
     /// where their sender may not send such a message, or where the counters have no room. What changes is on the disk
     /// at `Ok`: a crash at any moment of the call leaves a journal of the server as it was or after the step, and after the
-    /// answer one of the latter. Where nothing changes that a crash would take no call of the disk is made.
+    /// answer one of the latter; the notes of the step that ask for something are in it with the step, and never without it.
+    /// Where nothing changes that a crash would take, and nothing is told that asks for something, no call of the disk is made.
     ///
     /// # Errors
     ///
@@ -243,16 +246,16 @@ impl<D: Disk> JournaledServer<D> {
         requires placer { P.is_placer placer.now }
         ensures did { IfOk result (λ out. (chosen : List ℕ)
             × Did out (core_of self.new) (on_bytes (core_of self.old) now chosen from bytes.now)) }
-        ensures answered { OnOk result (Answered D.Disk self.old self.new) }
+        ensures answered { IfOk result (λ out. Answered D.Disk self.old self.new out.notes) }
         ensures cut_off { OnErr result (CutOff D.Disk self.old self.new
-            (λ chosen. (on_bytes (core_of self.old) now chosen from bytes.now).state)) }
+            (λ chosen. on_bytes (core_of self.old) now chosen from bytes.now)) }
         ensures error { IfErr result IsOfDisk }
         ensures over { is_over_in self.new ≡ is_err result }
         ensures cause { HasJournalCause (D.faults (disk_in self.old)) (D.faults (disk_in self.new)) result }
     {
         self.is_over = true;
         let step = self.kept.on_message(now, from, bytes, placer)?;
-        match self.keep() {
+        match self.keep(step.notes.as_slice()) {
             Ok(()) => Ok(step),
             Err(e) => Err(e),
         }

@@ -12,6 +12,7 @@ use Rattle.gate_log.specs.Standing.{disk_of}
 use Rattle.layout_server.specs.Creating.{cause_of}
 use Rattle.server_rules.specs.declared.server.Refusal.{Refusal}
 use Rattle.server_rules.specs.declared.server.Refusal.TheVariants as refusal
+use Rattle.server_rules.specs.declared.notes.Note.{Note}
 use Rattle.server_rules.specs.declared.server.Server.{Server}
 use Rattle.server_rules.specs.Files.{Step as RulesStep}
 use Rattle.server_rules.specs.History.{unless_made}
@@ -30,8 +31,8 @@ use Rattle.server_journal.specs.declared.errors.JournalFileErr.{JournalFileErr}
 use Rattle.server_journal.specs.declared.errors.JournalFileErr.TheVariants as file
 use Rattle.server_journal.specs.Calls.{Answered, IsRefused, MakesNot, Stays}
 use Rattle.server_journal.specs.Errors.{file_told_by}
-use Rattle.server_journal.specs.Journals.{IsJournalWith, IsKept, KeepsServer, LeavesEither, LeavesMade, core_of, is_over_in, made_of}
-use Rattle.server_journal.specs.Resting.{journal_of}
+use Rattle.server_journal.specs.Journals.{IsJournalWith, IsKept, KeepsServer, LeavesEither, LeavesMade, LeavesStep, core_of, is_over_in, made_of, noted_of}
+use Rattle.server_journal.specs.Resting.{journal_of, step_leaves}
 use Rattle.server_journal.specs.declared.made.MadeObject.{MadeObject}
 use Rattle.stored_server.specs.declared.stored_server.StoredServer.{StoredServer}
 use Rattle.stored_server.specs.StoredServer.{StandsFor, is_among, kept_on, make_err_of, stays, step_err_of}
@@ -86,26 +87,30 @@ module _ {D : Type 0} (s : DiskGhosts D) where
   -- ---- a step
 
   -- what a crash leaves of it is what it leaves of its disk
-  of_either : (x : ServerStep) (old new : StoredServer D) (after : Server) → after ≡ after_step (core_of old.journal) x
-      → LeavesEither s (kept_on old) (kept_on new) (crash (core_of old.journal)) (crash after)
+  of_either : (x : ServerStep) (old new : StoredServer D) (after : Server) (told : List Note)
+      → after ≡ after_step (core_of old.journal) x
+      → LeavesStep s (kept_on old) (kept_on new) (made_of old.journal) (crash (core_of old.journal)) (noted_of old.journal)
+      (crash after) told
       → LeavesOnly (λ (y : StoredServer D). s.moment (kept_on y)) (λ (y : StoredServer D). s.left_since (kept_on y)) old new
       (StandsForSome StandsFor (core_of old.journal) (x ∷ []))
-  of_either x old new after is l =
-      let m = subst (λ (v : Server). LeavesEither s (kept_on old) (kept_on new) (crash (core_of old.journal)) (crash v)) is l in
+  of_either x old new after told is l =
+      let m = subst (λ (v : Server). LeavesEither s (kept_on old) (kept_on new) (crash (core_of old.journal)) (crash v)) is
+      (step_leaves s (kept_on old) (kept_on new) (made_of old.journal) (crash (core_of old.journal)) (noted_of old.journal)
+      (crash after) told l) in
       record { later = m.later; each = m.each; before = m.before }
 
   pub went_step : ((disk : D) (c : List ℕ) → s.left_since disk (s.moment disk) c → s.may_leave disk c)
-      → (x : ServerStep) (old new : StoredServer D)
-      → core_of new.journal ≡ after_step (core_of old.journal) x → Answered s old.journal new.journal
+      → (x : ServerStep) (old new : StoredServer D) (told : List Note)
+      → core_of new.journal ≡ after_step (core_of old.journal) x → Answered s old.journal new.journal told
       → is_over_in new.journal ≡ false
       → s.faults (kept_on new) ≡ s.faults (kept_on old) → JournalWent (x ∷ []) old new
-  went_step only_now x old new is answered on same = record {
+  went_step only_now x old new told is answered on same = record {
     state = is;
     carries = record {
       few = omega arith;
-      crash = λ k. of_either x old new (core_of new.journal) is (answered.any_moment k);
+      crash = λ k. of_either x old new (core_of new.journal) told is (answered.any_moment k);
       since = λ k.
-          let leaves = of_either x old new (core_of new.journal) is (answered.any_moment k) in (
+          let leaves = of_either x old new (core_of new.journal) told is (answered.any_moment k) in (
             leaves.each,
             s.moment (kept_on new),
             leaves.later,
@@ -118,15 +123,16 @@ module _ {D : Type 0} (s : DiskGhosts D) where
     same = same;
   }
 
-  pub broke_step : (x : ServerStep) (failed : Type 0) (old new : StoredServer D) (after : Server)
+  pub broke_step : (x : ServerStep) (failed : Type 0) (old new : StoredServer D) (after : Server) (told : List Note)
       → after ≡ after_step (core_of old.journal) x
-      → (IsKept s old.journal → LeavesEither s (kept_on old) (kept_on new) (crash (core_of old.journal)) (crash after))
+      → (IsKept s old.journal → LeavesStep s (kept_on old) (kept_on new) (made_of old.journal) (crash (core_of old.journal))
+      (noted_of old.journal) (crash after) told)
       → (failed → Rose (s.faults (kept_on old)) (s.faults (kept_on new))) → JournalBroke [] (x ∷ []) failed old new
-  broke_step x failed old new after is leaves rose = record {
+  broke_step x failed old new after told is leaves rose = record {
     carries = record {
       few = omega arith;
-      crash = λ k. of_either x old new after is (leaves k);
-      since = λ k. (of_either x old new after is (leaves k)).each;
+      crash = λ k. of_either x old new after told is (leaves k);
+      since = λ k. (of_either x old new after told is (leaves k)).each;
     };
     rose = rose;
   }
@@ -144,11 +150,11 @@ module _ {D : Type 0} (s : DiskGhosts D) where
   }
     where
       either : (c : List ℕ)
-          → IsJournalWith (crash (core_of old.journal)) (made_of old.journal) c
-          ⊎ IsJournalWith (crash (core_of old.journal)) (made_of old.journal ++ m ∷ []) c
+          → IsJournalWith (crash (core_of old.journal)) (made_of old.journal) (noted_of old.journal) c
+          ⊎ IsJournalWith (crash (core_of old.journal)) (made_of old.journal ++ m ∷ []) (noted_of old.journal) c
           → StandsFor (core_of old.journal) c
-      either c (inl is) = journal_of _ _ c is
-      either c (inr is) = journal_of _ _ c is
+      either c (inl is) = journal_of _ _ _ c is
+      either c (inr is) = journal_of _ _ _ c is
 
   pub went_told : (m : MadeObject) (old new : StoredServer D) → core_of new.journal ≡ core_of old.journal
       → (IsKept s old.journal → LeavesMade s old.journal new.journal m) → (IsKept s old.journal → IsKept s new.journal)
@@ -192,10 +198,11 @@ module _ {D : Type 0} (s : DiskGhosts D) where
       → (number : ℕ) (raw : RawMap) (tag : ℕ)
       (chosen : List ℕ) (old new : StoredServer D) (r : RulesStep)
       → create_file (core_of old.journal) number raw tag false chosen ≡ Ok r
-      → core_of new.journal ≡ r.state → Answered s old.journal new.journal → is_over_in new.journal ≡ false
+      → core_of new.journal ≡ r.state → (told : List Note) → Answered s old.journal new.journal told
+      → is_over_in new.journal ≡ false
       → s.faults (kept_on new) ≡ s.faults (kept_on old) → JournalWent (steps.Makes number raw tag chosen ∷ []) old new
-  went_making only_now number raw tag chosen old new r makes is answered on same =
-      went_step only_now (steps.Makes number raw tag chosen) old new
+  went_making only_now number raw tag chosen old new r makes is told answered on same =
+      went_step only_now (steps.Makes number raw tag chosen) old new told
       (is ∙ sym (ap (λ (x : Result RulesStep Refusal). (unless_made (core_of old.journal) x).state) makes)) answered on same
 
   -- nothing changed
@@ -216,9 +223,14 @@ module _ {D : Type 0} (s : DiskGhosts D) where
           };
           since = λ k c left. held c k left;
         };
-        keeps_on = λ k. subst (λ (v : Server). KeepsServer s (crash v) (made_of new.journal) new.journal.log) (sym same.server)
-            (subst (λ (ms : List MadeObject). KeepsServer s (crash (core_of old.journal)) ms new.journal.log) (sym same.made)
-            (subst (λ (l : GateLog D). KeepsServer s (crash (core_of old.journal)) (made_of old.journal) l) (sym same.log) k));
+        keeps_on = λ k. subst (λ (v : Server). KeepsServer s (crash v) (made_of new.journal) (noted_of new.journal) new.journal.log)
+            (sym same.server)
+            (subst (λ (ms : List MadeObject). KeepsServer s (crash (core_of old.journal)) ms (noted_of new.journal)
+            new.journal.log) (sym same.made)
+            (subst (λ (ns : List Note). KeepsServer s (crash (core_of old.journal)) (made_of old.journal) ns new.journal.log)
+            (sym same.noted)
+            (subst (λ (l : GateLog D). KeepsServer s (crash (core_of old.journal)) (made_of old.journal) (noted_of old.journal) l)
+            (sym same.log) k)));
         goes_on = same.goes_on;
         same = ap (λ (d : D). s.faults d) disk;
       }
@@ -242,7 +254,7 @@ module _ {D : Type 0} (s : DiskGhosts D) where
           × JournalBroke [] (steps.Makes number raw tag chosen ∷ []) (make_err_of (file.Journal x) ≡ made.DiskFault) old new
       cut x c = (
         c.3.chosen,
-        broke_step (steps.Makes number raw tag c.3.chosen) (make_err_of (file.Journal x) ≡ made.DiskFault) old new _ refl
+        broke_step (steps.Makes number raw tag c.3.chosen) (make_err_of (file.Journal x) ≡ made.DiskFault) old new _ _ refl
             c.3.any_moment
             (λ is. c.2.failed (make_fault x is)),
       )

@@ -15,7 +15,7 @@ use Rattle.server_command.specs.declared.server_stop.ServerStop.TheVariants.{Dis
 use Rattle.server_command.specs.Ends.{Serves}
 use Rattle.server_command.specs.Kept.{StandsForSome}
 use Rattle.server_command.specs.Steps.{ServerStep, after_steps}
-use Rattle.server_journal.specs.Journals.{IsKept, core_of, made_of}
+use Rattle.server_journal.specs.Journals.{IsKept, core_of, made_of, noted_of}
 use Rattle.server_journal.specs.Opening.{IsOfOpening}
 use Rattle.server_journal.specs.Resting as resting
 use Rattle.server_journal.proofs.JournalLaws.{on_and_on, weaker}
@@ -80,8 +80,9 @@ module _ {D : Type 0} (s : DiskGhosts D) where
           (leaves_run disk left old new (done ++ []) same (opens told) (x.crash (kept told)));
       stays = λ told. stays_since old new done [] left x (kept told) same;
       stands = λ told. subst (λ (d : D). StandsFor (core_of new.journal) (s.seen d)) (sym same)
-          (resting.journal_of (crash (core_of new.journal)) (made_of new.journal) (s.seen (kept_on new))
-          (resting.stands s (crash (core_of new.journal)) (made_of new.journal) new.journal.log (keeps (kept told))));
+          (resting.journal_of (crash (core_of new.journal)) (made_of new.journal) (noted_of new.journal) (s.seen (kept_on new))
+          (resting.stands s (crash (core_of new.journal)) (made_of new.journal) (noted_of new.journal) new.journal.log
+          (keeps (kept told))));
       durable = λ told. subst (λ (d : D). Only (s.seen d) (s.may_leave d)) (sym same) (keeps (kept told)).rest.durable;
       same = ap (λ (d : D). s.faults d) same ∙ (still ∙ faults);
     }

@@ -48,7 +48,7 @@ StandsFor s c = IsJournalOf (crash s) c
 pub stays : {D : Type 0} (k : Ghosts D) → ((disk : D) (c : List ℕ) → k.left_since disk (k.moment disk) c → k.may_leave disk c)
     → (s : StoredServer D) (c : List ℕ) → IsKept k s.journal → k.left_since (kept_on s) (k.moment (kept_on s)) c
     → StandsFor (core_of s.journal) c
-stays k only_now s c kept left = kept_leaves k (crash (core_of s.journal)) s.journal.made s.journal.log kept c
+stays k only_now s c kept left = kept_leaves k (crash (core_of s.journal)) s.journal.made s.journal.noted s.journal.log kept c
     (only_now (kept_on s) c left)
 
 -- the ghost members of a disk, one by one

@@ -3,6 +3,7 @@
 //! cluster that the journal lacks, and serves connections.
 #![tactic(auto)]
 
+mod again;
 mod command;
 mod lacking;
 mod opened;

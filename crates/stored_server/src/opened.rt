@@ -4,6 +4,7 @@ ghost use Rattle.server_journal.specs.Journals.{IsKept, core_of, is_over_in, mad
 ghost use Rattle.stored_server.specs.Opened.{BeginsWith, LeavesOpenable, StopsOpening, stop_of_journal};
 ghost use Rattle.stored_server.specs.StoredServer.{kept_on};
 
+use crate::again::told_again;
 use crate::stored_server::StoredServer;
 use cluster_text::CommandStop;
 use drive_command::StoredStop;
@@ -52,7 +53,10 @@ pub(crate) fn journal_on<D: Disk>(
     };
     if size > 0 {
         return match JournaledServer::open(alloc, disk) {
-            Ok((journal, step)) => Ok((StoredServer { journal }, step)),
+            Ok((journal, step)) => match told_again(alloc, journal.noted(), step) {
+                Ok(step) => Ok((StoredServer { journal }, step)),
+                Err(e) => Err((StoredStop::from(e), journal.into_disk())),
+            },
             Err((e, disk)) => Err((stop_of(e), disk)),
         };
     }

@@ -21,7 +21,7 @@ pub returns-in-Ok-clause-did : goal.returns-in-Ok-clause-did
 returns-in-Ok-clause-did c =
     let o = c.in-Ok.ensures.opened refl in
     subst (λ (s : Server). Did c.in-Ok.found.1 (core_of c.in-Ok.found.0) (reopen s))
-    (c.contents_stand_for_one_server.ensures.one o.before (crash c.args.was.server) (bytes_of c.args.disk) (journal_of o.before _ (bytes_of c.args.disk) o.stood) c.requires)
+    (c.contents_stand_for_one_server.ensures.one o.before (crash c.args.was.server) (bytes_of c.args.disk) (journal_of o.before _ _ (bytes_of c.args.disk) o.stood) c.requires)
     o.did
 
 pub returns-in-Ok-clause-well : goal.returns-in-Ok-clause-well

@@ -6,8 +6,8 @@ use Rattle.server_journal.proofs.opening.take_records.Given as goal
 
 abbrev pub invariant-loop-body : goal.invariant-loop-body
 invariant-loop-body g l = record {
-  taken : HasTaken g.D.Disk l.initial.restoration l.initial.made l.initial.reader
-      → HasTaken g.D.Disk l.restoration l.made l.reader;
+  taken : HasTaken g.D.Disk l.initial.restoration l.initial.made l.initial.noted l.initial.reader
+      → HasTaken g.D.Disk l.restoration l.made l.noted l.reader;
   place : l.at ≡ place_of l.reader;
   disk : OnlyRead g.D.Disk.tells g.D.Disk.seen g.D.Disk.may_leave g.D.Disk.moment g.D.Disk.left_since (read_disk l.initial.reader)
       (read_disk l.reader);

@@ -1,14 +1,12 @@
-use Rattle.std.proofs.Common.{[], List, subst, sym}
+use Rattle.std.proofs.Common.{[]}
 use Rattle.server_rules.specs.Making.{new_server}
-use Rattle.server_journal.specs.declared.made.MadeObject.{MadeObject}
-use Rattle.server_journal.specs.Journals.{KeepsServer}
 use Rattle.server_journal.proofs.OpeningLaws.{new_kept, no_size}
 use Rattle.server_journal.proofs.server.JournaledServer.create.Goals as goal
 
 pub returns-in-Ok-begin-clause-kept : goal.returns-in-Ok-begin-clause-kept
 returns-in-Ok-begin-clause-kept g c told =
     c.in-Ok-begin.ensures.kept (new_server []) c.in-Ok.ensures.follows
-    (subst (λ (ms : List MadeObject). KeepsServer g.D.Disk (new_server []) ms c.in-Ok-create.log) (sym c.new-made.ensures)
+    (rw (c.new-made.ensures, c.new-noted.ensures)
     (new_kept g.D.Disk _ c.in-Ok-create.log c.header_bytes-header.ensures (c.in-Ok-create.ensures.made told)))
 
 pub returns-in-Err-begin-clause-refused : goal.returns-in-Err-begin-clause-refused

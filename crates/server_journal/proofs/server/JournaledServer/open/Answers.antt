@@ -1,11 +1,9 @@
-use Rattle.std.proofs.Common.{rules, IsTrue, ℕ, List, [], ◌∙◌, refl, sym, subst}
+use Rattle.std.proofs.Common.{rules, IsTrue, ℕ, List, ◌∙◌, refl, sym, subst}
 use Rattle.osd_disk.proofs.Moments.{read_again}
 use Rattle.gate_log.specs.Standing.{header_of, read_disk}
-use Rattle.server_rules.specs.declared.server.Server.{Server}
-use Rattle.server_rules.specs.Making.{new_server}
 use Rattle.server_journal.specs.declared.made.MadeObject.{MadeObject}
 use Rattle.server_journal.specs.Journals.{IsJournalWith}
-use Rattle.server_journal.specs.Opening.{HasTaken, IsNoJournalAt}
+use Rattle.server_journal.specs.Opening.{IsNoJournalAt}
 use Rattle.server_journal.proofs.OpeningLaws.{no_place, opening_leaves, other_header_at, read_leaves, read_so_far, read_still, says_so, stood_for, taken_first, taken_kept}
 use Rattle.server_journal.proofs.server.JournaledServer.open.Goals as goal
 
@@ -40,8 +38,7 @@ returns-in-Err-take_records-clause-refused g c =
     (sym c.header.ensures ∙ c.is_header.ensures.yes yes)
     (c.in-Ok.ensures.begun told) in
     subst (λ (x : List ℕ). IsNoJournalAt x at) c.in-Ok.ensures.disk.seen_same
-    (says (subst (λ (s : Server). HasTaken g.D.Disk s c.new-made.result c.in-Ok.reader) (sym c.new-restoration.ensures)
-    (subst (λ (ms : List MadeObject). HasTaken g.D.Disk (new_server []) ms c.in-Ok.reader) (sym c.new-made.ensures) first))))
+    (says (rw (c.new-restoration.ensures, c.new-made.ensures, c.new-noted.ensures) first)))
     c.in-Err-take_records.ensures.refused
 
 pub returns-in-Ok-reopen-clause-opened : goal.returns-in-Ok-reopen-clause-opened
@@ -51,25 +48,30 @@ returns-in-Ok-reopen-clause-opened g c told =
     (sym c.header.ensures ∙ c.is_header.ensures.yes yes)
     (c.in-Ok.ensures.begun told) in
     let taken = c.in-Ok-take_records.ensures.taken
-    (subst (λ (s : Server). HasTaken g.D.Disk s c.new-made.result c.in-Ok.reader) (sym c.new-restoration.ensures)
-    (subst (λ (ms : List MadeObject). HasTaken g.D.Disk (new_server []) ms c.in-Ok.reader) (sym c.new-made.ensures) first)) in
-    let kept = taken_kept g.D.Disk c.take_records.new.restoration c.take_records.new.made c.take_records.new.reader c.into_log.result taken
-    c.into_log.ensures.log in
+    (rw (c.new-restoration.ensures, c.new-made.ensures, c.new-noted.ensures) first) in
+    let kept =
+    taken_kept g.D.Disk c.take_records.new.restoration c.take_records.new.made c.take_records.new.noted
+    c.take_records.new.reader c.into_log.result taken c.into_log.ensures.log in
     let read = read_so_far g.D.Disk c.args.disk c.in-Ok.reader c.take_records.new.reader c.into_log.result c.in-Ok.ensures.disk
     c.take_records.ensures.disk
     c.into_log.ensures.disk in
     record {
       before = c.take_records.new.restoration;
-      stood = subst (λ (ms : List MadeObject). IsJournalWith c.take_records.new.restoration ms (g.D.Disk.seen c.args.disk))
+      notes = c.take_records.new.noted;
+      stood = subst (λ (ms : List MadeObject). IsJournalWith c.take_records.new.restoration ms c.take_records.new.noted
+          (g.D.Disk.seen c.args.disk))
           (sym c.in-Ok-reopen.ensures.objects)
-          (stood_for g.D.Disk c.args.disk c.take_records.new.restoration c.take_records.new.made c.into_log.result read kept);
+          (stood_for g.D.Disk c.args.disk c.take_records.new.restoration c.take_records.new.made c.take_records.new.noted
+          c.into_log.result read kept);
       did = c.in-Ok-reopen.ensures.did;
+      noted = c.in-Ok-reopen.ensures.notes;
       kept = c.in-Ok-reopen.ensures.kept kept;
       counts = c.in-Ok-reopen.ensures.counts;
       any_moment =
-          opening_leaves g.D.Disk g.met.D.Disk.only_now c.args.disk _ c.take_records.new.restoration c.take_records.new.made c.into_log.result read kept
+          opening_leaves g.D.Disk g.met.D.Disk.only_now c.args.disk _ c.take_records.new.restoration c.take_records.new.made
+    c.take_records.new.noted c.into_log.result read kept
           (c.in-Ok-reopen.ensures.any_moment kept);
-      idle = λ is. read_still g.D.Disk c.args.disk _ _ (c.in-Ok-reopen.ensures.idle is) read;
+      idle = λ is none. read_still g.D.Disk c.args.disk _ _ (c.in-Ok-reopen.ensures.idle is none) read;
     }
 
 pub returns-in-Err-reopen-clause-cut_off : goal.returns-in-Err-reopen-clause-cut_off
@@ -79,14 +81,15 @@ returns-in-Err-reopen-clause-cut_off g c told =
     (sym c.header.ensures ∙ c.is_header.ensures.yes yes)
     (c.in-Ok.ensures.begun told) in
     let taken = c.in-Ok-take_records.ensures.taken
-    (subst (λ (s : Server). HasTaken g.D.Disk s c.new-made.result c.in-Ok.reader) (sym c.new-restoration.ensures)
-    (subst (λ (ms : List MadeObject). HasTaken g.D.Disk (new_server []) ms c.in-Ok.reader) (sym c.new-made.ensures) first)) in
-    let kept = taken_kept g.D.Disk c.take_records.new.restoration c.take_records.new.made c.take_records.new.reader c.into_log.result taken
-    c.into_log.ensures.log in
+    (rw (c.new-restoration.ensures, c.new-made.ensures, c.new-noted.ensures) first) in
+    let kept =
+    taken_kept g.D.Disk c.take_records.new.restoration c.take_records.new.made c.take_records.new.noted
+    c.take_records.new.reader c.into_log.result taken c.into_log.ensures.log in
     let read = read_so_far g.D.Disk c.args.disk c.in-Ok.reader c.take_records.new.reader c.into_log.result c.in-Ok.ensures.disk
     c.take_records.ensures.disk
     c.into_log.ensures.disk in
-    opening_leaves g.D.Disk g.met.D.Disk.only_now c.args.disk _ c.take_records.new.restoration c.take_records.new.made c.into_log.result read kept
+    opening_leaves g.D.Disk g.met.D.Disk.only_now c.args.disk _ c.take_records.new.restoration c.take_records.new.made
+    c.take_records.new.noted c.into_log.result read kept
     (c.in-Err-reopen.ensures.cut_off kept)
 
 pub returns-in-Err-reopen-clause-refused : goal.returns-in-Err-reopen-clause-refused

@@ -1,4 +1,6 @@
-use Rattle.std.proofs.Common.{refl}
+use Rattle.std.proofs.Common.{refl, List, ◌∙◌, subst}
+use Rattle.server_rules.specs.declared.notes.Note.{Note}
+use Rattle.server_journal.specs.Calls.{Answered}
 use Rattle.server_rules.specs.Orders.{ordered}
 use Rattle.server_journal.proofs.JournalLaws.{answered, at_error, cut_off, stopped}
 use Rattle.server_journal.proofs.server.JournaledServer.order.Goals as goal
@@ -11,14 +13,16 @@ returns-in-Ok-clause-did g c = rw c.keep.ensures.kept_server c.in_ok-step.ensure
 
 pub returns-in-Ok-clause-answered : goal.returns-in-Ok-clause-answered
 returns-in-Ok-clause-answered g c =
-    answered g.D.Disk c.args.self.now c.keep.new.self c.order.new.self c.order.ensures.kept c.order.ensures.quiet
-    c.in_ok-step.ensures.over
-    c.keep.ensures.kept_server c.keep.ensures.any_moment c.in-Ok.ensures.kept c.keep.ensures.quiet
+    subst (λ (told : List Note). Answered g.D.Disk c.args.self.now c.keep.new.self told) c.as_slice.ensures
+    (answered g.D.Disk c.args.self.now c.keep.new.self c.order.new.self c.as_slice.result.now c.order.ensures.kept
+    c.order.ensures.quiet c.in_ok-step.ensures.over
+    c.keep.ensures.kept_server c.keep.ensures.kept_made
+    c.in-Ok.ensures.noted c.keep.ensures.any_moment c.in-Ok.ensures.kept c.keep.ensures.quiet)
 
 pub returns-in-Err-clause-cut_off : goal.returns-in-Err-clause-cut_off
 returns-in-Err-clause-cut_off g c =
-    cut_off g.D.Disk c.args.self.now c.keep.new.self c.order.new.self
-    (λ chosen. (ordered c.args.self.now.kept.server chosen c.args.kind c.args.target).step.state)
-    c.in_ok-step.ensures.did.0 c.in_ok-step.ensures.did.1.state c.order.ensures.kept c.order.ensures.quiet
-    c.in_ok-step.ensures.over
-    c.keep.ensures.any_moment c.keep.ensures.quiet
+    let did = c.in_ok-step.ensures.did.1 in
+    cut_off g.D.Disk c.args.self.now c.keep.new.self c.order.new.self c.as_slice.result.now
+    (λ chosen. (ordered c.args.self.now.kept.server chosen c.args.kind c.args.target).step)
+    c.in_ok-step.ensures.did.0 did.state (c.as_slice.ensures ∙ did.notes) c.order.ensures.kept c.order.ensures.quiet
+    c.in_ok-step.ensures.over c.keep.ensures.any_moment c.keep.ensures.quiet

@@ -1,4 +1,6 @@
-use Rattle.std.proofs.Common.{[], refl}
+use Rattle.std.proofs.Common.{[], refl, List, ◌∙◌, subst}
+use Rattle.server_rules.specs.declared.notes.Note.{Note}
+use Rattle.server_journal.specs.Calls.{Answered}
 use Rattle.layout_ops.specs.declared.orders.OrderKind.TheVariants as order
 use Rattle.server_rules.specs.Orders.{ordered}
 use Rattle.server_journal.proofs.JournalLaws.{answered, at_error, cut_off, stopped}
@@ -12,13 +14,16 @@ returns-in-Ok-clause-did g c = rw c.keep.ensures.kept_server c.in_ok-step.ensure
 
 pub returns-in-Ok-clause-answered : goal.returns-in-Ok-clause-answered
 returns-in-Ok-clause-answered g c =
-    answered g.D.Disk c.args.self.now c.keep.new.self c.recall.new.self c.recall.ensures.kept c.recall.ensures.quiet
-    c.in_ok-step.ensures.over
-    c.keep.ensures.kept_server c.keep.ensures.any_moment c.in-Ok.ensures.kept c.keep.ensures.quiet
+    subst (λ (told : List Note). Answered g.D.Disk c.args.self.now c.keep.new.self told) c.as_slice.ensures
+    (answered g.D.Disk c.args.self.now c.keep.new.self c.recall.new.self c.as_slice.result.now c.recall.ensures.kept
+    c.recall.ensures.quiet c.in_ok-step.ensures.over
+    c.keep.ensures.kept_server c.keep.ensures.kept_made
+    c.in-Ok.ensures.noted c.keep.ensures.any_moment c.in-Ok.ensures.kept c.keep.ensures.quiet)
 
 pub returns-in-Err-clause-cut_off : goal.returns-in-Err-clause-cut_off
 returns-in-Err-clause-cut_off g c =
-    cut_off g.D.Disk c.args.self.now c.keep.new.self c.recall.new.self
-    (λ chosen. (ordered c.args.self.now.kept.server chosen order.Recall c.args.file).step.state)
-    [] (c.in_ok-step.ensures.did []).state c.recall.ensures.kept c.recall.ensures.quiet c.in_ok-step.ensures.over
-    c.keep.ensures.any_moment c.keep.ensures.quiet
+    let did = c.in_ok-step.ensures.did [] in
+    cut_off g.D.Disk c.args.self.now c.keep.new.self c.recall.new.self c.as_slice.result.now
+    (λ chosen. (ordered c.args.self.now.kept.server chosen order.Recall c.args.file).step)
+    [] did.state (c.as_slice.ensures ∙ did.notes) c.recall.ensures.kept c.recall.ensures.quiet
+    c.in_ok-step.ensures.over c.keep.ensures.any_moment c.keep.ensures.quiet

@@ -1,5 +1,6 @@
 use Rattle.std.proofs.Common.{[], refl}
 use Rattle.server_rules.specs.Making.{set_format}
+use Rattle.server_rules.specs.Files.{still}
 use Rattle.server_journal.proofs.JournalLaws.{answered, at_error, cut_off, stopped}
 use Rattle.server_journal.proofs.server.JournaledServer.set_format.Goals as goal
 
@@ -8,13 +9,14 @@ returns-in_err-set_format-clause-cut_off g c = at_error _ _ (stopped g.D.Disk g.
 
 pub returns-in-Ok-clause-answered : goal.returns-in-Ok-clause-answered
 returns-in-Ok-clause-answered g c =
-    answered g.D.Disk c.args.self.now c.keep.new.self c.set_format.new.self c.set_format.ensures.kept c.set_format.ensures.quiet
+    answered g.D.Disk c.args.self.now c.keep.new.self c.set_format.new.self [] c.set_format.ensures.kept c.set_format.ensures.quiet
     c.in_ok-set_format.ensures.over
-    c.keep.ensures.kept_server c.keep.ensures.any_moment c.in-Ok.ensures.kept c.keep.ensures.quiet
+    c.keep.ensures.kept_server c.keep.ensures.kept_made
+    c.in-Ok.ensures.noted c.keep.ensures.any_moment c.in-Ok.ensures.kept c.keep.ensures.quiet
 
 pub returns-in-Err-clause-cut_off : goal.returns-in-Err-clause-cut_off
 returns-in-Err-clause-cut_off g c =
-    cut_off g.D.Disk c.args.self.now c.keep.new.self c.set_format.new.self
-    (λ chosen. set_format c.args.self.now.kept.server c.args.format)
-    [] c.in_ok-set_format.ensures.set c.set_format.ensures.kept c.set_format.ensures.quiet c.in_ok-set_format.ensures.over
+    cut_off g.D.Disk c.args.self.now c.keep.new.self c.set_format.new.self []
+    (λ chosen. still (set_format c.args.self.now.kept.server c.args.format))
+    [] c.in_ok-set_format.ensures.set refl c.set_format.ensures.kept c.set_format.ensures.quiet c.in_ok-set_format.ensures.over
     c.keep.ensures.any_moment c.keep.ensures.quiet

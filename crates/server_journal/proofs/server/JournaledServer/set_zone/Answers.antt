@@ -1,5 +1,6 @@
 use Rattle.std.proofs.Common.{[], refl}
 use Rattle.server_journal.specs.Calls.{after_putting}
+use Rattle.server_rules.specs.Files.{still}
 use Rattle.server_journal.proofs.JournalLaws.{answered, at_error, cut_off, stopped}
 use Rattle.server_journal.proofs.server.JournaledServer.set_zone.Goals as goal
 
@@ -11,13 +12,14 @@ returns-in-Ok-clause-stays g c taken = rw c.keep.ensures.kept_server (c.in_ok-pu
 
 pub returns-in-Ok-clause-answered : goal.returns-in-Ok-clause-answered
 returns-in-Ok-clause-answered g c =
-    answered g.D.Disk c.args.self.now c.keep.new.self c.set_zone.new.self c.set_zone.ensures.kept c.set_zone.ensures.quiet
+    answered g.D.Disk c.args.self.now c.keep.new.self c.set_zone.new.self [] c.set_zone.ensures.kept c.set_zone.ensures.quiet
     c.in_ok-put.ensures.over
-    c.keep.ensures.kept_server c.keep.ensures.any_moment c.in-Ok.ensures.kept c.keep.ensures.quiet
+    c.keep.ensures.kept_server c.keep.ensures.kept_made
+    c.in-Ok.ensures.noted c.keep.ensures.any_moment c.in-Ok.ensures.kept c.keep.ensures.quiet
 
 pub returns-in-Err-clause-cut_off : goal.returns-in-Err-clause-cut_off
 returns-in-Err-clause-cut_off g c =
-    cut_off g.D.Disk c.args.self.now c.keep.new.self c.set_zone.new.self
-    (λ chosen. after_putting c.args.self.now.kept.server c.args.drive c.args.zone)
-    [] c.in_ok-put.ensures.put c.set_zone.ensures.kept c.set_zone.ensures.quiet c.in_ok-put.ensures.over
+    cut_off g.D.Disk c.args.self.now c.keep.new.self c.set_zone.new.self []
+    (λ chosen. still (after_putting c.args.self.now.kept.server c.args.drive c.args.zone))
+    [] c.in_ok-put.ensures.put refl c.set_zone.ensures.kept c.set_zone.ensures.quiet c.in_ok-put.ensures.over
     c.keep.ensures.any_moment c.keep.ensures.quiet

@@ -4,10 +4,10 @@ use Rattle.stored_server.proofs.stored_server.StoredServerMetadataServer.add_dri
 
 pub returns-in-Ok-clause-ok : goal.returns-in-Ok-clause-ok
 returns-in-Ok-clause-ok g c =
-    went_step g.D.Disk g.met.D.Disk.only_now _ _ _ c.in-Ok.ensures.did c.in-Ok.ensures.answered c.in-Ok.ensures.over
+    went_step g.D.Disk g.met.D.Disk.only_now _ _ _ _ c.in-Ok.ensures.did c.in-Ok.ensures.answered c.in-Ok.ensures.over
     c.in-Ok.ensures.cause.same
 
 pub returns-in-Err-clause-err : goal.returns-in-Err-clause-err
 returns-in-Err-clause-err g c =
-    broke_step g.D.Disk _ _ _ _ _ refl c.in-Err.ensures.cut_off.any_moment
+    broke_step g.D.Disk _ _ _ _ _ _ refl c.in-Err.ensures.cut_off.any_moment
     (λ is. c.in-Err.ensures.cause.failed (ap Err (step_fault c.in-Err.e (sym c.step_err_of.ensures ∙ is))))

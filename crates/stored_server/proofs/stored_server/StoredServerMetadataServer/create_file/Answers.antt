@@ -8,7 +8,7 @@ returns-in-Ok-clause-ok g c =
       made.1,
       made.2,
       made.3,
-      went_making g.D.Disk g.met.D.Disk.only_now _ _ _ made.0 _ _ made.1 made.2 made.3.state c.in-Ok.ensures.answered
+      went_making g.D.Disk g.met.D.Disk.only_now _ _ _ made.0 _ _ made.1 made.2 made.3.state _ c.in-Ok.ensures.answered
           c.in-Ok.ensures.goes_on
           c.in-Ok.ensures.same,
     )

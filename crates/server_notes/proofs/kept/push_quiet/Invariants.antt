@@ -1,0 +1,6 @@
+use Rattle.std.proofs.Common.{◌≡◌, ◌++◌, take}
+use Rattle.server_notes.specs.Asking.{quiet}
+use Rattle.server_notes.proofs.kept.push_quiet.Given as goal
+
+abbrev pub invariant-loop-note : goal.invariant-loop-note
+invariant-loop-note l = l.told ≡ l.fn.told ++ quiet (take l.note-index l.notes)
