@@ -69,7 +69,7 @@ returns-in-Ok-reopen-clause-opened g c told =
       counts = c.in-Ok-reopen.ensures.counts;
       any_moment =
           opening_leaves g.D.Disk g.met.D.Disk.only_now c.args.disk _ c.take_records.new.restoration c.take_records.new.made
-    c.take_records.new.noted c.into_log.result read kept
+          c.take_records.new.noted c.into_log.result read kept
           (c.in-Ok-reopen.ensures.any_moment kept);
       idle = λ is none. read_still g.D.Disk c.args.disk _ _ (c.in-Ok-reopen.ensures.idle is none) read;
     }
