@@ -3,7 +3,7 @@ import argparse
 import re
 from typing import List
 
-from .cluster import MOST_CLIENTS, MOST_DRIVES, MOST_FILES
+from pnfs_osd.cluster_text import MOST_CLIENTS, MOST_DRIVES, MOST_FILES
 
 #: The server among parties, and all drives.
 SERVER, DRIVES = "server", "drives"
