@@ -11,14 +11,17 @@ import tempfile
 import threading
 import time
 import unittest
+from unittest import mock
 
 sys.dont_write_bytecode = True
 HERE = os.path.dirname(os.path.abspath(__file__))
 sys.path.insert(0, HERE)
 
+import fake_program  # noqa: E402
 from pnfs_osd import answers, calls, cluster_text, pieces  # noqa: E402
 from pnfs_osd.calls import Call  # noqa: E402
 from pnfs_osd.ends import End  # noqa: E402
+from pnfs_osd.program import Program  # noqa: E402
 from pnfs_tool.words import words_of  # noqa: E402
 
 TEXT = """\
@@ -86,6 +89,14 @@ class Tool(unittest.TestCase):
         self.messages = messages.decode()
         self.assertEqual(tool.returncode, status, self.messages)
         return output
+
+
+def runs_here(state):
+    """What stands for a run of the program without a process of its own, on the state in a file."""
+    def run(program, sequence, call, data=None):
+        said, status = fake_program.carried_out(state, program.client, sequence, call, data or b"")
+        return answers.Ran(status, said.encode(), "")
+    return mock.patch.object(Program, "run", run)
 
 
 class Copies(Tool):

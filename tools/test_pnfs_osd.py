@@ -42,9 +42,9 @@ class Package(test_pnfs.Tool):
         os.chdir(self.folder.name)
         names = {"PNFS_FAKE": self.state, "PNFS_LOCKS": os.path.join(self.folder.name, "locks"),
                  "PNFS_OSD": os.path.join(HERE, "fake_program.py")}
-        environment = mock.patch.dict(os.environ, names)
-        environment.start()
-        self.addCleanup(environment.stop)
+        for patch in mock.patch.dict(os.environ, names), test_pnfs.runs_here(self.state):
+            patch.start()
+            self.addCleanup(patch.stop)
 
     def size_told(self, record):
         """The refusal of a number that no request has: it tells the number that is expected, and the size."""

@@ -73,11 +73,17 @@ def counted(count: int, what: str) -> str:
 
 def write_all(caller: Caller, file: int, file_map: FileMap, offset: int, data: bytes, progress: Progress) -> None:
     """Writes these bytes from that offset on."""
+    write_pieces(caller, file, file_map, offset, data, progress.add)
+
+
+def write_pieces(caller: Caller, file: int, file_map: FileMap, offset: int, data: bytes,
+                 add: Callable[[int], None] = lambda count: None) -> None:
+    """Writes these bytes from that offset on, and tells how many are written after each call."""
     refuse_end(offset, len(data))
     for at, length in pieces(offset, len(data), file_map, MAX_CALL):
         begin = at - offset
         caller.carry_out(Call(file, at, length, data[begin:begin + length]))
-        progress.add(length)
+        add(length)
 
 
 def put(caller: Caller, file: int, file_map: FileMap, data: bytes, progress: Progress) -> None:

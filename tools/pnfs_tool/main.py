@@ -18,6 +18,7 @@ from .drives import ask_drive
 from .metrics import as_metrics
 from .seeing import LOST, Onlooker, see_cluster, see_files
 from .showing import as_json, as_list, as_text
+from .trees import copy_many
 from .waiting import is_up, rebuilt, wait_for_end, wait_for_parties
 from .words import DRIVES, SERVER, words_of
 
@@ -158,8 +159,11 @@ def carry_out(words: argparse.Namespace) -> int:
     path = program_path(words.program)
     if words.command in ("put", "get", "write", "read"):
         refuse_file(cluster, words.file)
+    if words.command in ("put", "get", "write", "read", "cp"):
         onlooker = Onlooker(cluster.server, words.client)
         with Client(cluster, words.client, path, words.patience, tell, lambda file: onlooker.see_file(file).state == LOST) as client:
+            if words.command == "cp":
+                return copy_many(words, cluster, client.caller)
             copy = copy_in if words.command in ("put", "write") else copy_out
             return copy(words, cluster.files[words.file], client.caller)
     caller = Caller(Program(path, cluster.text, words.client), cluster.spare_file(), words.patience, tell)
