@@ -126,7 +126,7 @@ class Lists(Copies):
         self.script()
         self.run_tool("cp", "--resume", ":", self.target, "a=f1", "b=f2")
         self.assertEqual(self.found(), {"a": data, "b": b"ab"})
-        self.assertEqual(self.now()["runs"][2][2][:14], "read f1 258048")
+        self.assertEqual(self.now()["runs"][0][2][:14], "read f1 258048")
         self.script()
         self.run_tool("cp", "--resume", ":", self.target, "a=f1", "b=f2")
         self.assertEqual(self.now()["runs"], [])

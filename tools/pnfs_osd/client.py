@@ -21,7 +21,7 @@ class Client:
                  is_lost: Callable[[int], bool] = lambda file: False):
         self._lock, self._lock_file = hold(text.server, number, patience, tell)
         self._asker = Asker(text.server, number)
-        self.caller = Caller(Program(program, text.text, number, self._lock), text.spare_file(), patience, tell, is_lost)
+        self.caller = Caller(Program(program, text.text, number, self._lock), patience, tell, is_lost)
 
     def read(self, file: int, offset: int, length: int) -> bytes:
         """The bytes of one call, at most `MAX_CALL` of them: fewer than asked only where the file ends."""

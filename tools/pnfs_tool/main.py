@@ -166,7 +166,7 @@ def carry_out(words: argparse.Namespace) -> int:
                 return copy_many(words, cluster, client.caller)
             copy = copy_in if words.command in ("put", "write") else copy_out
             return copy(words, cluster.files[words.file], client.caller)
-    caller = Caller(Program(path, cluster.text, words.client), cluster.spare_file(), words.patience, tell)
+    caller = Caller(Program(path, cluster.text, words.client), words.patience, tell)
     if words.command == "declare":
         return declare(words, cluster, caller)
     refuse_file(cluster, words.file)
