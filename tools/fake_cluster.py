@@ -22,12 +22,12 @@ from judging.clients import Client, Did, Op, Span  # noqa: E402
 from judging.drives import Drive  # noqa: E402
 from judging.server import Server  # noqa: E402
 from judging.world import World  # noqa: E402
-from pnfs_tool.wire import exchange, record_of  # noqa: E402
+from pnfs_osd.wire import exchange, record_of  # noqa: E402
 from storming.guide import Guide  # noqa: E402
-from transcripts import commands, envelopes  # noqa: E402
-from transcripts.lines import Sent  # noqa: E402
-from transcripts.spelling import hexadecimal  # noqa: E402
-from transcripts.striping import Map  # noqa: E402
+from pnfs_osd.transcripts import commands, envelopes  # noqa: E402
+from pnfs_osd.transcripts.lines import Sent  # noqa: E402
+from pnfs_osd.transcripts.spelling import hexadecimal  # noqa: E402
+from pnfs_osd.transcripts.striping import Map  # noqa: E402
 
 FAULT = os.environ.get('FAULT', '')
 NUMBERS = ('number', 'capacity', 'format', 'components', 'unit', 'width', 'depth', 'mirrors', 'algorithm')

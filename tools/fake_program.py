@@ -83,19 +83,15 @@ def save(path, state):
     os.replace(path + ".new", path)
 
 
-def main():
-    """One run."""
-    path = os.environ["PNFS_FAKE"]
+def carried_out(path, number, sequence, call, given):
+    """One run on the state in a file: what it prints, and its status."""
     with open(path) as text:
         state = json.load(text)
-    number, sequence, call = words_in(sys.argv[1:])
-    _, _, given = sys.stdin.buffer.read().partition(b"\0")
     state["runs"].append([number, sequence, call[:40]])
     if sequence is None and state.pop("late", False):
         state["next"][str(number)] += 1
         save(path, state)
-        print("error number")
-        return 8
+        return "error number\n", 8
     event = None
     on_a_file = call.split(" ")[0] not in ("read", "write") or call.split(" ")[1] in state["files"]
     if on_a_file and state["script"]:
@@ -107,6 +103,14 @@ def main():
         event = None
     said, status = answer(state, number, sequence, call, given, event)
     save(path, state)
+    return said, status
+
+
+def main():
+    """One run."""
+    number, sequence, call = words_in(sys.argv[1:])
+    _, _, given = sys.stdin.buffer.read().partition(b"\0")
+    said, status = carried_out(os.environ["PNFS_FAKE"], number, sequence, call, given)
     sys.stdout.write(said)
     if status == 8:
         sys.stderr.write("the server at 127.0.0.1:7100 didn't answer\n")

@@ -11,14 +11,17 @@ import tempfile
 import threading
 import time
 import unittest
+from unittest import mock
 
 sys.dont_write_bytecode = True
 HERE = os.path.dirname(os.path.abspath(__file__))
 sys.path.insert(0, HERE)
 
-from pnfs_tool import answers, calls, cluster, copying  # noqa: E402
-from pnfs_tool.calls import Call  # noqa: E402
-from pnfs_tool.ends import End  # noqa: E402
+import fake_program  # noqa: E402
+from pnfs_osd import answers, calls, cluster_text, pieces  # noqa: E402
+from pnfs_osd.calls import Call  # noqa: E402
+from pnfs_osd.ends import End  # noqa: E402
+from pnfs_osd.program import Program  # noqa: E402
 from pnfs_tool.words import words_of  # noqa: E402
 
 TEXT = """\
@@ -88,6 +91,14 @@ class Tool(unittest.TestCase):
         return output
 
 
+def runs_here(state):
+    """What stands for a run of the program without a process of its own, on the state in a file."""
+    def run(program, sequence, call, data=None):
+        said, status = fake_program.carried_out(state, program.client, sequence, call, data or b"")
+        return answers.Ran(status, said.encode(), "")
+    return mock.patch.object(Program, "run", run)
+
+
 class Copies(Tool):
     """What goes well."""
 
@@ -112,7 +123,7 @@ class Copies(Tool):
     def test_an_empty_file_and_a_full_stripe(self):
         self.run_tool("put", "f0", data=b"")
         self.assertEqual(self.run_tool("get", "f0"), b"")
-        data = b"x" * copying.cut_length(12288, copying.MAX_CALL)
+        data = b"x" * pieces.cut_length(12288, pieces.MAX_CALL)
         self.begin(data=data)
         self.assertEqual(self.run_tool("get", "f0"), data)
 
@@ -129,7 +140,7 @@ class Copies(Tool):
         self.run_tool("put", "f0", "--resume", data=data)
         self.assertEqual(self.data(), data)
         writes = [run[2] for run in self.now()["runs"] if run[2].startswith("write")]
-        self.assertEqual(int(writes[0].split(" ")[2]), copying.cut_length(12288, copying.MAX_CALL))
+        self.assertEqual(int(writes[0].split(" ")[2]), pieces.cut_length(12288, pieces.MAX_CALL))
         self.begin(data=data)
         self.run_tool("put", "f0", "--resume", data=data)
         self.assertEqual([run[2] for run in self.now()["runs"] if run[2].startswith("write")], [])
@@ -413,7 +424,7 @@ class Words(Tool):
         ):
             text = TEXT.replace("{port}", "9").replace(old, new, 1)
             with self.assertRaises(End) as caught:
-                cluster.read_cluster(text.encode())
+                cluster_text.read_cluster(text.encode())
             self.assertEqual(caught.exception.status, 9)
             self.assertIn(f"line {line} of", caught.exception.message)
         with open(self.text, "w") as text:
@@ -436,7 +447,7 @@ class Cuts(unittest.TestCase):
 
     def check_cut(self, stripe, most, offset, length):
         at = offset
-        for begin, count in copying.pieces(offset, length, cluster.FileMap(1, stripe, 0, 0, 1), most):
+        for begin, count in pieces.pieces(offset, length, cluster_text.FileMap(1, stripe, 0, 0, 1), most):
             self.assertEqual(begin, at)
             self.assertTrue(0 < count <= most)
             at += count
@@ -446,15 +457,15 @@ class Cuts(unittest.TestCase):
 
     def test_a_call_has_whole_stripes(self):
         for stripe in (12288, 131072, 196608, 262144):
-            file_map = cluster.FileMap(1, stripe, 0, 0, 1)
-            for _, length in copying.pieces(0, 3 * stripe, file_map, copying.MAX_CALL):
+            file_map = cluster_text.FileMap(1, stripe, 0, 0, 1)
+            for _, length in pieces.pieces(0, 3 * stripe, file_map, pieces.MAX_CALL):
                 self.assertEqual(length % stripe, 0, stripe)
 
     def test_stripes(self):
         for numbers, length in (((5, 4096, 0, 0, 4), 12288), ((5, 4096, 0, 0, 3), 16384), ((6, 8, 3, 0, 2), 16),
                                 ((6, 8, 3, 1, 1), 24),
                                 ((3, 8, 0, 9, 1), 0)):
-            self.assertEqual(cluster.FileMap(*numbers).stripe_bytes(), length)
+            self.assertEqual(cluster_text.FileMap(*numbers).stripe_bytes(), length)
 
     def test_numbers(self):
         self.assertRaises(End, answers.read_answer, answers.Ran(0, b"o c0 write ok 3\nnext 4294967296\n", ""), 0, "write")

@@ -14,10 +14,10 @@ sys.dont_write_bytecode = True
 HERE = os.path.dirname(os.path.abspath(__file__))
 sys.path.insert(0, HERE)
 
-from pnfs_tool import wire  # noqa: E402
-from transcripts import commands, envelopes, structures  # noqa: E402
-from transcripts.envelopes import Answer, Granted, Segment  # noqa: E402
-from transcripts.striping import Map  # noqa: E402
+from pnfs_osd import wire  # noqa: E402
+from pnfs_osd.transcripts import commands, envelopes, structures  # noqa: E402
+from pnfs_osd.transcripts.envelopes import Answer, Granted, Segment  # noqa: E402
+from pnfs_osd.transcripts.striping import Map  # noqa: E402
 
 PARITY = Map(3, 4096, 0, 0, 0, 3)
 MIRRORS = Map(4, 4096, 2, 0, 1, 3)
@@ -336,7 +336,7 @@ class Status(Seeing):
     def test_a_pipe_under_a_locks_name(self):
         self.cluster({0: (1, [0, 1, 2])})
         self.tool("status")
-        from pnfs_tool import lock
+        from pnfs_osd import lock
         os.environ["PNFS_LOCKS"] = os.path.join(self.folder, "locks")
         self.addCleanup(os.environ.pop, "PNFS_LOCKS")
         with open(self.text) as text:

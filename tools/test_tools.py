@@ -24,9 +24,9 @@ from judging.judge import judge_transcript  # noqa: E402
 from judging.whole import unwhole  # noqa: E402
 from storming.guide import Guide  # noqa: E402
 from storming.weather import Weather  # noqa: E402
-from transcripts import commands, envelopes, striping, structures  # noqa: E402
-from transcripts.lines import NoTranscript, Sent, read_transcript  # noqa: E402
-from transcripts.messages import fields_of  # noqa: E402
+from pnfs_osd.transcripts import commands, envelopes, striping, structures  # noqa: E402
+from pnfs_osd.transcripts.lines import NoTranscript, Sent, read_transcript  # noqa: E402
+from pnfs_osd.transcripts.messages import fields_of  # noqa: E402
 
 TOP = os.path.dirname(HERE)
 SCENARIOS = os.path.join(TOP, 'scenarios')

@@ -11,7 +11,7 @@ from typing import List
 
 from charting.runs import chart_of
 from test_tools import KEY, fault_in, golden, guided, main, replaced
-from transcripts.lines import read_transcript
+from pnfs_osd.transcripts.lines import read_transcript
 
 
 def in_zones(*zones: str) -> List[str]:

@@ -8,7 +8,7 @@ from .case import Fault
 
 sys.path.append(os.path.join(os.path.dirname(os.path.realpath(__file__)), os.pardir, os.pardir, "tools"))
 
-from transcripts import commands, envelopes, messages, spelling  # noqa: E402
+from pnfs_osd.transcripts import commands, envelopes, messages, spelling  # noqa: E402
 
 ACTIONS = {"create": commands.CREATE, "read": commands.READ, "write": commands.WRITE, "getattr": commands.GET_ATTR,
            "setattr": commands.SET_ATTR, "settag": commands.SET_TAG}

@@ -38,7 +38,8 @@ class Run:
         self._limit = _LIMIT
         home = os.path.join(folder, ".home")
         os.mkdir(home)
-        self._environment = dict(os.environ, PNFS_OSD=program, HOME=home, PYTHONDONTWRITEBYTECODE="1")
+        self._environment = dict(os.environ, PNFS_OSD=program, HOME=home, PYTHONDONTWRITEBYTECODE="1",
+                                 PYTHONPATH=os.path.join(top, "tools"))
 
     def close(self) -> None:
         """Ends all that was started."""
@@ -136,6 +137,8 @@ class Run:
             begin = [self._program]
         elif tool.startswith("tools/"):
             begin = [sys.executable, os.path.join(self._top, tool)]
+        elif tool == "python":
+            begin = [sys.executable]
         else:
             raise Fault("%s is no tool of the repository" % tool)
         given = None if marks.given is None else self._values.put_in(marks.given)

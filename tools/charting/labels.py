@@ -1,7 +1,7 @@
 """Short words for messages, as they stand beside arrows."""
-from transcripts import commands, envelopes, structures
-from transcripts.lines import Sent
-from transcripts.spelling import Unreadable
+from pnfs_osd.transcripts import commands, envelopes, structures
+from pnfs_osd.transcripts.lines import Sent
+from pnfs_osd.transcripts.spelling import Unreadable
 
 LONGEST_PAYLOAD = 8
 

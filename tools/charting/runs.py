@@ -1,8 +1,8 @@
 """What is drawn of a run: rows, arrows, bars and words, read off the lines of its transcript."""
 from typing import Dict, List, NamedTuple, Optional, Tuple
 
-from transcripts import commands, envelopes
-from transcripts.lines import (Delivered, Ended, Error, Event, Judged, Last, Line, Note, Refused, Sent, TimedOut)
+from pnfs_osd.transcripts import commands, envelopes
+from pnfs_osd.transcripts.lines import (Delivered, Ended, Error, Event, Judged, Last, Line, Note, Refused, Sent, TimedOut)
 
 from .labels import label, verdict_label
 

@@ -13,7 +13,7 @@ _pnfs() {
         before=${COMP_WORDS[place]}
         case $before in
             -c | --cluster) cluster=${COMP_WORDS[place + 1]/#\~/$HOME}; place=$((place + 1)) ;;
-            --client | --patience | --process | --program | --store) place=$((place + 1)) ;;
+            --client | --patience | --process | --program | --store | --table) place=$((place + 1)) ;;
             -*) before= ;;
             *) if [ -z "$command" ]; then command=$before; else at=$((at + 1)); fi; before= ;;
         esac
@@ -21,12 +21,13 @@ _pnfs() {
     [ "$place" -gt "$COMP_CWORD" ] || before=
     case $before in
         --client) kind=client ;;
+        --table) kind=file ;;
         --patience | --process) kind=number ;;
         -c | --cluster | --program | --store) kind=path ;;
     esac
     if [ -z "$before" ]; then
         case $command in
-        "") options="-c --cluster --client --program --patience -q --quiet -v --verbose --help put get recall revoke rebuild audit status metrics ls watch wait write read declare" ;;
+        "") options="-c --cluster --client --program --patience -q --quiet -v --verbose --help put get recall revoke rebuild audit cp status metrics ls watch wait write read declare" ;;
         put)
             options="--resume"
             case $at in
@@ -62,6 +63,10 @@ _pnfs() {
             case $at in
                 0) kind=file ;;
             esac
+            ;;
+        cp)
+            options="--table --resume"
+            kind=path
             ;;
         status)
             options="--json"

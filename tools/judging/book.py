@@ -1,7 +1,7 @@
 """What the metadata server keeps of a file (docs/rules/SERVER.md, "The state")."""
 from typing import Dict, Iterator, List, NamedTuple, Optional, Tuple
 
-from transcripts.striping import Map
+from pnfs_osd.transcripts.striping import Map
 
 GREATEST_TAG = 4294967295
 LEASE, NO_EXPIRY = 90, (1 << 64) - 1

@@ -1,12 +1,12 @@
 """What a client keeps of a grant and of a call, and what it takes of a layout (docs/rules/CLIENT.md, "The state")."""
 from typing import Dict, List, NamedTuple, Optional, Set, Tuple
 
-from transcripts import commands, structures
-from transcripts.commands import Capability
-from transcripts.envelopes import IOMODE_RW, Answer, Granted
-from transcripts.spelling import Unreadable
-from transcripts.striping import Map
-from transcripts.structures import IoError, Layout, ObjectId
+from pnfs_osd.transcripts import commands, structures
+from pnfs_osd.transcripts.commands import Capability
+from pnfs_osd.transcripts.envelopes import IOMODE_RW, Answer, Granted
+from pnfs_osd.transcripts.spelling import Unreadable
+from pnfs_osd.transcripts.striping import Map
+from pnfs_osd.transcripts.structures import IoError, Layout, ObjectId
 
 from .plans import Asked, Outs, Pieces, Span
 

@@ -1,7 +1,7 @@
 """Whether a run is calm: at no moment is a stripe with parity torn and short; docs/rules/WORLD.md, "What is read off the lines"."""
 from typing import Dict, List, Optional, Set, Tuple
 
-from transcripts.commands import WRITE, Command
+from pnfs_osd.transcripts.commands import WRITE, Command
 
 from .book import Component
 from .files import Entry, Log

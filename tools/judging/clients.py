@@ -1,13 +1,13 @@
 """A client, as docs/rules/CLIENT.md tells it: calls, what it sends, what it takes, and how its calls end."""
 from typing import Dict, List, NamedTuple, Optional, Set, Tuple
 
-from transcripts import commands, envelopes, structures
-from transcripts.commands import VERDICT_WORDS, Reply
-from transcripts.envelopes import (BADLAYOUT, COMMIT, GET, GREATEST, IOMODE_ANY, IOMODE_READ, IOMODE_RW, NOENT,
+from pnfs_osd.transcripts import commands, envelopes, structures
+from pnfs_osd.transcripts.commands import VERDICT_WORDS, Reply
+from pnfs_osd.transcripts.envelopes import (BADLAYOUT, COMMIT, GET, GREATEST, IOMODE_ANY, IOMODE_READ, IOMODE_RW, NOENT,
                                    NOMATCHING, NOTHING_IN_PARTICULAR, OK, RECALLCONFLICT, RETURN, TRYLATER,
                                    UNAVAILABLE, ZERO_STATE, Answer, CommitArgs, GetArgs, Recall, RecallAnswer, Request,
                                    ReturnArgs, recall_answer_bytes, request_bytes, state_of)
-from transcripts.structures import IoError, errors_bytes
+from pnfs_osd.transcripts.structures import IoError, errors_bytes
 
 from .calls import (ERRNOS, FILE_END, Awaited, Call, Held, Need, Op, TimedOut, error_at, report_of, take_layout)
 from .plans import Asked, Outs, Pieces, Span, answer, asks, written

@@ -1,8 +1,8 @@
 """An object drive, as docs/rules/DRIVE.md tells it: which verdict each command gets, what it does, and what is answered."""
 from typing import Dict, NamedTuple, Optional, Tuple
 
-from transcripts import commands
-from transcripts.commands import CREATE, GET_ATTR, READ, SET_ATTR, SET_TAG, WRITE, Command, Reply
+from pnfs_osd.transcripts import commands
+from pnfs_osd.transcripts.commands import CREATE, GET_ATTR, READ, SET_ATTR, SET_TAG, WRITE, Command, Reply
 
 KEY_VERSION = 1
 FIRST_USER_ATTRIBUTE, LABEL = 65536, 65536

@@ -1,9 +1,9 @@
 """Faults of a transcript, in plain sentences."""
 from typing import Optional
 
-from transcripts.commands import ACTIONS, Command
-from transcripts.lines import (Delivered, Ended, Event, Judged, Last, Line, Note, Refused, Sent, TimedOut)
-from transcripts.messages import fields_of
+from pnfs_osd.transcripts.commands import ACTIONS, Command
+from pnfs_osd.transcripts.lines import (Delivered, Ended, Event, Judged, Last, Line, Note, Refused, Sent, TimedOut)
+from pnfs_osd.transcripts.messages import fields_of
 
 from .drives import Verdict
 

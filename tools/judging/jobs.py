@@ -1,10 +1,10 @@
 """The jobs of the metadata server: making, fence, repair, rebuild and audit (docs/rules/SERVER.md, "Jobs")."""
 from typing import Callable, Dict, Iterable, List, NamedTuple, Optional
 
-from transcripts.commands import CREATE, GET_ATTR, READ, SET_TAG, WRITE
-from transcripts.spelling import big
-from transcripts.striping import decoded, parity_of
-from transcripts.structures import map_bytes
+from pnfs_osd.transcripts.commands import CREATE, GET_ATTR, READ, SET_TAG, WRITE
+from pnfs_osd.transcripts.spelling import big
+from pnfs_osd.transcripts.striping import decoded, parity_of
+from pnfs_osd.transcripts.structures import map_bytes
 
 from .book import (GREATEST_TAG, Ask, Awaited, Component, File, Job, Piece, Stripes, Target, differing, is_beyond, is_short,
                    lacking, merged, replica)

@@ -1,7 +1,7 @@
 """The judge of a transcript: its lines, the log of each file, what the drives hold, and the last line."""
 from typing import List, NamedTuple
 
-from transcripts.lines import Error, Event, Last, Line, read_transcript
+from pnfs_osd.transcripts.lines import Error, Event, Last, Line, read_transcript
 
 from .faults import Cut, Fault
 from .files import judged

@@ -1,8 +1,8 @@
 """The network: every message that was sent, and its marks (docs/rules/WORLD.md, "The state")."""
 from typing import Dict, List, Optional, Tuple
 
-from transcripts.commands import Command, maybe_command
-from transcripts.lines import Sent
+from pnfs_osd.transcripts.commands import Command, maybe_command
+from pnfs_osd.transcripts.lines import Sent
 
 
 class Message:

@@ -1,7 +1,7 @@
 """What a client's call asks of the components, and what it makes of the bytes (docs/rules/CLIENT.md, "Reads", "Writes")."""
 from typing import Dict, Iterable, Iterator, List, NamedTuple, Optional, Set, Tuple
 
-from transcripts.striping import POWERS, Map, added, decoded, parity_of, times
+from pnfs_osd.transcripts.striping import POWERS, Map, added, decoded, parity_of, times
 
 Interval = Tuple[int, int]
 

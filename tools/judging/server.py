@@ -1,15 +1,15 @@
 """The metadata server (docs/rules/SERVER.md): requests, replies of drives, orders, files that are made."""
 from typing import Dict, List, NamedTuple, Optional, Tuple
 
-from transcripts import commands, structures
-from transcripts.commands import Capability, Reply
-from transcripts.envelopes import (BADIOMODE, BADLAYOUT, COMMIT, GET, GREATEST, INVAL, IOMODE_ANY, IOMODE_READ,
+from pnfs_osd.transcripts import commands, structures
+from pnfs_osd.transcripts.commands import Capability, Reply
+from pnfs_osd.transcripts.envelopes import (BADIOMODE, BADLAYOUT, COMMIT, GET, GREATEST, INVAL, IOMODE_ANY, IOMODE_READ,
                                    IOMODE_RW, MISORDERED, NOENT, NOTHING_IN_PARTICULAR, OK, RECALLCONFLICT, TRYLATER,
                                    UNAVAILABLE, Answer, CommitArgs, GetArgs, Granted, Recall, RecallArgs, Request,
                                    Segment, answer_bytes, recall_bytes, state_of)
-from transcripts.spelling import big
-from transcripts.striping import Map
-from transcripts.structures import Credential, Layout, ObjectId
+from pnfs_osd.transcripts.spelling import big
+from pnfs_osd.transcripts.striping import Map
+from pnfs_osd.transcripts.structures import Credential, Layout, ObjectId
 
 from . import zones
 from .book import GREATEST_TAG, LEASE, NO_EXPIRY, Awaited, Component, File, Grant, is_beyond

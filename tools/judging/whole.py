@@ -1,7 +1,7 @@
 """What the drives hold: each stripe that isn't disturbed is whole (docs/rules/WORLD.md, "Whole stripes")."""
 from typing import Dict, List, Optional, Set
 
-from transcripts.striping import Map, decoded
+from pnfs_osd.transcripts.striping import Map, decoded
 
 from .book import File
 from .files import Candidates

@@ -2,12 +2,12 @@
 what each party had to do."""
 from typing import Dict, List, Optional, Tuple
 
-from transcripts import commands, envelopes
-from transcripts.commands import READ, WRITE, Command, maybe_command
-from transcripts.lines import (Delivered, Error, Event, Judged, Last, Line, Note, Refused, Sent, TimedOut,
+from pnfs_osd.transcripts import commands, envelopes
+from pnfs_osd.transcripts.commands import READ, WRITE, Command, maybe_command
+from pnfs_osd.transcripts.lines import (Delivered, Error, Event, Judged, Last, Line, Note, Refused, Sent, TimedOut,
                                number_of, read_ended)
-from transcripts.spelling import Unreadable
-from transcripts.striping import Map
+from pnfs_osd.transcripts.spelling import Unreadable
+from pnfs_osd.transcripts.striping import Map
 
 from . import clients, server
 from .calm import Moments

@@ -1,7 +1,7 @@
 """Zones of drives, and files that are spread over them (docs/rules/SERVER.md, "Zones")."""
 from typing import Dict, Iterable, List, NamedTuple, Optional, Sequence
 
-from transcripts.striping import Map
+from pnfs_osd.transcripts.striping import Map
 
 from .book import Component
 

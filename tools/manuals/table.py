@@ -9,7 +9,7 @@ from .helps import first_clause, parts_of
 #: What completes a value: names of the cluster text, or of files; else nothing does.
 FILE, DRIVE, PARTY, CLIENT, PATH, NUMBER = "file", "drive", "party", "client", "path", "number"
 KINDS = {words.file_name: FILE, words.drive_name: DRIVE, words.party_name: PARTY, words.client_number: CLIENT,
-         words.number: NUMBER}
+         words.number: NUMBER, words.named_file: PATH}
 
 
 class Option(NamedTuple):

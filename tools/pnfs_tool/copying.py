@@ -1,53 +1,14 @@
 """Writes and reads of any length, in calls that the program takes."""
 import sys
 import time
-from typing import BinaryIO, Callable, Iterator, Optional, Tuple
+from typing import BinaryIO, Callable, Optional
 
-from .answers import Answer, bytes_read
-from .calls import Call, Caller
-from .cluster import FileMap
-from .ends import NOT_ASKED, OUTPUT, End
+from pnfs_osd.calls import Call, Caller
+from pnfs_osd.cluster_text import FileMap
+from pnfs_osd.ends import NOT_ASKED, OUTPUT, End
+from pnfs_osd.pieces import MAX_CALL, MAX_FILE, pieces, read_piece, refuse_end
 
-MAX_FILE = 16_777_216      # no call may end above it
-MAX_CALL = 262_144         # the bytes of one call
 PROGRESS_SECONDS = 2.0
-
-
-def cut_length(stripe: int, most: int) -> int:
-    """The bytes between two cuts, at most `most`, such that no piece has a part of one stripe and of another.
-
-    Where a stripe fits, as many whole stripes as fit; else equal parts of a stripe.
-    """
-    if stripe <= 0:
-        return most
-    if stripe <= most:
-        return most // stripe * stripe
-    parts = -(-stripe // most)
-    return -(-stripe // parts)
-
-
-def next_cut(offset: int, stripe: int, most: int) -> int:
-    """The first cut behind this byte of the file."""
-    length = cut_length(stripe, most)
-    if stripe <= most:
-        return (offset // length + 1) * length
-    begin = offset - offset % stripe
-    return min(begin + ((offset - begin) // length + 1) * length, begin + stripe)
-
-
-def pieces(offset: int, length: int, file_map: FileMap, most: int) -> Iterator[Tuple[int, int]]:
-    """The pieces of a range, each with its offset and its length."""
-    end = offset + length
-    while offset < end:
-        cut = min(next_cut(offset, file_map.stripe_bytes(), most), end)
-        yield offset, cut - offset
-        offset = cut
-
-
-def refuse_end(offset: int, length: int) -> None:
-    """Ends the run where a file can't have these bytes."""
-    if offset + length > MAX_FILE:
-        raise End(NOT_ASKED, f"a file has at most {MAX_FILE} bytes, and these end at byte {offset + length}: nothing was done")
 
 
 class Progress:
@@ -112,11 +73,17 @@ def counted(count: int, what: str) -> str:
 
 def write_all(caller: Caller, file: int, file_map: FileMap, offset: int, data: bytes, progress: Progress) -> None:
     """Writes these bytes from that offset on."""
+    write_pieces(caller, file, file_map, offset, data, progress.add)
+
+
+def write_pieces(caller: Caller, file: int, file_map: FileMap, offset: int, data: bytes,
+                 add: Callable[[int], None] = lambda count: None) -> None:
+    """Writes these bytes from that offset on, and tells how many are written after each call."""
     refuse_end(offset, len(data))
     for at, length in pieces(offset, len(data), file_map, MAX_CALL):
         begin = at - offset
         caller.carry_out(Call(file, at, length, data[begin:begin + length]))
-        progress.add(length)
+        add(length)
 
 
 def put(caller: Caller, file: int, file_map: FileMap, data: bytes, progress: Progress) -> None:
@@ -155,14 +122,6 @@ def same_front(caller: Caller, file: int, file_map: FileMap, data: bytes) -> int
         if read != data[at:at + length]:
             return at
     return len(data)
-
-
-def read_piece(caller: Caller, file: int, offset: int, length: int) -> bytes:
-    """The bytes of one call: fewer than asked only where the file ends."""
-    answer: Answer = caller.carry_out(Call(file, offset, length))
-    read = bytes_read(answer, length)
-    assert read is not None
-    return read
 
 
 def read_all(caller: Caller, file: int, file_map: FileMap, offset: int, length: int, sink: BinaryIO,

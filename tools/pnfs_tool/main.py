@@ -1,41 +1,32 @@
 """Carries out one command of the tool."""
 import argparse
-import contextlib
 import os
 import sys
 import time
-from typing import Callable, Iterator, List
+from typing import Callable, List
 
-from .calls import Caller
-from .cluster import MOST_FILES, Cluster, FileMap, read_cluster
-from .copying import MAX_FILE, Progress, put, put_out, read_all, refuse_end, resume, write_all
+from pnfs_osd.calls import Caller
+from pnfs_osd.client import Client
+from pnfs_osd.cluster_text import ClusterText, FileMap, refuse_file, text_in
+from pnfs_osd.ends import DONE, INPUT, NOT_ASKED, NOT_WELL, OUTPUT, SHORT, STOPPED, End
+from pnfs_osd.lock import held
+from pnfs_osd.pieces import MAX_FILE, refuse_end
+from pnfs_osd.program import Program, program_path
+
+from .copying import Progress, put, put_out, read_all, resume, write_all
 from .drives import ask_drive
-from .ends import DONE, INPUT, NOT_ASKED, NOT_WELL, OUTPUT, SHORT, STOPPED, End
-from .lock import hold, release
 from .metrics import as_metrics
-from .program import Program, program_path
 from .seeing import LOST, Onlooker, see_cluster, see_files
 from .showing import as_json, as_list, as_text
+from .trees import copy_many
 from .waiting import is_up, rebuilt, wait_for_end, wait_for_parties
 from .words import DRIVES, SERVER, words_of
-
-MAX_TEXT = 67_108_864   # of a cluster text, as the program takes it
-ALL_FILES = range(MOST_FILES)
 
 
 def say(line: str) -> None:
     """A line for a person."""
     sys.stderr.write(f"pnfs: {line}\n")
     sys.stderr.flush()
-
-
-def cluster_of(path: str) -> Cluster:
-    """The cluster whose text stands in that file."""
-    try:
-        with open(path, "rb") as text:
-            return read_cluster(text.read(MAX_TEXT + 1))
-    except OSError as fault:
-        raise End(INPUT, f"the cluster text {path} can't be read: {fault.strerror or fault}")
 
 
 def input_bytes() -> bytes:
@@ -47,18 +38,6 @@ def input_bytes() -> bytes:
     except OSError as fault:
         raise End(INPUT, f"standard input can't be read: {fault.strerror or fault}")
     return data
-
-
-def spare_file(cluster: Cluster) -> int:
-    """A file to ask for the number with: best one that doesn't exist, since a request for it never does anything."""
-    return next((number for number in reversed(ALL_FILES) if number not in cluster.files), 0)
-
-
-def refuse_file(cluster: Cluster, file: int) -> None:
-    """Ends the run where the text has no such file."""
-    if file not in cluster.files:
-        have = ", ".join(f"f{number}" for number in sorted(cluster.files)) or "none"
-        raise End(NOT_ASKED, f"the cluster text has no file f{file} (it has {have})")
 
 
 def copy_in(words: argparse.Namespace, striping: FileMap, caller: Caller) -> int:
@@ -88,7 +67,7 @@ def copy_out(words: argparse.Namespace, striping: FileMap, caller: Caller) -> in
     return DONE
 
 
-def declare(words: argparse.Namespace, cluster: Cluster, caller: Caller) -> int:
+def declare(words: argparse.Namespace, cluster: ClusterText, caller: Caller) -> int:
     """Declares a drive as lost, where it is."""
     if words.drive not in cluster.drives:
         raise End(NOT_ASKED, f"the cluster text has no drive d{words.drive}")
@@ -116,23 +95,23 @@ UNSEEN = {
 }
 
 
-def show_cluster(words: argparse.Namespace, cluster: Cluster) -> int:
+def show_cluster(words: argparse.Namespace, cluster: ClusterText) -> int:
     """Carries out status, metrics, ls or watch."""
     if words.command == "ls":
         put_text(as_list(see_files(cluster, Onlooker(cluster.server, words.client))))
         return DONE
     if words.command == "metrics":
-        put_text(as_metrics(see_cluster(cluster, words.client, spare_file(cluster)), words.store))
+        put_text(as_metrics(see_cluster(cluster, words.client, cluster.spare_file()), words.store))
         return DONE
     while True:
-        seen = see_cluster(cluster, words.client, spare_file(cluster))
+        seen = see_cluster(cluster, words.client, cluster.spare_file())
         put_text(as_json(seen) if words.command == "status" and words.json else as_text(seen))
         if words.command == "status":
             return DONE if seen.is_well() else NOT_WELL
         time.sleep(words.seconds)
 
 
-def wait(words: argparse.Namespace, cluster: Cluster) -> int:
+def wait(words: argparse.Namespace, cluster: ClusterText) -> int:
     """Carries out wait."""
     drives = [f"d{number}" for number in sorted(cluster.drives)]
     parties = sum((drives if word == DRIVES else [word] for word in words.parties or [DRIVES, SERVER]), [])
@@ -140,7 +119,7 @@ def wait(words: argparse.Namespace, cluster: Cluster) -> int:
         if party not in drives + [SERVER]:
             raise End(NOT_ASKED, f"the cluster text has no drive {party}")
     onlooker = Onlooker(cluster.server, words.client)
-    wait_for_parties(parties, lambda party: is_up(cluster, party, onlooker, spare_file(cluster)),
+    wait_for_parties(parties, lambda party: is_up(cluster, party, onlooker, cluster.spare_file()),
                      words.process, words.patience)
     return DONE
 
@@ -150,7 +129,7 @@ def put_text(text: str) -> None:
     put_out(sys.stdout.buffer, text.encode())
 
 
-def order_and_wait(words: argparse.Namespace, cluster: Cluster, caller: Caller, tell: Callable[[str], None]) -> int:
+def order_and_wait(words: argparse.Namespace, cluster: ClusterText, caller: Caller, tell: Callable[[str], None]) -> int:
     """Hands the server an order, and waits until no job of the file runs."""
     caller.order(f"{words.command} f{words.file}")
     seen = wait_for_end(Onlooker(cluster.server, words.client), words.file, words.patience, tell)
@@ -168,40 +147,31 @@ def order(words: argparse.Namespace, text: str, caller: Caller, told: str) -> in
     return DONE
 
 
-@contextlib.contextmanager
-def held(cluster: Cluster, words: argparse.Namespace, tell: Callable[[str], None]) -> Iterator[int]:
-    """Holds the client number while something is asked under it."""
-    lock, lock_file = hold(cluster.server, words.client, words.patience, tell)
-    try:
-        yield lock
-    finally:
-        release(lock, lock_file)
-
-
 def carry_out(words: argparse.Namespace) -> int:
     """Carries out the words."""
-    cluster = cluster_of(words.cluster)
+    cluster = text_in(words.cluster)
     tell = (lambda line: None) if words.quiet else say
     if words.command in ("status", "metrics", "ls", "watch"):
-        with held(cluster, words, tell):
+        with held(cluster.server, words.client, words.patience, tell):
             return show_cluster(words, cluster)
     if words.command == "wait":
         return wait(words, cluster)
     path = program_path(words.program)
     if words.command in ("put", "get", "write", "read"):
         refuse_file(cluster, words.file)
-        with held(cluster, words, tell) as lock:
-            program = Program(path, cluster.text, words.client, lock)
+    if words.command in ("put", "get", "write", "read", "cp"):
+        onlooker = Onlooker(cluster.server, words.client)
+        with Client(cluster, words.client, path, words.patience, tell, lambda file: onlooker.see_file(file).state == LOST) as client:
+            if words.command == "cp":
+                return copy_many(words, cluster, client.caller)
             copy = copy_in if words.command in ("put", "write") else copy_out
-            onlooker = Onlooker(cluster.server, words.client)
-            caller = Caller(program, words.patience, tell, lambda file: onlooker.see_file(file).state == LOST)
-            return copy(words, cluster.files[words.file], caller)
+            return copy(words, cluster.files[words.file], client.caller)
     caller = Caller(Program(path, cluster.text, words.client), words.patience, tell)
     if words.command == "declare":
         return declare(words, cluster, caller)
     refuse_file(cluster, words.file)
     if words.command != "recall" and words.wait:
-        with held(cluster, words, tell):
+        with held(cluster.server, words.client, words.patience, tell):
             return order_and_wait(words, cluster, caller, tell)
     return order(words, f"{words.command} f{words.file}", caller, TOLD_BEHIND[words.command])
 

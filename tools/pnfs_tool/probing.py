@@ -3,11 +3,11 @@
 A layout has for each component what opens its object. With that the drive is asked to read no byte of it, which a drive performs
 that has the server's key and the object. So what is wrong with a key or an address shows without the server's text or journal.
 """
-from transcripts import commands
-from transcripts.spelling import Unreadable
-from transcripts.structures import Credential
+from pnfs_osd.transcripts import commands
+from pnfs_osd.transcripts.spelling import Unreadable
+from pnfs_osd.transcripts.structures import Credential
 
-from .wire import exchange
+from pnfs_osd.wire import exchange
 
 TELLS = {
     "checkvalue": "it has another key than the server has for it, or another drive is at its address",

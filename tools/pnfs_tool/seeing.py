@@ -7,20 +7,16 @@ reader, such a request has a fence begin where a grant on these bytes ran out an
 """
 from typing import Dict, List, NamedTuple, Optional
 
-from transcripts import envelopes, structures
-from transcripts.envelopes import Answer, Envelope, GetArgs, Granted, Request, ReturnArgs
-from transcripts.spelling import Unreadable
-from transcripts.striping import Map
+from pnfs_osd.asking import FIRST_BYTE, Asker
+from pnfs_osd.cluster_text import ClusterText
+from pnfs_osd.transcripts import envelopes, structures
+from pnfs_osd.transcripts.envelopes import Answer, Granted, ReturnArgs
+from pnfs_osd.transcripts.striping import Map
+from pnfs_osd.wire import Reply, exchange
 
-from .cluster import Cluster
 from .probing import refusal_of
-from .wire import Reply, exchange
 
-#: A number that no server expects: the numbers of requests begin with 1.
-NO_NUMBER = 0
 DRIVE_SECONDS = 6.0    # a drive that another peer keeps busy with its silence is free after 5
-SERVER_SECONDS = 30.0
-FIRST_BYTE = GetArgs(False, envelopes.IOMODE_READ, 0, 1, 1, envelopes.ZERO_STATE, envelopes.LARGEST_BODY)
 
 UP, DOWN, HANGS, REFUSES = "up", "down", "hangs", "refuses"
 WHOLE, MISSING, LOST = "whole", "missing", "lost"
@@ -89,51 +85,13 @@ def see_drive(number: int, address: str) -> DriveSeen:
     return DriveSeen(number, address, state_of(reply), reply.seconds, reply.why)
 
 
-class Onlooker:
+class Onlooker(Asker):
     """Asks the server as one client, whose number somebody holds meanwhile, and the drives at these addresses what they refuse."""
 
     def __init__(self, address: str, client: int, drives: Optional[Dict[int, str]] = None):
-        self.address = address
-        self.client = client
+        super().__init__(address, client)
         self.drives = drives or {}
         self.refusals: Dict[int, str] = {}
-        self.next: Optional[int] = None
-        self.reply = Reply(None, 0.0, "", False)
-
-    def ask(self, sequence: int, file: int, operation: int, args: object) -> Optional[Answer]:
-        """Makes one request; none where no answer to it comes."""
-        request = Request(self.client, sequence, file, operation, args)
-        self.reply = exchange(self.address, envelopes.request_bytes(request), SERVER_SECONDS)
-        if self.reply.record is None:
-            return None
-        try:
-            answer: Envelope = envelopes.read_envelope(self.reply.record)
-        except Unreadable as fault:
-            self.reply = self.reply._replace(record=None, why=f"its answer can't be read: {fault}")
-            return None
-        if not isinstance(answer, Answer) or answer[:4] != request[:4]:
-            self.reply = self.reply._replace(record=None, why="it answered something else")
-            return None
-        return answer
-
-    def learn_number(self, file: int) -> Optional[Answer]:
-        """Asks without a number, which does nothing, for the number that the server expects."""
-        answer = self.ask(NO_NUMBER, file, envelopes.GET, FIRST_BYTE)
-        if answer is not None and answer.status == envelopes.MISORDERED and answer.detail > 0:
-            self.next = answer.detail
-        return answer
-
-    def request(self, file: int, operation: int, args: object) -> Optional[Answer]:
-        """Makes a request under the next number, which the server tells where it isn't known."""
-        if self.next is None:
-            self.learn_number(file)
-        if self.next is None:
-            return None
-        sequence, self.next = self.next, None
-        answer = self.ask(sequence, file, operation, args)
-        if answer is not None and answer.status != envelopes.MISORDERED:
-            self.next = sequence + 1
-        return answer
 
     def see_file(self, number: int) -> FileSeen:
         """What the answer to a request for a layout tells of a file."""
@@ -145,7 +103,6 @@ class Onlooker:
             back = ReturnArgs(False, envelopes.IOMODE_ANY, 0, envelopes.GREATEST, answer.result.state, structures.errors_bytes([]))
             self.request(number, envelopes.RETURN, back)
         return file_told(number, answer)
-
 
     def probe(self, layout: Optional[structures.Layout]) -> None:
         """Asks each drive of a layout once whether it takes what the server gives out for it."""
@@ -190,7 +147,7 @@ def file_told(number: int, answer: Answer) -> FileSeen:
     return FileSeen(number, answer.size, UNKNOWN, None, why=envelopes.STATUSES.get(answer.status, f"status {answer.status}"))
 
 
-def see_files(cluster: Cluster, onlooker: Onlooker) -> List[FileSeen]:
+def see_files(cluster: ClusterText, onlooker: Onlooker) -> List[FileSeen]:
     """Every file of the cluster text, in the order of their numbers."""
     return [onlooker.see_file(number) for number in sorted(cluster.files)]
 
@@ -202,7 +159,7 @@ def see_server(address: str, onlooker: Onlooker, file: int) -> ServerSeen:
     return ServerSeen(address, state_of(reply), reply.seconds, reply.why)
 
 
-def see_cluster(cluster: Cluster, client: int, spare_file: int) -> ClusterSeen:
+def see_cluster(cluster: ClusterText, client: int, spare_file: int) -> ClusterSeen:
     """Asks every party once."""
     drives = [see_drive(number, address) for number, address in sorted(cluster.drives.items())]
     onlooker = Onlooker(cluster.server, client, {drive.number: drive.address for drive in drives if drive.state == UP})

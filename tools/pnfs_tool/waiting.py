@@ -8,8 +8,9 @@ import os
 import time
 from typing import Callable, List, Optional, Set
 
-from .cluster import Cluster
-from .ends import DONE, FILE_LOST, LACKS_DRIVE, NOT_ENDED, NOT_WELL, End
+from pnfs_osd.cluster_text import ClusterText
+from pnfs_osd.ends import DONE, FILE_LOST, LACKS_DRIVE, NOT_ENDED, NOT_WELL, End
+
 from .seeing import BUSY, HELD, LOST, MISSING, UNKNOWN, UP, WHOLE, FileSeen, Onlooker, see_drive, see_server
 from .words import SERVER
 
@@ -70,7 +71,7 @@ def has_ended(process: Optional[int]) -> bool:
     return False
 
 
-def is_up(cluster: Cluster, party: str, onlooker: Onlooker, file: int) -> bool:
+def is_up(cluster: ClusterText, party: str, onlooker: Onlooker, file: int) -> bool:
     """Whether a party answers now."""
     if party == SERVER:
         return see_server(cluster.server, onlooker, file).state == UP

@@ -1,12 +1,14 @@
 """The words of the tool."""
 import argparse
 import re
-from typing import List
+from typing import List, Tuple
 
-from .cluster import MOST_CLIENTS, MOST_DRIVES, MOST_FILES
+from pnfs_osd.cluster_text import MOST_CLIENTS, MOST_DRIVES, MOST_FILES
 
 #: The server among parties, and all drives.
 SERVER, DRIVES = "server", "drives"
+#: The cluster, among a source and a target.
+CLUSTER = ":"
 
 EPILOG = """\
 calls (they use a number of the client, which the tool asks the server for):
@@ -16,6 +18,13 @@ calls (they use a number of the client, which the tool asks the server for):
   get F > DATA              reads file F to its end
   write F OFFSET < DATA     writes DATA from byte OFFSET on
   read F OFFSET LENGTH      reads these bytes; status 23 where F ends before
+  cp DIR : NAME=F..         puts file NAME of the folder DIR as the whole of F, for each of them
+  cp : DIR NAME=F..         gets each F to its end as file NAME of DIR
+                            --table F in place of NAME=F..: the names, their files and sizes are in a table in file F. Into the
+                            cluster go all files below DIR, and a new name gets the first file that is empty; out of it
+                            come all names that are whole, and status 23 says that one isn't.
+                            --resume leaves the bytes at the front that a file of the cluster has already, and the files in DIR
+                            that are there (with a table: with their size), and goes on with each NAME.part
 
 A long copy is many calls, each whole in itself: other clients may read and write between them, and a copy that
 stops has written, or put out, a part from the front. A call of whose run nothing is known is tried again,
@@ -52,7 +61,7 @@ exit status:
        there is no such file or drive in the cluster text, or the client number is in use
   21   the program's answer is none to what was asked
   22   the program couldn't be run
-  23   F ends before the bytes that 'read' asked for; those before its end were put out
+  23   F ends before the bytes that 'read' asked for; those before its end were put out. 'cp': a name isn't whole
   24   'status': something of the cluster doesn't answer, or lacks something; 'wait': a party doesn't answer
   25   '--wait': the job didn't end in time, or nothing is known of it
   26   '--wait' with 'rebuild': a component is missing still, since no drive was free for it
@@ -80,6 +89,14 @@ def drive_name(word: str) -> int:
     if not re.fullmatch(r"d(0|[1-9][0-9]{0,17})", word) or int(word[1:]) >= MOST_DRIVES:
         raise argparse.ArgumentTypeError(f"'{word}' is no drive: d0 to d{MOST_DRIVES - 1}")
     return int(word[1:])
+
+
+def named_file(word: str) -> Tuple[str, int]:
+    """A name and its file, as a.txt=f0."""
+    name, _, file = word.rpartition("=")
+    if not name or any(part in ("", ".", "..") for part in name.split("/")):
+        raise argparse.ArgumentTypeError(f"'{word}' is no NAME=F")
+    return name, file_name(file)
 
 
 def party_name(word: str) -> str:
@@ -128,6 +145,12 @@ def parser() -> argparse.ArgumentParser:
             command.add_argument("--resume", action="store_true", help="leave the bytes at the front that the file has already")
         if name in ("revoke", "rebuild", "audit"):
             command.add_argument("--wait", action="store_true", help="end when no job of the file runs any more")
+    copy = commands.add_parser("cp", allow_abbrev=False)
+    copy.add_argument("source", metavar="SOURCE")
+    copy.add_argument("target", metavar="TARGET")
+    copy.add_argument("names", type=named_file, nargs="*", metavar="NAME=F")
+    copy.add_argument("--table", type=file_name, metavar="F", help="the file that keeps the table of names")
+    copy.add_argument("--resume", action="store_true", help="leave what is there already")
     commands.add_parser("status", allow_abbrev=False).add_argument("--json", action="store_true", help="for programs")
     metrics = commands.add_parser("metrics", allow_abbrev=False)
     metrics.add_argument("--store", metavar="NAME", action="append", default=[], help="a store or journal whose size is told")
@@ -152,4 +175,13 @@ def parser() -> argparse.ArgumentParser:
 
 def words_of(arguments: List[str]) -> argparse.Namespace:
     """The words; argparse ends the process with status 2 where they are none of the tool's."""
-    return parser().parse_args(arguments)
+    top = parser()
+    words = top.parse_args(arguments)
+    if words.command == "cp":
+        if (words.source == CLUSTER) == (words.target == CLUSTER):
+            top.error(f"cp: one of SOURCE and TARGET is '{CLUSTER}', the cluster, and the other a folder")
+        if bool(words.names) == (words.table is not None):
+            top.error("cp: either NAME=F.. or --table F says which files")
+        if len({name for name, _ in words.names}) < len(words.names) or len({file for _, file in words.names}) < len(words.names):
+            top.error("cp: a name or a file comes twice")
+    return words

@@ -1,10 +1,10 @@
 """What is read off records of a run."""
 from typing import Optional
 
-from transcripts import commands, envelopes, structures
-from transcripts.lines import Sent
-from transcripts.messages import fields_of
-from transcripts.spelling import Unreadable
+from pnfs_osd.transcripts import commands, envelopes, structures
+from pnfs_osd.transcripts.lines import Sent
+from pnfs_osd.transcripts.messages import fields_of
+from pnfs_osd.transcripts.spelling import Unreadable
 
 from .guide import Guide
 

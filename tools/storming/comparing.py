@@ -3,10 +3,10 @@ from typing import Dict, List, NamedTuple, Optional, Tuple
 
 from judging.faults import Fault
 from judging.judge import judge_transcript
-from transcripts import commands, envelopes
-from transcripts.commands import VERDICTS
-from transcripts.lines import NoTranscript, read_transcript, text_lines
-from transcripts.spelling import Unreadable, in_hex
+from pnfs_osd.transcripts import commands, envelopes
+from pnfs_osd.transcripts.commands import VERDICTS
+from pnfs_osd.transcripts.lines import NoTranscript, read_transcript, text_lines
+from pnfs_osd.transcripts.spelling import Unreadable, in_hex
 
 from .mapping import Mapping
 from .sides import Told

@@ -3,7 +3,7 @@ from typing import List, Optional, Tuple
 
 from judging.faults import text_of
 from judging.world import World
-from transcripts.lines import Last, Line, read_event
+from pnfs_osd.transcripts.lines import Last, Line, read_event
 
 
 class Guide(World):

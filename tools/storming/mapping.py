@@ -7,9 +7,9 @@ the 90 seconds after which a grant expires.
 from typing import Dict, List, Optional, Set, Tuple
 
 from judging.faults import Fault
-from transcripts import envelopes
-from transcripts.lines import Note, Sent
-from transcripts.spelling import in_hex
+from pnfs_osd.transcripts import envelopes
+from pnfs_osd.transcripts.lines import Note, Sent
+from pnfs_osd.transcripts.spelling import in_hex
 
 from .answers import is_repeat, order_answer, order_bytes, time_in, unlike
 from .guide import Guide

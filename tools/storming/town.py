@@ -3,7 +3,7 @@ import json
 from random import Random
 from typing import Dict, List, NamedTuple, Tuple
 
-from transcripts.spelling import in_hex
+from pnfs_osd.transcripts.spelling import in_hex
 
 from .weather import Shape
 

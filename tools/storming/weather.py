@@ -2,9 +2,9 @@
 from random import Random
 from typing import Callable, Dict, List, NamedTuple, Set, Tuple
 
-from transcripts import commands
-from transcripts.spelling import in_hex
-from transcripts.striping import Map
+from pnfs_osd.transcripts import commands
+from pnfs_osd.transcripts.spelling import in_hex
+from pnfs_osd.transcripts.striping import Map
 
 from .guide import Guide
 

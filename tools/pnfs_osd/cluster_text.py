@@ -5,11 +5,13 @@ are named after it), the drives' addresses and the files' maps. It reads the par
 needs: comments, `[[drive]]` and `[[file]]`, and one `key = value` a line, where a value is a decimal number or a
 text in single or double quotes without escapes. It refuses anything else with its line, and never guesses.
 """
+import os
 import re
 from typing import Container, Dict, List, NamedTuple, Tuple, Union
 
-from .ends import CLUSTER, End
+from .ends import CLUSTER, INPUT, NOT_ASKED, End
 
+MAX_TEXT = 67_108_864   # of a cluster text, as the program takes it
 #: How many drives, clients and files a cluster has at most.
 MOST_DRIVES, MOST_CLIENTS, MOST_FILES = 64, 16, 64
 
@@ -50,13 +52,17 @@ class FileMap(NamedTuple):
         return self.unit * max(group - PARITIES.get(self.algorithm, group), 0)
 
 
-class Cluster(NamedTuple):
+class ClusterText(NamedTuple):
     """What the tool knows of a cluster: its text, and what it looked up in it."""
 
     text: bytes
     server: str
     drives: Dict[int, str]
     files: Dict[int, FileMap]
+
+    def spare_file(self) -> int:
+        """A file to ask for the number with: best one that doesn't exist, since a request for it never does anything."""
+        return next((number for number in reversed(range(MOST_FILES)) if number not in self.files), 0)
 
 
 def refused(line: int, why: str) -> End:
@@ -138,7 +144,7 @@ def numbered(table: Table, line: int, name: str, seen: Container[int]) -> int:
     return int(value)
 
 
-def read_cluster(text: bytes) -> Cluster:
+def read_cluster(text: bytes) -> ClusterText:
     """Reads the text of a cluster. Ends with status 9 where it isn't one that the tool reads."""
     try:
         spelled = text.decode("utf-8")
@@ -159,4 +165,20 @@ def read_cluster(text: bytes) -> Cluster:
             server = address_of(table, line, name, "server")
     if not drives:
         raise refused(0, "it has no [[drive]]")
-    return Cluster(text, server, drives, files)
+    return ClusterText(text, server, drives, files)
+
+
+def text_in(path: Union[str, "os.PathLike[str]"]) -> ClusterText:
+    """The cluster whose text is in that file."""
+    try:
+        with open(path, "rb") as text:
+            return read_cluster(text.read(MAX_TEXT + 1))
+    except OSError as fault:
+        raise End(INPUT, f"the cluster text {os.fspath(path)} can't be read: {fault.strerror or fault}")
+
+
+def refuse_file(cluster: ClusterText, file: int) -> None:
+    """Ends the run where the text has no such file."""
+    if file not in cluster.files:
+        have = ", ".join(f"f{number}" for number in sorted(cluster.files)) or "none"
+        raise End(NOT_ASKED, f"the cluster text has no file f{file} (it has {have})")

@@ -4,13 +4,14 @@ The lock is one for the whole machine, whoever runs the tool, so its folder is b
 own $XDG_RUNTIME_DIR. The program's process has the lock open too: where the tool is killed and the program goes on,
 the number stays held until the program has ended.
 """
+import contextlib
 import errno
 import fcntl
 import hashlib
 import os
 import stat
 import time
-from typing import Callable, Optional, Tuple
+from typing import Callable, Iterator, Optional, Tuple
 
 from .ends import NOT_ASKED, End
 
@@ -118,3 +119,13 @@ def release(lock: int, path: str) -> None:
     except OSError:
         pass
     os.close(lock)
+
+
+@contextlib.contextmanager
+def held(server: str, client: int, patience: float, tell: Callable[[str], None]) -> Iterator[int]:
+    """Holds the client number while something is asked under it."""
+    lock, path = hold(server, client, patience, tell)
+    try:
+        yield lock
+    finally:
+        release(lock, path)

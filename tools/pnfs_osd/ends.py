@@ -4,6 +4,7 @@ DONE = 0
 WORDS = 2          # the words aren't those of a command
 INPUT = 4          # standard input or the cluster text couldn't be read
 OUTPUT = 5         # standard output failed
+LINK = 8           # the server didn't answer
 CLUSTER = 9        # the cluster text is refused
 NOT_ASKED = 20     # the tool refused it itself: no call or order of it was sent
 STRANGE = 21       # the program said something that is no answer to what was asked
