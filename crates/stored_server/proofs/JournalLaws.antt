@@ -29,7 +29,7 @@ use Rattle.server_journal.specs.declared.errors.JournalErr.{JournalErr}
 use Rattle.server_journal.specs.declared.errors.JournalErr.TheVariants as journal
 use Rattle.server_journal.specs.declared.errors.JournalFileErr.{JournalFileErr}
 use Rattle.server_journal.specs.declared.errors.JournalFileErr.TheVariants as file
-use Rattle.server_journal.specs.Calls.{Answered, IsRefused, MakesNot, Stays}
+use Rattle.server_journal.specs.Calls.{Answered, CutOff, IsRefused, MakesNot, Stays}
 use Rattle.server_journal.specs.Errors.{file_told_by}
 use Rattle.server_journal.specs.Journals.{IsJournalWith, IsKept, KeepsServer, LeavesEither, LeavesMade, LeavesStep, core_of, is_over_in, made_of, noted_of}
 use Rattle.server_journal.specs.Resting.{journal_of, step_leaves}
@@ -123,7 +123,7 @@ module _ {D : Type 0} (s : DiskGhosts D) where
     same = same;
   }
 
-  pub broke_step : (x : ServerStep) (failed : Type 0) (old new : StoredServer D) (after : Server) (told : List Note)
+  broke_step : (x : ServerStep) (failed : Type 0) (old new : StoredServer D) (after : Server) (told : List Note)
       → after ≡ after_step (core_of old.journal) x
       → (IsKept s old.journal → LeavesStep s (kept_on old) (kept_on new) (made_of old.journal) (crash (core_of old.journal))
       (noted_of old.journal) (crash after) told)
@@ -136,6 +136,13 @@ module _ {D : Type 0} (s : DiskGhosts D) where
     };
     rose = rose;
   }
+
+  -- a call that was cut off in a step
+  pub broke_cut : (x : ServerStep) (failed : Type 0) (old new : StoredServer D) (after : List ℕ → RulesStep)
+      (cut : CutOff s old.journal new.journal after) → (after cut.chosen).state ≡ after_step (core_of old.journal) x
+      → (failed → Rose (s.faults (kept_on old)) (s.faults (kept_on new))) → JournalBroke [] (x ∷ []) failed old new
+  broke_cut x failed old new after cut is rose =
+      broke_step x failed old new (after cut.chosen).state (after cut.chosen).notes is cut.any_moment rose
 
   -- ---- objects
 
@@ -254,8 +261,7 @@ module _ {D : Type 0} (s : DiskGhosts D) where
           × JournalBroke [] (steps.Makes number raw tag chosen ∷ []) (make_err_of (file.Journal x) ≡ made.DiskFault) old new
       cut x c = (
         c.3.chosen,
-        broke_step (steps.Makes number raw tag c.3.chosen) (make_err_of (file.Journal x) ≡ made.DiskFault) old new _ _ refl
-            c.3.any_moment
+        broke_cut (steps.Makes number raw tag c.3.chosen) (make_err_of (file.Journal x) ≡ made.DiskFault) old new _ c.3 refl
             (λ is. c.2.failed (make_fault x is)),
       )
 

@@ -1,5 +1,5 @@
 use Rattle.std.proofs.Common.{◌∙◌, Err, ap, refl, sym}
-use Rattle.stored_server.proofs.JournalLaws.{broke_step, step_fault, went_step}
+use Rattle.stored_server.proofs.JournalLaws.{broke_cut, step_fault, went_step}
 use Rattle.stored_server.proofs.stored_server.StoredServerMetadataServer.add_drive.Goals as goal
 
 pub returns-in-Ok-clause-ok : goal.returns-in-Ok-clause-ok
@@ -9,5 +9,5 @@ returns-in-Ok-clause-ok g c =
 
 pub returns-in-Err-clause-err : goal.returns-in-Err-clause-err
 returns-in-Err-clause-err g c =
-    broke_step g.D.Disk _ _ _ _ _ _ refl c.in-Err.ensures.cut_off.any_moment
+    broke_cut g.D.Disk _ _ _ _ _ c.in-Err.ensures.cut_off refl
     (λ is. c.in-Err.ensures.cause.failed (ap Err (step_fault c.in-Err.e (sym c.step_err_of.ensures ∙ is))))

@@ -1,5 +1,5 @@
 use Rattle.std.proofs.Common.{◌∙◌, Err, ap, refl, sym}
-use Rattle.stored_server.proofs.JournalLaws.{broke_step, step_fault, went_step}
+use Rattle.stored_server.proofs.JournalLaws.{broke_cut, step_fault, went_step}
 use Rattle.stored_server.proofs.stored_server.StoredServerMetadataServer.on_message.Goals as goal
 
 pub returns-in-Ok-clause-ok : goal.returns-in-Ok-clause-ok
@@ -15,6 +15,6 @@ pub returns-in-Err-clause-err : goal.returns-in-Err-clause-err
 returns-in-Err-clause-err g c =
     let cut = c.in-Err.ensures.cut_off in (
       cut.chosen,
-      broke_step g.D.Disk _ _ _ _ _ _ refl cut.any_moment
+      broke_cut g.D.Disk _ _ _ _ _ cut refl
           (λ is. c.in-Err.ensures.cause.failed (ap Err (step_fault c.in-Err.e (sym c.step_err_of.ensures ∙ is)))),
     )
