@@ -3,7 +3,9 @@
 //! cluster that the journal lacks, and serves connections.
 #![tactic(auto)]
 
+mod beginning;
 mod command;
+mod differences;
 mod lacking;
 mod opened;
 mod preparing;
