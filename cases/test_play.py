@@ -198,6 +198,8 @@ class Rows(Playing):
         for place, left in (("unheard", "-"), ("half", "-"), ("unanswered", "-"), ("halfway", "8000")):
             self.assertEqual(self.rows(begin % place + "ask x 80000001aa\n  > %s\nclose c\n" % left), "")
         self.assertEqual(self.rows(begin % "half" + "cuts c x to s 0 half\nask x 80000001aa\n  > 80000001aa\n"), "")
+        twice = "cuts c x to s 1..2 unheard\n" + 2 * "ask x 80000001aa\n  > -\n" + "ask x 80000001aa\n  > 80000001aa\n"
+        self.assertEqual(self.rows("limit 20\nstart s: serve {port s} 9\n  > listening\n" + twice), "")
         self.assertIn("and not there", self.rows("cuts c x to s 1 there\n"))
 
     def test_signals(self) -> None:

@@ -202,7 +202,7 @@ def client(words: Dict[str, str], text: Text) -> int:
     """Carries out a call or an order."""
     number, parts = int(words['--number']), words['--call'].split(' ')
     it = Client(number)
-    it.next = int(words['--sequence'])
+    it.next = int(words.get('--sequence', 0))   # 0 for an order without a number
     if parts[0] not in ('write', 'read'):
         order = next(code for code, word in envelopes.ORDERS.items() if word == parts[0])
         told = exchange(text.addresses['s'], envelopes.numbers(envelopes.ORDER, order, int(parts[1][1:])), 30)
@@ -210,7 +210,7 @@ def client(words: Dict[str, str], text: Text) -> int:
             say('error link')
             return 8
         result = envelopes.read_envelope(told.record).result  # type: ignore[union-attr]
-        say('order %d\nnext %d' % (result, it.next))
+        say('\n'.join(['order %d' % result] + (['next %d' % it.next] if it.next else [])))
         return 10 if result else 0
     data = hexadecimal(parts[3]) if parts[0] == 'write' else b''
     span = Span(int(parts[2]), len(data) if parts[0] == 'write' else int(parts[3]))
@@ -228,6 +228,9 @@ def deals(it: Client, did: Did, word: str, text: Text, lines: List[str]) -> bool
     """A client sends, and what comes of that, until nothing waits; false where the server didn't answer."""
     waiting: Deque[Tuple[str, bytes]] = deque()
 
+    def awaited(data: bytes) -> Optional[int]:
+        return next((a.ask.component for a in it.call.awaited if a.data == data), None) if it.call else None
+
     def take(step: Did) -> None:
         if step.outcome is not None:
             outcome = step.outcome + ('1' if FAULT == 'acknowledged' and word == 'write' and step.outcome[:2] == 'ok' else '')
@@ -238,11 +241,13 @@ def deals(it: Client, did: Did, word: str, text: Text, lines: List[str]) -> bool
     while waiting:
         to, data = waiting.popleft()
         record = exchange(text.addresses[to], data, 30).record
+        if record is None and to != 's' and awaited(data) is not None:
+            record = exchange(text.addresses[to], data, 30).record
         if record is not None:
             take(World.heard(it, Sent(0, 0, to, 'c%d' % it.number, record)))
         elif to == 's':
             return False
-        component = next((a.ask.component for a in it.call.awaited if a.data == data), None) if it.call else None
+        component = awaited(data)
         if to != 's' and component is not None:
             lines.append('t c%d %d' % (it.number, component))
             take(it.time_out(component))

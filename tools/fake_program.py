@@ -2,8 +2,8 @@
 """Stands for the program `pnfs_osd client` in the tests of tools/pnfs.
 
 It keeps one server's files and numbers in the file that $PNFS_FAKE names, and misbehaves as that says: `script` has,
-for each run on a file that there is, under a number that isn't far away, what is to happen in it; `late` is whether a
-dead run's request comes first, once, under the number that was told. It writes down each run.
+for each run on a file that there is, what is to happen in it; `late` is whether a dead run's request comes first, once, under the
+number that the server told. It writes down each run.
 """
 import json
 import os
@@ -12,14 +12,16 @@ import time
 
 MAX_CALL = 262_144
 MAX_FILE = 16_777_216
+LAST_CALL = 4_294_967_279   # no call begins with a greater number
 
 
 def words_in(arguments):
     """The number, the sequence number and the call."""
-    if len(arguments) != 7 or arguments[:2] != ["client", "--number"] or arguments[3] != "--sequence" or arguments[5] != "--call":
+    if len(arguments) not in (5, 7) or [*arguments[:2], arguments[3], *arguments[5:6]] not in (
+            ["client", "--number", "--call"], ["client", "--number", "--call", "--sequence"]):
         print("error words")
         sys.exit(2)
-    return int(arguments[2]), int(arguments[4]), arguments[6]
+    return int(arguments[2]), int(arguments[6]) if arguments[5:] else None, arguments[4]
 
 
 def perform(files, call, given):
@@ -44,10 +46,12 @@ def answer(state, number, sequence, call, given, event):
     kind = call.split(" ")[0]
     if kind not in ("read", "write"):
         result = event if isinstance(event, int) else 0
-        return f"order {result}\nnext {sequence}\n", 10 if result else 0
+        return f"order {result}\n" + ("" if sequence is None else f"next {sequence}\n"), 10 if result else 0
     expected = state["next"].get(str(number), 1)
-    if sequence == expected and state.pop("late", False):
-        expected += 1
+    if sequence is None:
+        if expected >= LAST_CALL:
+            return f"x c{number} slotspent\nnext {expected + 1}\n", 10
+        sequence = expected = expected + 1
         state["next"][str(number)] = expected
     if sequence != expected:
         if sequence == expected - 1:
@@ -87,9 +91,14 @@ def main():
     number, sequence, call = words_in(sys.argv[1:])
     _, _, given = sys.stdin.buffer.read().partition(b"\0")
     state["runs"].append([number, sequence, call[:40]])
+    if sequence is None and state.pop("late", False):
+        state["next"][str(number)] += 1
+        save(path, state)
+        print("error number")
+        return 8
     event = None
     on_a_file = call.split(" ")[0] not in ("read", "write") or call.split(" ")[1] in state["files"]
-    if sequence < 1_000_000_000 and on_a_file and state["script"]:
+    if on_a_file and state["script"]:
         event = state["script"].pop(0)
     if event == "waits":
         save(path, state)

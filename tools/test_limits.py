@@ -99,7 +99,7 @@ class Limits(unittest.TestCase):
     def test_seconds(self):
         values = {limit.name: limit.value for limit in limits()}
         self.assertLess(4 * values["silence of a drive, for a client"], values["seconds of a grant"])
-        waits = ["silence of a drive, for the server", "silence of who connected to a drive or the server", "a whole record of it",
+        waits = ["silence of a drive, for the server", "silence of who connected to the server, or to a drive within a record", "a whole record of it",
                  "silence of a drive, for a client", "silence of the server, for a client"]
         self.assertEqual([values[name] for name in waits], sorted(values[name] for name in waits))
 

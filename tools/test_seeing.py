@@ -243,7 +243,8 @@ class Status(Seeing):
         self.assertEqual([file["state"] for file in files], ["missing", "lost", "busy", "held", "spent", "absent", "unknown"])
         self.assertEqual((files[0]["missing"], files[2]["waits_for"], files[3]["holder"]), ([1], 2, 5))
         text = self.tool("status", status=24)
-        for part in ("d0 missing d2  ('rebuild' it)", "waits for component 2", "client 5 holds it", "missing: f0; lost: f1; busy: f2"):
+        for part in ("d0 missing d2  ('rebuild' it)", "d0 missing missing  (more than its parity brings back: put a copy under another number)",
+                     "waits for component 2", "client 5 holds it", "missing: f0; lost: f1; busy: f2"):
             self.assertIn(part, text)
 
     def test_mirrors(self):

@@ -1,4 +1,4 @@
-"""Proxies that cut one connection of many."""
+"""Proxies that cut some connections of many."""
 
 import contextlib
 import socket
@@ -13,12 +13,12 @@ PLACES = ("unheard", "half", "unanswered", "halfway")
 
 
 class Cutter:
-    """Hands each connection on from one port to another with its one record and the answer, but cuts one of them."""
+    """Hands each connection on from one port to another with its one record and the answer, but cuts those of these numbers."""
 
-    def __init__(self, port: int, to: int, number: int, place: str) -> None:
+    def __init__(self, port: int, to: int, numbers: range, place: str) -> None:
         if place not in PLACES:
             raise Fault("a connection is cut %s, and not %s" % (", ".join(PLACES), place))
-        self._to, self._number, self._place = to, number, place
+        self._to, self._numbers, self._place = to, numbers, place
         self._listener = listening(port)
         self._thread = threading.Thread(target=self._accept, daemon=True)
         self._thread.start()
@@ -30,7 +30,7 @@ class Cutter:
                 connection, _ = self._listener.accept()
                 count += 1
                 with connection, contextlib.suppress(OSError):
-                    self._hand_on(connection, self._place if count == self._number else "")
+                    self._hand_on(connection, self._place if count in self._numbers else "")
 
     def _hand_on(self, connection: socket.socket, place: str) -> None:
         """Hands the record on and the answer back, as far as the place."""

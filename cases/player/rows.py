@@ -281,12 +281,13 @@ class Run:
             self._others.pop(name).close()
 
     def _cuts(self, words: List[str], _: Row) -> None:
-        name, port, to, onward, number, place = words
+        name, port, to, onward, numbers, place = words
         if to != "to":
-            raise Fault("what cuts is `cuts NAME PORT to PORT NUMBER PLACE`")
+            raise Fault("what cuts is `cuts NAME PORT to PORT NUMBERS PLACE`")
+        first, _, last = numbers.partition("..")
         self._end_former(name)
         ports = self._values.port(port), self._values.port(onward)
-        self._others[name] = cutting.Cutter(ports[0], ports[1], int(number), place)
+        self._others[name] = cutting.Cutter(ports[0], ports[1], range(int(first), int(last or first) + 1), place)
 
     def _impostor(self, words: List[str], _: Row) -> None:
         name, port, answers = words[0], words[1], words[2:]

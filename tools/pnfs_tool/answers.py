@@ -103,13 +103,14 @@ def check_status(ran: Ran, answer: Answer) -> None:
     """Refuses an answer whose lines and status don't go together."""
     ended = [answer.outcome, answer.refusal, answer.order]
     told = sum(part is not None for part in ended)
+    lacks_next = answer.next is None and answer.order is None   # an order has no number
     if answer.status == 0:
         good = (answer.outcome or ["ok"])[0] == "ok" and answer.order in (None, 0) and answer.refusal is None
-        if told != 1 or not good or answer.next is None:
+        if told != 1 or not good or lacks_next:
             raise strange(ran, "status 0, and not one line that says so")
     elif answer.status == 10:
         bad = (answer.outcome or ["-"])[0] != "ok" and answer.order != 0
-        if told != 1 or not bad or answer.next is None:
+        if told != 1 or not bad or lacks_next:
             raise strange(ran, "status 10, and not one line that says why")
     elif answer.next is not None:
         raise strange(ran, f"'next' with status {answer.status}")

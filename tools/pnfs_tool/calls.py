@@ -1,10 +1,7 @@
 """Carries out calls and orders, and tries again where that helps.
 
-Each run of the program is a new client that begins with the number it is given. So the tool finds a fresh number
-before its first request, and again after each run that didn't say its `next`. It asks by a request with a number
-far away: the server answers 10063 with the number that it expects, and does nothing. A request of a run that was
-killed may come later under that number. So the tool spends the number on a request that does nothing: once the
-server has taken that, no earlier run's request has a number that is still to come.
+Each run of the program is a new client. It is given the number that the run before it said as its `next`. The first run, and
+each one after a run that didn't say its `next`, is given none: the program then learns a fresh number from the server.
 """
 import time
 from typing import Callable, List, NamedTuple, Optional, Set
@@ -13,8 +10,6 @@ from .answers import Answer, bytes_read, read_answer, strange, written
 from .ends import PROGRAM_STATUSES, STRANGE, End
 from .program import Program
 
-#: The greatest number that the program takes. The numbers of a client rise by 1, so none comes near it.
-FAR_NUMBER = 4_294_967_280
 SEQ_MISORDERED = "10063"
 BADLAYOUT = "10050"
 GRANT_SECONDS = 90
@@ -57,7 +52,8 @@ class Step(NamedTuple):
 def step_behind(answer: Answer) -> Optional[Step]:
     """What to do behind an answer that isn't ok; None where trying again doesn't help."""
     if answer.status == 8:
-        return Step("the server didn't answer", False)
+        what = "tell the client's number" if answer.error == ["number"] else "answer"
+        return Step(f"the server didn't {what}", False)
     if answer.status != 10 or not answer.outcome:
         return None
     word, rest = answer.outcome[0], answer.outcome[1:]
@@ -126,12 +122,11 @@ class Waiting:
 
 
 class Caller:
-    """Carries out calls as one client, whose number it knows or finds."""
+    """Carries out calls as one client; `next` is its number, if that is known."""
 
-    def __init__(self, program: Program, spare_file: int, patience: float, tell: Callable[[str], None],
+    def __init__(self, program: Program, patience: float, tell: Callable[[str], None],
                  is_lost: Callable[[int], bool] = lambda file: False):
         self.program = program
-        self.spare_file = spare_file
         self.patience = patience
         self.tell = tell
         self.is_lost = is_lost
@@ -141,31 +136,8 @@ class Caller:
         self.timed_out = 0
         self.late: Set[int] = set()
 
-    def ask(self, sequence: int) -> Answer:
-        """Asks for a byte of the spare file under this number."""
-        ran = self.program.run(sequence, f"read f{self.spare_file} 0 1")
-        return read_answer(ran, self.program.client, "read")
-
-    def find_number(self) -> Answer:
-        """Finds a number that no earlier run has used, in two requests. The number is known afterwards, or the answer says why not."""
-        answer = self.ask(FAR_NUMBER)
-        expected = expected_number(answer)
-        if expected is None:
-            if answer.status in (0, 10):
-                raise End(10, f"the numbers of client {self.program.client} are used up ({answer.words()}): "
-                              "take another with --client")
-            return answer
-        answer = self.ask(expected)
-        if answer.next and expected_number(answer) is None:
-            self.next = answer.next
-        return answer
-
     def once(self, call: Call) -> Answer:
-        """Carries out the call once, under a fresh number; the answer may be that of asking for it."""
-        if self.next is None:
-            asked = self.find_number()
-            if self.next is None:
-                return asked
+        """Carries out the call once, under a fresh number."""
         self.calls += 1
         ran = self.program.run(self.next, call.words(), call.data)
         self.next = None
@@ -210,7 +182,7 @@ class Caller:
         waiting = Waiting(self.patience)
         tries = 0
         while True:
-            answer = read_answer(self.program.run(1, words), self.program.client, None)
+            answer = read_answer(self.program.run(None, words), self.program.client, None)
             if answer.status == 0:
                 return
             tries += 1
@@ -222,14 +194,6 @@ class Caller:
             self.again += 1
             if waiting.is_new(step.why):
                 self.tell(f"{words}: {step.why}; trying again")
-
-
-def expected_number(answer: Answer) -> Optional[int]:
-    """The number that the server expects, where it refused another."""
-    words = answer.outcome or []
-    if answer.status != 10 or words[:2] != ["status", SEQ_MISORDERED] or len(words) != 3 or not words[2].isdecimal():
-        return None
-    return int(words[2]) if 0 < int(words[2]) < FAR_NUMBER else None
 
 
 def fits(answer: Answer, call: Call) -> bool:

@@ -194,9 +194,9 @@ def carry_out(words: argparse.Namespace) -> int:
             program = Program(path, cluster.text, words.client, lock)
             copy = copy_in if words.command in ("put", "write") else copy_out
             onlooker = Onlooker(cluster.server, words.client)
-            caller = Caller(program, spare_file(cluster), words.patience, tell, lambda file: onlooker.see_file(file).state == LOST)
+            caller = Caller(program, words.patience, tell, lambda file: onlooker.see_file(file).state == LOST)
             return copy(words, cluster.files[words.file], caller)
-    caller = Caller(Program(path, cluster.text, words.client), spare_file(cluster), words.patience, tell)
+    caller = Caller(Program(path, cluster.text, words.client), words.patience, tell)
     if words.command == "declare":
         return declare(words, cluster, caller)
     refuse_file(cluster, words.file)

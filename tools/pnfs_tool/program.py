@@ -42,9 +42,12 @@ class Program:
         self.lock = lock
         self.runs = 0
 
-    def run(self, sequence: int, call: str, data: Optional[bytes] = None) -> Ran:
-        """Carries out one call or order, and waits for its end. The data of a write follow the cluster text and a zero byte."""
-        words = [self.path, "client", "--number", str(self.client), "--sequence", str(sequence), "--call", call]
+    def run(self, sequence: Optional[int], call: str, data: Optional[bytes] = None) -> Ran:
+        """Carries out one call or order, under this number or one that the program finds, and waits for its end. The data of a write
+        follow the cluster text and a zero byte."""
+        words = [self.path, "client", "--number", str(self.client), "--call", call]
+        if sequence is not None:
+            words += ["--sequence", str(sequence)]
         given = self.cluster_text if data is None else self.cluster_text + b"\0" + data
         self.runs += 1
         try:

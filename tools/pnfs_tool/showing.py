@@ -34,7 +34,7 @@ def file_line(file: FileSeen, drives: Dict[int, DriveSeen]) -> str:
     if file.components is not None:
         rest = " ".join(drive_of(number, file, drives) for number in range(len(file.components)))
         if file.state in (MISSING, LOST):
-            rest += "  ('rebuild' it)" if file.state == MISSING else "  (more is missing than its parity brings back)"
+            rest += "  ('rebuild' it)" if file.state == MISSING else "  (more than its parity brings back: put a copy under another number)"
     elif file.state in ADVICE:
         rest = ADVICE[file.state].format(waits_for=file.waits_for, holder=file.holder)
     return f"f{file.number:<6} {file.state:<8} {size:>9}  {rest}".rstrip()

@@ -197,6 +197,10 @@ class Mapping:
                 raise self.differ('nobody sent what it was given')
             come = self.goes('deliver %d' % answer)
         component = self.awaited(step.who, number)
+        if step.record is None and component is not None and number not in side.again:
+            side.again.add(number)
+            side.queue.appendleft(number)
+            return
         if component is not None:
             come += self.goes('timeout %s %d' % (step.who, component))
         side.queue.extend(sent.number for sent in come)
@@ -227,7 +231,8 @@ class Mapping:
             return
         side.is_over = True
         for number in side.queue:
-            self.unseen[number] = 'ended'
+            if number not in side.again:
+                self.unseen[number] = 'ended'
         self.goes('stop %s' % step.who)
 
     # ---- the server

@@ -49,6 +49,8 @@ class ClientSide:
     def __init__(self) -> None:
         self.queue: Deque[int] = deque()
         self.asked: Dict[int, int] = {}
+        # the commands that were sent once more, since no record came of the first exchange
+        self.again: Set[int] = set()
         self.has_left = True
         self.is_over = False
         self.runs = False

@@ -1,4 +1,5 @@
 // The keys of a cluster text, and what they may be.
+use cluster_text::{MAX_DRIVES, MAX_FILES};
 
 // The kinds of tables.
 #[derive(Clone, Copy, PartialEq, Eq)]
@@ -39,6 +40,11 @@ pub(crate) struct Key {
 
 const MAX_U32: i64 = 4_294_967_295;
 
+// The greatest numbers of a drive and of a file.
+const LAST_DRIVE: i64 = MAX_DRIVES as i64 - 1;
+
+const LAST_FILE: i64 = MAX_FILES as i64 - 1;
+
 const ADDRESS: &str = "a host and a port in quotation marks, as \"127.0.0.1:7100\",";
 
 const NUMBER: &str = "a whole number from 0 to 63";
@@ -53,7 +59,7 @@ const TOP: &[Key] = &[
 
 #[rattlefmt::skip]
 const DRIVE: &[Key] = &[
-    Key { name: "number", form: Form::Whole(0, 63), need: Need::Always, wanted: NUMBER },
+    Key { name: "number", form: Form::Whole(0, LAST_DRIVE), need: Need::Always, wanted: NUMBER },
     Key { name: "address", form: Form::Address, need: Need::Always, wanted: ADDRESS },
     Key { name: "key", form: Form::Key, need: Need::WithKeys, wanted: "40 hexadecimal digits in quotation marks" },
     Key { name: "capacity", form: Form::Whole(0, i64::MAX), need: Need::Always,
@@ -62,7 +68,7 @@ const DRIVE: &[Key] = &[
 
 #[rattlefmt::skip]
 const FILE: &[Key] = &[
-    Key { name: "number", form: Form::Whole(0, 63), need: Need::Always, wanted: NUMBER },
+    Key { name: "number", form: Form::Whole(0, LAST_FILE), need: Need::Always, wanted: NUMBER },
     Key { name: "components", form: Form::Whole(0, MAX_U32), need: Need::Always,
         wanted: "a whole number, at most 64 and the number of drives," },
     Key { name: "unit", form: Form::Whole(0, i64::MAX), need: Need::Always,

@@ -19,7 +19,7 @@ mod words;
 
 pub use cluster::refused_cluster;
 pub use kept::{KEPT_BYTES, Kept};
-pub use network::{Asker, failed_links};
+pub use network::{Asker, failed_links, no_number};
 pub use stores::{failed_disk, refused_store};
 pub use text_lines::line_of;
 pub use words::refused_words;

@@ -16,9 +16,12 @@ pub enum Asker {
 // What a client's end leaves open.
 const CLIENT_REST: &str = "\
 The request may have been carried out, so its number may have been used: don't use it again, neither for this call nor for
-another one. tools/pnfs finds the right number by itself. By hand, ask with a number far away:
-    client --number N --sequence 4000000000 --call 'read f0 0 1'
-does nothing and says 'status 10063 Q', and Q is the number with which to go on.
+another one. Without --sequence a client finds the right number by itself.
+";
+
+// What is said to a client that learned no number.
+const NOT_BEGUN: &str = "\
+The client didn't learn the number of its next request, so nothing was done: give the same command again.
 ";
 
 // What may be done about it.
@@ -44,5 +47,16 @@ pub fn failed_links(
             "pnfs_osd: the server's answer isn't the one to this request\n{rest}"
         ),
         None => format!(in alloc; "pnfs_osd: no answer that can be used\n{rest}"),
+    }
+}
+
+/// What a person is told if a client learned no number from the server: which party failed, if one did, and that nothing was
+/// done.
+pub fn no_number(alloc: Global, fault: Option<LinkFault<'_>>) -> Result<String, AllocError> {
+    match fault {
+        Some(fault) => format!(in alloc; "pnfs_osd: {fault}\n{NOT_BEGUN}"),
+        None => format!(in alloc;
+            "pnfs_osd: the server didn't say which number it expects, or another request had it\n{NOT_BEGUN}"
+        ),
     }
 }

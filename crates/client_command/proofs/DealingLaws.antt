@@ -20,7 +20,7 @@ use Rattle.layout_ops.specs.declared.messages.Request.{Request}
 use Rattle.osd_lists.specs.declared.node.Node.TheVariants.{Drive, Server}
 use Rattle.osd_bytes.specs.Asking.{Answered}
 use Rattle.reply_matching.specs.Answers.{is_answer_to}
-use Rattle.client_command.specs.Exchanges.{AwaitsStill, CutsExchange, CutsIn, Dealing, InTurn, IsLost, IsRequest, Loses, LosesIn, LosesServer, Works, WorksAll, WorksRounds, answer_among, answered, dealing, ended, heard, late, on_links, stepped, timed_out}
+use Rattle.client_command.specs.Exchanges.{AwaitsStill, CutsIn, CutsTo, Dealing, InTurn, IsLost, IsRequest, Loses, LosesIn, LosesServer, Works, WorksAll, WorksRounds, answer_among, answered, dealing, ended, heard, late, on_links, stepped, timed_out}
 
 pub is_stepped : (s : Dealing) (step : Step) (c : Client) (told : CStep) (waiting : List Sent) (notices : List Notice)
     → IsStep step c told → waiting ≡ s.waiting ++ told.sends → notices ≡ s.notices ++ ended told.outcome
@@ -43,8 +43,7 @@ loses_at ms i m s u t e w l =
     record { sent = take i ms; lost = m; unsent = drop (suc i) ms; are = split_got ms i m e; before = u; works = w; loses = l }
 
 pub cuts_at : (ms : List Sent) (i : ℕ) (m : Sent) (s u : Dealing) (told : Option Traffic) (faults : Faults) →
-    slice_get ms i ≡ Some m → InTurn Works (take i ms) s u → CutsExchange m.to m.bytes u.told told u.faults faults →
-    CutsIn ms s told faults
+    slice_get ms i ≡ Some m → InTurn Works (take i ms) s u → CutsTo m.to m.bytes u told faults → CutsIn ms s told faults
 cuts_at ms i m s u told faults e w c =
     record { sent = take i ms; cut = m; unsent = drop (suc i) ms; are = split_got ms i m e; before = u; works = w; cuts = c }
 

@@ -1,5 +1,5 @@
 -- The report of a call, by how its dealings ended.
-use Rattle.std.proofs.Common.{◌≡◌, ◌++◌, ℕ, List, [], None, Ok, Err, inl, inr}
+use Rattle.std.proofs.Common.{◌≡◌, ◌++◌, ℕ, List, [], None, Some, Ok, Err, inl, inr, subst}
 use Rattle.std.specs.Prelude.{IfOk, IsSome, OnErr, Result}
 use Rattle.osd_lists.specs.declared.memory.Memory.{Memory}
 use Rattle.scenario_text.specs.declared.line.CallKind.{CallKind}
@@ -16,7 +16,9 @@ use Rattle.client_command.specs.declared.work_ends.Report.{Report}
 use Rattle.client_command.specs.Calls.{Calls, StopsCall}
 use Rattle.client_command.specs.WorkEnds.{end_of}
 use Rattle.client_command.specs.Lines.{call_lines, next_line}
-use Rattle.client_command.specs.Reports.{CutsCall, IsReport, OnLinks, ReportsCall}
+use Rattle.client_command.specs.OnLinks.{OnLinks}
+use Rattle.client_command.specs.Numbering.{CutsFinding, Finds, after}
+use Rattle.client_command.specs.Reports.{CutsCall, CutsFresh, IsReport, ReportsCall}
 
 pub untold : (r : Result Report Memory) (P : Type 0) → P → OnErr r P
 untold (Ok report) P p = tt
@@ -67,3 +69,18 @@ module _ (number n sequence : ℕ) (op o : CallOp) (first notices : List Notice)
   cuts_stopped client stop c =
       let stopped = rw (same_number, same_op, none) at c in
       (client, notices, inr (stop, stopped))
+
+-- ---- a number is found first
+
+module _ (n number : ℕ) (op : CallOp) (before between now : OnLinks) (same : n ≡ number) where
+  pub cuts_finding : CutsFinding n before now → CutsFresh number op before now
+  cuts_finding c = inl (subst (λ (m : ℕ). CutsFinding m before now) same c)
+
+  pub cuts_found : (used next : ℕ) → next ≡ after used → Finds n before between (Some used)
+      → CutsCall number next op between now → CutsFresh number op before now
+  cuts_found used next is finds cuts = inr (
+    Some used,
+    between,
+    subst (λ (m : ℕ). Finds m before between (Some used)) same finds,
+    subst (λ (m : ℕ). CutsCall number m op between now) is cuts,
+  )

@@ -7,7 +7,7 @@ use Rattle.cluster_text.specs.declared.stop.CommandStop.TheVariants.{BadCluster,
 use Rattle.cluster_text.specs.Outside.{Streams}
 use Rattle.command_words.specs.declared.words.ClientWords.{ClientWords}
 use Rattle.client_command.specs.Inputs.{GivesWork}
-use Rattle.client_command.specs.Reports.{OnLinks}
+use Rattle.client_command.specs.OnLinks.{OnLinks}
 use Rattle.client_command.specs.Ends.{StopsClient, StopsWork}
 
 module _ (words : ClientWords) (in_before in_now : Streams) (before now : OnLinks) (standing : Standing) where

@@ -15,7 +15,8 @@ use Rattle.cluster_text.specs.Peers.{IsSettled}
 use Rattle.client_command.specs.declared.work_ends.ClientEnd.{ClientEnd}
 use Rattle.client_command.specs.declared.work_ends.Report.{Report}
 use Rattle.client_command.specs.Inputs.{GivesWork, RefusesText}
-use Rattle.client_command.specs.Reports.{CutsWork, OnLinks, Reports}
+use Rattle.client_command.specs.OnLinks.{OnLinks}
+use Rattle.client_command.specs.Reports.{CutsWork, Reports}
 
 -- ---- a report that is told
 
@@ -43,7 +44,7 @@ StopsTelling report before now failed_before failed other = ⊥
 -- ---- the work, over links that know the cluster
 
 abbrev pub ReportsFor : ClientWords → (before now : OnLinks) → Report → Type 0
-ReportsFor words before now report = Reports words.number words.sequence words.work before now report
+ReportsFor words before now report = Reports words.number words.first words.work before now report
 
 -- the work ended so, and all that tells of it went out
 abbrev pub Tells : ClientWords → (before now : OnLinks) → (taken_before taken : Option (List ℕ)) → ClientEnd → Type 0
@@ -74,7 +75,7 @@ StopsWork words cluster before now standing taken_before taken failed_before fai
 StopsWork words cluster before now standing taken_before taken failed_before failed Memory =
     (taken ≡ taken_before)
     × ((now ≡ before)
-    ⊎ (KnowsCluster cluster standing × CutsWork words.number words.sequence words.work before now))
+    ⊎ (KnowsCluster cluster standing × CutsWork words.number words.first words.work before now))
 StopsWork words cluster before now standing taken_before taken failed_before failed other = ⊥
 
 -- ---- the command

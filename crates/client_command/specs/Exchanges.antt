@@ -1,5 +1,5 @@
 -- The exchanges of a client with its nodes, one after the other.
-use Rattle.std.specs.Prelude.{◌≡◌, ◌⊎◌, ℕ, zero, suc, nat_le, List, [], ◌∷◌, ◌++◌, length, slice_range, ⊤, Option, Some, None, IsTrue, if◌then◌else◌}
+use Rattle.std.specs.Prelude.{◌≡◌, ◌⊎◌, ℕ, zero, suc, nat_le, List, [], ◌∷◌, ◌++◌, length, slice_range, ⊤, Option, Some, None, IsSome, IsTrue, if◌then◌else◌}
 use Rattle.std.specs.Int.{w64, from_be_bytes}
 use Rattle.osd_bytes.specs.Connections.{Traffic}
 use Rattle.osd_bytes.specs.Counts.{Faults}
@@ -93,10 +93,33 @@ IsRequest m message = (m.to ≡ Server) × (m.bytes ≡ message)
 
 -- ---- an exchange
 
+-- no record came of a first exchange, and of a second one this
+pub record AskedAgain (to : Node) (message : List ℕ) (told_before told : Option Traffic) (failed_before failed : Faults)
+    (came : Option (List ℕ)) : Type 0 where
+  pub told_between : Option Traffic
+  pub failed_between : Faults
+  pub first : Answered to message told_before told_between failed_before failed_between None
+  pub second : Answered to message told_between told failed_between failed came
+
+-- a node is asked, and if no record comes, once more
+abbrev pub AskedTwice : Node → (message : List ℕ) → (told_before told : Option Traffic) → (failed_before failed : Faults)
+    → Option (List ℕ) → Type 0
+AskedTwice to message told_before told failed_before failed came =
+    (IsSome came × Answered to message told_before told failed_before failed came)
+    ⊎ AskedAgain to message told_before told failed_before failed came
+
+-- so a drive is asked if a component's reply is awaited; else it is asked once
+abbrev pub AskedFor : (awaited : Option ℕ) → Node → (message : List ℕ) → (told_before told : Option Traffic)
+    → (failed_before failed : Faults) → Option (List ℕ) → Type 0
+AskedFor None to message told_before told failed_before failed came =
+    Answered to message told_before told failed_before failed came
+AskedFor (Some k) to message told_before told failed_before failed came =
+    AskedTwice to message told_before told failed_before failed came
+
 -- a command goes to its drive
 pub record AsksDrive (drive : ℕ) (command : List ℕ) (s t : Dealing) : Type 0 where
   pub came : Option (List ℕ)
-  pub told : Answered (Drive drive) command s.told t.told s.faults t.faults came
+  pub told : AskedFor (late s.client command) (Drive drive) command s.told t.told s.faults t.faults came
   pub dealt : t ≡ on_links t.told t.faults (answered s drive command came)
 
 -- the record that came, where it answers the message: the client hears no other
@@ -171,6 +194,25 @@ CutsExchange to message told_before told failed_before failed =
     IsCutOff to message told_before told failed_before failed
     ⊎ ((came : Option (List ℕ)) × Answered to message told_before told failed_before failed came)
 
+-- no record came of a first exchange, and the second was cut off
+pub record CutsAgain (to : Node) (message : List ℕ) (told_before told : Option Traffic) (failed_before failed : Faults) : Type 0 where
+  pub told_between : Option Traffic
+  pub failed_between : Faults
+  pub first : Answered to message told_before told_between failed_before failed_between None
+  pub cuts : CutsExchange to message told_between told failed_between failed
+
+-- a drive is asked twice if a component's reply is awaited
+abbrev pub CutsFor : (awaited : Option ℕ) → Node → (message : List ℕ) → (told_before told : Option Traffic)
+    → (failed_before failed : Faults) → Type 0
+CutsFor None to message told_before told failed_before failed = CutsExchange to message told_before told failed_before failed
+CutsFor (Some k) to message told_before told failed_before failed =
+    CutsExchange to message told_before told failed_before failed ⊎ CutsAgain to message told_before told failed_before failed
+
+-- so the exchange of a message was, or the second with its drive
+abbrev pub CutsTo : Node → (message : List ℕ) → (s : Dealing) → Option Traffic → Faults → Type 0
+CutsTo (Drive d) message s told faults = CutsFor (late s.client message) (Drive d) message s.told told s.faults faults
+CutsTo to message s told faults = CutsExchange to message s.told told s.faults faults
+
 -- some of these messages were sent, and the exchange of the next was cut off
 pub record CutsIn (ms : List Sent) (s : Dealing) (told : Option Traffic) (faults : Faults) : Type 0 where
   pub sent : List Sent
@@ -179,7 +221,7 @@ pub record CutsIn (ms : List Sent) (s : Dealing) (told : Option Traffic) (faults
   pub are : ms ≡ sent ++ cut ∷ unsent
   pub before : Dealing
   pub works : InTurn Works sent s before
-  pub cuts : CutsExchange cut.to cut.bytes before.told told before.faults faults
+  pub cuts : CutsTo cut.to cut.bytes before told faults
 
 -- all went so far, and no further: the next round didn't begin, or was cut off
 abbrev pub CutsAll : (s : Dealing) → Option Traffic → Faults → Type 0

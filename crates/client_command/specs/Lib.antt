@@ -1,3 +1,5 @@
+pub mod OnLinks
+pub mod Numbering
 pub mod WorkEnds
 pub mod Lines
 pub mod Calls

@@ -6,6 +6,8 @@ use Rattle.scenario_text.specs.declared.line.CallKind.{CallKind}
 use Rattle.scenario_text.specs.declared.line.Line.{Line}
 use Rattle.scenario_text.specs.declared.line.Line.TheVariants as line
 use Rattle.client_rules.specs.declared.outcomes.CallErr.{CallErr}
+use Rattle.command_words.specs.declared.words.FirstNumber.{FirstNumber}
+use Rattle.command_words.specs.declared.words.FirstNumber.TheVariants.{Given, Fresh}
 use Rattle.client_command.specs.declared.notices.Notice.{Notice}
 use Rattle.client_command.specs.declared.notices.Notice.TheVariants.{TimedOut, Ended}
 use Rattle.world_history.specs.Told.{told_refusal}
@@ -32,3 +34,12 @@ order_line result = codes "order " ++ (decimal result ++ (10 ∷ []))
 -- `next Q`
 abbrev pub next_line : (sequence : ℕ) → List ℕ
 next_line sequence = codes "next " ++ (decimal sequence ++ (10 ∷ []))
+
+-- the same number again if one was given
+abbrev pub next_of : FirstNumber → List ℕ
+next_of (Given sequence) = next_line sequence
+next_of Fresh = []
+
+-- `error number`: the client didn't learn a number
+abbrev pub unnumbered_line : List ℕ
+unnumbered_line = codes "error number" ++ (10 ∷ [])

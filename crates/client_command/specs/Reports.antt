@@ -1,9 +1,6 @@
 -- What a client tells of its work, and how that ends.
 use Rattle.std.specs.Prelude.{◌≡◌, ◌⊎◌, ℕ, List, [], ◌++◌, Option, Some, None, IsSome, Err}
 use Rattle.std.specs.Option.{option_map}
-use Rattle.osd_bytes.specs.Connections.{Traffic}
-use Rattle.osd_bytes.specs.Counts.{Faults}
-use Rattle.osd_bytes.specs.declared.links.Links.{Ghosts as LinksGhosts}
 use Rattle.layout_ops.specs.declared.orders.OrderResult.{OrderResult}
 use Rattle.layout_ops.specs.Enumerations.{order_result_number}
 use Rattle.scenario_text.specs.LineSpelling.{lines_text}
@@ -14,32 +11,25 @@ use Rattle.client_rules.specs.declared.client.Client.{Client}
 use Rattle.client_rules.specs.declared.outcomes.CallErr.{CallErr}
 use Rattle.client_rules.specs.Steps.{calls, new_client}
 use Rattle.client_command.specs.declared.notices.Notice.{Notice}
+use Rattle.client_command.specs.OnLinks.{OnLinks}
 use Rattle.client_command.specs.Exchanges.{CutsExchange, Dealing, dealing}
 use Rattle.osd_lists.specs.declared.node.Node.TheVariants.{Server}
+use Rattle.command_words.specs.declared.words.FirstNumber.{FirstNumber}
+use Rattle.command_words.specs.declared.words.FirstNumber.TheVariants.{Given, Fresh}
 use Rattle.command_words.specs.declared.work.ClientWork.{ClientWork}
 use Rattle.command_words.specs.declared.work.ClientWork.TheVariants as work
 use Rattle.command_words.specs.declared.work.Order.{Order}
 use Rattle.client_command.specs.declared.work_ends.ClientEnd.{ClientEnd}
-use Rattle.client_command.specs.declared.work_ends.ClientEnd.TheVariants.{Refused}
+use Rattle.client_command.specs.declared.work_ends.ClientEnd.TheVariants.{Refused, Unnumbered}
 use Rattle.client_command.specs.declared.work_ends.Refusal.TheVariants.{Call}
 use Rattle.client_command.specs.declared.work_ends.Report.{Report}
 use Rattle.client_command.specs.WorkEnds.{end_of, end_by_result}
-use Rattle.client_command.specs.Lines.{call_lines, next_line, order_line, refusal_lines}
+use Rattle.client_command.specs.Lines.{call_lines, next_line, next_of, order_line, refusal_lines, unnumbered_line}
 use Rattle.client_command.specs.declared.calls.CallStop.{CallStop}
 use Rattle.client_command.specs.declared.calls.CallStop.TheVariants.{Lost}
 use Rattle.client_command.specs.Calls.{Calls, StopsCall}
+use Rattle.client_command.specs.Numbering.{CutsFinding, Finds, after}
 use Rattle.client_command.specs.Orders.{Answers, order_message, sent_order}
-
--- what is known of the links: what came and went, and the counts of the calls that failed
-pub record OnLinks : Type 0 where
-  pub told : Option Traffic
-  pub faults : Faults
-
-abbrev pub on_links : Option Traffic → Faults → OnLinks
-on_links told faults = record { told = told; faults = faults }
-
-abbrev pub links_at : {A : Type 0} → LinksGhosts A → (links : A) → OnLinks
-links_at l links = on_links (l.told links) (l.faults links)
 
 -- a client that has done nothing, whose first request has this number
 abbrev pub fresh : (number sequence : ℕ) → OnLinks → Dealing
@@ -80,24 +70,41 @@ ReportsCall number sequence op before now report =
     ⊎ EndsCall number sequence op before now report
     ⊎ LosesServer number sequence op before now report
 
+-- the number that the server expected is used up, and the call goes under the one after it; or no number was learned, and
+-- nothing was done
+abbrev pub ReportsAfter : (number : ℕ) → Option ℕ → CallOp → (before now : OnLinks) → Report → Type 0
+ReportsAfter number (Some used) op before now report = ReportsCall number (after used) op before now report
+ReportsAfter number None op before now report = (now ≡ before) × IsReport unnumbered_line (Some Unnumbered) report
+
+-- the client finds a fresh number first
+pub record ReportsFresh (number : ℕ) (op : CallOp) (before now : OnLinks) (report : Report) : Type 0 where
+  pub used : Option ℕ
+  pub between : OnLinks
+  pub finds : Finds number before between used
+  pub call : ReportsAfter number used op between now report
+
+abbrev pub ReportsFrom : (number : ℕ) → FirstNumber → CallOp → (before now : OnLinks) → Report → Type 0
+ReportsFrom number (Given sequence) op before now report = ReportsCall number sequence op before now report
+ReportsFrom number Fresh op before now report = ReportsFresh number op before now report
+
 -- ---- an order
 
 -- what is told of it; no request of the client is used up
-abbrev pub answer_text : (sequence : ℕ) → Option OrderResult → List ℕ
-answer_text sequence None = []
-answer_text sequence (Some answer) = order_line (order_result_number answer) ++ next_line sequence
+abbrev pub answer_text : FirstNumber → Option OrderResult → List ℕ
+answer_text first None = []
+answer_text first (Some answer) = order_line (order_result_number answer) ++ next_of first
 
 -- it is one exchange with the server, whose answer comes or doesn't
-pub record ReportsOrder (sequence : ℕ) (o : Order) (before now : OnLinks) (report : Report) : Type 0 where
+pub record ReportsOrder (first : FirstNumber) (o : Order) (before now : OnLinks) (report : Report) : Type 0 where
   pub answer : Option OrderResult
   pub exchange : Answers (sent_order o) before.told now.told before.faults now.faults answer
-  pub told : IsReport (answer_text sequence answer) (option_map end_by_result answer) report
+  pub told : IsReport (answer_text first answer) (option_map end_by_result answer) report
 
 -- ---- the work
 
-abbrev pub Reports : (number sequence : ℕ) → ClientWork → (before now : OnLinks) → Report → Type 0
-Reports number sequence (work.Call what) before now report = ReportsCall number sequence (op_of what) before now report
-Reports number sequence (work.Order o) before now report = ReportsOrder sequence o before now report
+abbrev pub Reports : (number : ℕ) → FirstNumber → ClientWork → (before now : OnLinks) → Report → Type 0
+Reports number first (work.Call what) before now report = ReportsFrom number first (op_of what) before now report
+Reports number first (work.Order o) before now report = ReportsOrder first o before now report
 
 -- ---- cut off for want of memory
 
@@ -114,6 +121,21 @@ CutsOrder o before now =
     (now ≡ before)
     ⊎ CutsExchange Server (order_message (sent_order o)) before.told now.told before.faults now.faults
 
-abbrev pub CutsWork : (number sequence : ℕ) → ClientWork → (before now : OnLinks) → Type 0
-CutsWork number sequence (work.Call what) before now = CutsCall number sequence (op_of what) before now
-CutsWork number sequence (work.Order o) before now = CutsOrder o before now
+-- after the search for a fresh number
+abbrev pub CutsAfter : (number : ℕ) → Option ℕ → CallOp → (before now : OnLinks) → Type 0
+CutsAfter number (Some used) op before now = CutsCall number (after used) op before now
+CutsAfter number None op before now = now ≡ before
+
+-- or in it
+abbrev pub CutsFresh : (number : ℕ) → CallOp → (before now : OnLinks) → Type 0
+CutsFresh number op before now =
+    CutsFinding number before now
+    ⊎ ((used : Option ℕ) × (between : OnLinks) × Finds number before between used × CutsAfter number used op between now)
+
+abbrev pub CutsFrom : (number : ℕ) → FirstNumber → CallOp → (before now : OnLinks) → Type 0
+CutsFrom number (Given sequence) op before now = CutsCall number sequence op before now
+CutsFrom number Fresh op before now = CutsFresh number op before now
+
+abbrev pub CutsWork : (number : ℕ) → FirstNumber → ClientWork → (before now : OnLinks) → Type 0
+CutsWork number first (work.Call what) before now = CutsFrom number first (op_of what) before now
+CutsWork number first (work.Order o) before now = CutsOrder o before now

@@ -1,9 +1,10 @@
-ghost use Rattle.std.specs.Prelude.{◌≡◌, ◌≤◌, ◌<◌, IfErr, IfOk, OnOk};
+ghost use Rattle.std.specs.Prelude.{◌≡◌, ◌≤◌, IfErr, IfOk, OnOk};
 ghost use Rattle.osd_bytes.specs.Reading.{TakesAtMost};
 ghost use Rattle.osd_bytes.specs.declared.lines.TheConstants.{MAX_READ};
 ghost use Rattle.client_rules.specs.declared.limits.TheConstants.{MAX_CLIENT};
 ghost use Rattle.cluster_text.specs.Outside.{streams_at};
-ghost use Rattle.client_command.specs.Reports.{links_at};
+ghost use Rattle.client_command.specs.OnLinks.{links_at};
+ghost use Rattle.client_command.specs.Numbering.{IsNumbered};
 ghost use Rattle.client_command.specs.Ends.{EndsClient, KnowsCluster, StopsClient, StopsTelling, StopsWork, Tells, ToldAll, WorksAs};
 
 use crate::inputs::ask_from;
@@ -40,7 +41,7 @@ fn work_in<K: Sink, L: Links>(
     links: &mut L,
 ) -> Result<ClientEnd, CommandStop>
     requires number { words.number ≤ MAX_CLIENT }
-    requires sequence { 0 < words.sequence }
+    requires first { IsNumbered words.first }
     ensures tells { IfOk result (Tells words
         (links_at L.Links links.old) (links_at L.Links links.new)
         (K.taken sink.old) (K.taken sink.new)) }
@@ -70,7 +71,7 @@ fn work<S: Source, K: Sink, L: Links>(
     links: &mut L,
 ) -> Result<ClientEnd, CommandStop>
     requires number { words.number ≤ MAX_CLIENT }
-    requires sequence { 0 < words.sequence }
+    requires first { IsNumbered words.first }
     ensures works { IfOk result (WorksAs words
         (streams_at S.Source K.Sink source.old sink.old) (streams_at S.Source K.Sink source.new sink.new)
         (links_at L.Links links.old) (links_at L.Links links.new) (L.standing links.new)) }
@@ -91,9 +92,11 @@ fn work<S: Source, K: Sink, L: Links>(
 
 /// Carries out one call of a client in the cluster that the source describes, or hands its server one order. The
 /// sink is told the timeouts and the end of the call, or what the server answers to the order, and then `next` with
-/// the number of the client's next request; or else, in a line of its own, why the client stopped before. Behind a
-/// call every grant is returned before anything is told. A write that has no bytes of its own takes those behind the
-/// first zero byte of the source, where the text ends then.
+/// the number of the client's next request; or else, in a line of its own, why the client stopped before. A client that
+/// isn't given the number of its first request finds a fresh one before its call; if it doesn't, `error number` is told,
+/// and nothing else is done. An order needs none, and `next` tells the given one again, if one was given. After a call
+/// every grant is returned before anything is told. A write that has no bytes of its own takes those after the first
+/// zero byte of the source, where the text ends then.
 ///
 /// # Errors
 ///
@@ -109,7 +112,7 @@ pub fn client_command<S: Source, K: Sink, L: Links>(
     links: &mut L,
 ) -> Result<ClientEnd, CommandStop>
     requires number { words.number ≤ MAX_CLIENT }
-    requires sequence { 0 < words.sequence }
+    requires first { IsNumbered words.first }
     ensures works { IfOk result (WorksAs words
         (streams_at S.Source K.Sink source.old sink.old) (streams_at S.Source K.Sink source.new sink.new)
         (links_at L.Links links.old) (links_at L.Links links.new) (L.standing links.new)) }

@@ -2,7 +2,7 @@
 ghost use Rattle.std.specs.Prelude.{◌≡◌, [], IsErrOf, OnOk};
 ghost use Rattle.cluster_text.specs.Peers.{KeepsAddresses};
 ghost use Rattle.client_command.specs.declared.exchanges.DealErr.TheVariants.{LinkFault, Memory as NoMemory};
-ghost use Rattle.client_command.specs.Exchanges.{CutsAll, CutsExchange, CutsIn, InTurn, Loses, LosesAll, LosesIn, Works, WorksAll, dealing_at};
+ghost use Rattle.client_command.specs.Exchanges.{CutsAll, CutsIn, CutsTo, InTurn, Loses, LosesAll, LosesIn, Works, WorksAll, dealing_at};
 
 use crate::drive::exchange_with_drive;
 use crate::notices::Notices;
@@ -50,8 +50,8 @@ fn work<L: Links>(
     ensures loses { IsErrOf result LinkFault → Loses sent.now
         (dealing_at L.Links links.old core.old waiting.old notices.old)
         (dealing_at L.Links links.new core.new waiting.new notices.new) }
-    ensures cuts { IsErrOf result NoMemory → CutsExchange sent.now.to sent.now.bytes (L.told links.old) (L.told links.new)
-        (L.faults links.old) (L.faults links.new) }
+    ensures cuts { IsErrOf result NoMemory → CutsTo sent.now.to sent.now.bytes
+        (dealing_at L.Links links.old core.old waiting.old notices.old) (L.told links.new) (L.faults links.new) }
     ensures addresses { KeepsAddresses (L.standing links.old) (L.standing links.new) }
 {
     let message = sent.bytes.as_slice();
@@ -101,8 +101,8 @@ fn work_round<L: Links>(
     Ok(())
 }
 
-/// Sends these messages in order, each in an exchange with its node, and then what they bring, until none waits.
-/// What is told of the call meanwhile is added to `notices`.
+/// Sends these messages in order, and then what they bring, until none waits: each in an exchange with its node, or in
+/// two with a drive of which no record came in the first. What is told of the call meanwhile is added to `notices`.
 ///
 /// # Errors
 ///

@@ -2,7 +2,8 @@
 //! order, and tells what came of it.
 //!
 //! Each message that the client sends goes to its node over a connection of its own, and the record that comes is given
-//! to the client ([`deal`]).
+//! to the client ([`deal`]). A drive of which no record comes is asked once more before its component times out. A client
+//! that isn't given the number of its first request learns one that is fresh.
 #![tactic(auto)]
 
 mod calls;
@@ -12,6 +13,7 @@ mod exchanges;
 mod inputs;
 mod lines;
 mod notices;
+mod numbering;
 mod orders;
 mod reports;
 mod server;

@@ -1,10 +1,11 @@
 // The lines that tell of a client's work.
 ghost use Rattle.std.specs.Prelude.{◌≡◌, ◌++◌, IfOk, OnOk};
 ghost use Rattle.scenario_text.specs.LineSpelling.{lines_text};
-ghost use Rattle.client_command.specs.Lines.{call_lines, next_line, notice_lines, order_line, refusal_lines};
+ghost use Rattle.client_command.specs.Lines.{call_lines, next_line, next_of, notice_lines, order_line, refusal_lines, unnumbered_line};
 
 use crate::notices::Notice;
 use crate::work_ends::copy_of;
+use command_words::FirstNumber;
 use osd_lists::{Bytes, Memory};
 use scenario_text::{CallKind, ClientName, Line, write_lines};
 use std::alloc::Global;
@@ -96,4 +97,21 @@ pub(crate) fn order_text(alloc: Global, answer: u32) -> Result<Bytes, Memory>
 {
     let line = format!(in alloc; "order {answer}\n")?;
     Bytes::copied(alloc, line.as_bytes())
+}
+
+/// Adds the line `next Q` of a number that was given and isn't used up.
+pub(crate) fn push_given(alloc: Global, text: &mut Bytes, first: FirstNumber) -> Result<(), Memory>
+    ensures { OnOk result (text.new ≡ text.old ++ next_of first) }
+{
+    match first {
+        FirstNumber::Given(sequence) => push_next(alloc, text, sequence),
+        FirstNumber::Fresh => Ok(()),
+    }
+}
+
+/// The line `error number`.
+pub(crate) fn unnumbered_text(alloc: Global) -> Result<Bytes, Memory>
+    ensures { IfOk result (λ text. text ≡ unnumbered_line) }
+{
+    Bytes::copied(alloc, b"error number\n")
 }

@@ -6,13 +6,14 @@ ghost use Rattle.client_command.specs.Exchanges.{CutsExchange};
 ghost use Rattle.layout_ops.specs.Enumerations.{order_result_number};
 ghost use Rattle.layout_ops.specs.Reading.{envelope_of};
 ghost use Rattle.client_command.specs.WorkEnds.{end_by_result};
-ghost use Rattle.client_command.specs.Lines.{next_line, order_line};
+ghost use Rattle.client_command.specs.Lines.{next_of, order_line};
 ghost use Rattle.client_command.specs.Orders.{Answers, answer_read, order_message, sent_order};
-ghost use Rattle.client_command.specs.Reports.{CutsOrder, IsReport, ReportsOrder, links_at};
+ghost use Rattle.client_command.specs.OnLinks.{links_at};
+ghost use Rattle.client_command.specs.Reports.{CutsOrder, IsReport, ReportsOrder};
 
-use crate::lines::{order_text, push_next};
+use crate::lines::{order_text, push_given};
 use crate::work_ends::{Report, end_by_result};
-use command_words::Order;
+use command_words::{FirstNumber, Order};
 use layout_ops::{
     Envelope, OpErr, Order as SentOrder, OrderKind, OrderResult, read_envelope, write_envelope,
 };
@@ -83,32 +84,32 @@ fn answer_of<L: Links>(
 }
 
 // The report of an order that was answered so. The order used up no request of the client.
-fn report_answer(alloc: Global, sequence: u32, answer: OrderResult) -> Result<Report, Memory>
-    ensures { IfOk result (IsReport (order_line (order_result_number answer) ++ next_line sequence)
+fn report_answer(alloc: Global, first: FirstNumber, answer: OrderResult) -> Result<Report, Memory>
+    ensures { IfOk result (IsReport (order_line (order_result_number answer) ++ next_of first)
         (Some (end_by_result answer))) }
 {
     let mut text = order_text(alloc, answer.number())?;
-    push_next(alloc, &mut text, sequence)?;
+    push_given(alloc, &mut text, first)?;
     Ok(Report {
         text,
         end: Some(end_by_result(answer)),
     })
 }
 
-/// Hands the server an order, in one exchange.
+/// Hands the server an order, in one exchange. Orders have no numbers: one that was given is told again.
 pub(crate) fn report_order<L: Links>(
     alloc: Global,
-    sequence: u32,
+    first: FirstNumber,
     order: Order,
     links: &mut L,
 ) -> Result<Report, Memory>
-    ensures reports { IfOk result (ReportsOrder sequence order
+    ensures reports { IfOk result (ReportsOrder first order
         (links_at L.Links links.old) (links_at L.Links links.new)) }
     ensures cuts { OnErr result (CutsOrder order (links_at L.Links links.old) (links_at L.Links links.new)) }
     ensures addresses { KeepsAddresses (L.standing links.old) (L.standing links.new) }
 {
     match answer_of(alloc, sent_order(order), links)? {
-        Some(answer) => report_answer(alloc, sequence, answer),
+        Some(answer) => report_answer(alloc, first, answer),
         None => Ok(Report {
             text: Bytes::new(alloc),
             end: None,

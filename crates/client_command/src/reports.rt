@@ -5,15 +5,19 @@ ghost use Rattle.scenario_text.specs.LineSpelling.{lines_text};
 ghost use Rattle.world_history.specs.Moves.{op_of};
 ghost use Rattle.client_rules.specs.declared.limits.TheConstants.{MAX_CLIENT};
 ghost use Rattle.client_command.specs.WorkEnds.{end_of};
-ghost use Rattle.client_command.specs.Lines.{call_lines, next_line, refusal_lines};
-ghost use Rattle.client_command.specs.Reports.{CutsCall, CutsWork, IsReport, Reports, ReportsCall, links_at};
+ghost use Rattle.client_command.specs.Lines.{call_lines, next_line, refusal_lines, unnumbered_line};
+ghost use Rattle.client_command.specs.OnLinks.{links_at};
+ghost use Rattle.client_command.specs.Numbering.{IsNumbered};
+ghost use Rattle.client_command.specs.Reports.{CutsCall, CutsFresh, CutsFrom, CutsWork};
+ghost use Rattle.client_command.specs.Reports.{IsReport, Reports, ReportsCall, ReportsFresh, ReportsFrom};
 
 use crate::calls::{CallStop, call_new};
-use crate::lines::{call_text, push_next, refusal_text};
+use crate::lines::{call_text, push_next, refusal_text, unnumbered_text};
 use crate::notices::{Notice, Notices};
+use crate::numbering::{after, find_number};
 use crate::orders::report_order;
 use crate::work_ends::{ClientEnd, Refusal, Report, end_of};
-use command_words::{ClientWords, ClientWork};
+use command_words::{ClientWords, ClientWork, FirstNumber};
 use osd_bytes::Links;
 use osd_lists::Memory;
 use scenario_text::{Call, CallKind, ClientName};
@@ -129,6 +133,64 @@ fn report_call<L: Links>(
     }
 }
 
+// The report of a client that learned no number.
+fn report_unnumbered(alloc: Global) -> Result<Report, Memory>
+    ensures { IfOk result (IsReport unnumbered_line (Some ClientEnd.Unnumbered)) }
+{
+    Ok(Report {
+        text: unnumbered_text(alloc)?,
+        end: Some(ClientEnd::Unnumbered),
+    })
+}
+
+// Finds a fresh number, carries out a call under it, and reports it.
+fn report_fresh<L: Links>(
+    alloc: Global,
+    client: ClientName,
+    call: Call,
+    links: &mut L,
+) -> Result<Report, Memory>
+    ensures reports { IfOk result (ReportsFresh client (op_of call)
+        (links_at L.Links links.old) (links_at L.Links links.new)) }
+    ensures cuts { OnErr result (CutsFresh client (op_of call)
+        (links_at L.Links links.old) (links_at L.Links links.new)) }
+    ensures addresses { KeepsAddresses (L.standing links.old) (L.standing links.new) }
+{
+    // Here and below, arms in place of `?` or of the bare call are for the prover (docs/dev/PROVER_FORMS.md).
+    match find_number(alloc, client.number(), links) {
+        Ok(Some(used)) => match report_call(alloc, client, after(used), call, links) {
+            Ok(report) => Ok(report),
+            Err(e) => Err(e),
+        },
+        Ok(None) => match report_unnumbered(alloc) {
+            Ok(report) => Ok(report),
+            Err(e) => Err(e),
+        },
+        Err(e) => Err(e),
+    }
+}
+
+// Carries out a call under the number that is given or a fresh one, and reports it.
+fn report_from<L: Links>(
+    alloc: Global,
+    client: ClientName,
+    first: FirstNumber,
+    call: Call,
+    links: &mut L,
+) -> Result<Report, Memory>
+    requires { IsNumbered first }
+    ensures reports { IfOk result (ReportsFrom client first (op_of call)
+        (links_at L.Links links.old) (links_at L.Links links.new)) }
+    ensures cuts { OnErr result (CutsFrom client first (op_of call)
+        (links_at L.Links links.old) (links_at L.Links links.new)) }
+    ensures addresses { KeepsAddresses (L.standing links.old) (L.standing links.new) }
+{
+    match first {
+        FirstNumber::Given(sequence) => report_call(alloc, client, sequence, call, links),
+        FirstNumber::Fresh => report_fresh(alloc, client, call, links),
+    }
+}
+
 /// Does the work of a client, and reports it.
 pub(crate) fn report<L: Links>(
     alloc: Global,
@@ -136,16 +198,16 @@ pub(crate) fn report<L: Links>(
     links: &mut L,
 ) -> Result<Report, Memory>
     requires number { words.number ≤ MAX_CLIENT }
-    requires sequence { 0 < words.sequence }
-    ensures reports { IfOk result (Reports words.number words.sequence words.work
+    requires first { IsNumbered words.first }
+    ensures reports { IfOk result (Reports words.number words.first words.work
         (links_at L.Links links.old) (links_at L.Links links.new)) }
-    ensures cuts { OnErr result (CutsWork words.number words.sequence words.work
+    ensures cuts { OnErr result (CutsWork words.number words.first words.work
         (links_at L.Links links.old) (links_at L.Links links.new)) }
     ensures addresses { KeepsAddresses (L.standing links.old) (L.standing links.new) }
 {
     let ClientWords {
         number,
-        sequence,
+        first,
         work,
     } = words;
     match work {
@@ -153,8 +215,8 @@ pub(crate) fn report<L: Links>(
             let Some(client) = ClientName::new(number) else {
                 unreachable!();
             };
-            report_call(alloc, client, sequence, call, links)
+            report_from(alloc, client, first, call, links)
         }
-        ClientWork::Order(order) => report_order(alloc, sequence, order, links),
+        ClientWork::Order(order) => report_order(alloc, first, order, links),
     }
 }

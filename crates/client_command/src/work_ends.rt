@@ -26,6 +26,8 @@ pub enum ClientEnd {
     Done,
     /// It is refused.
     Refused(Refusal),
+    /// It wasn't begun: the server didn't tell the number that it expects, or didn't take it.
+    Unnumbered,
 }
 
 /// What a client tells of its work, and how that ended.

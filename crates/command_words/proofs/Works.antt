@@ -6,8 +6,6 @@ use Rattle.scenario_text.specs.declared.event.Call.{Call}
 use Rattle.scenario_text.specs.declared.event.Event.{Event}
 use Rattle.scenario_text.specs.declared.event.Event.TheVariants as event
 use Rattle.command_words.specs.Work.{Gives, IsCall, IsLine, call_of}
-use Rattle.command_words.specs.declared.work.ClientWork.TheVariants as work
-use Rattle.command_words.specs.declared.work.Order.TheVariants as order
 
 never : {A : Type 0} {x : A} → None ≡ Some x → ⊥
 never e = cc e

@@ -7,6 +7,8 @@ use Rattle.clap.specs.Simple.{App}
 use Rattle.scenario_text.specs.Reading.{number_of}
 use Rattle.command_words.specs.declared.words.ClientWords.{ClientWords}
 use Rattle.command_words.specs.declared.words.DriveWords.{DriveWords}
+use Rattle.command_words.specs.declared.words.FirstNumber.{FirstNumber}
+use Rattle.command_words.specs.declared.words.FirstNumber.TheVariants.{Given, Fresh}
 use Rattle.command_words.specs.declared.words.ServerWords.{ServerWords}
 use Rattle.command_words.specs.declared.words.WordsErr.{WordsErr}
 use Rattle.command_words.specs.declared.words.WordsErr.TheVariants.{Bad, Memory}
@@ -35,14 +37,19 @@ server_words_from count = option_map (λ connections. record { connections = con
 abbrev pub server_words_of : List Text → Option ServerWords
 server_words_of words = server_words_from (text_of server_options (codes "connections") words)
 
+-- the number of a client's first request, from 1; without a word it is to be a fresh one
+abbrev pub first_in : Option Text → Option FirstNumber
+first_in None = Some Fresh
+first_in (Some word) = option_map Given (number_in 1 MAX_U32 (Some word))
+
 abbrev pub AsksFor : (text : Option Text) → ClientWork → Type 0
 AsksFor None work = ⊥
 AsksFor (Some text) work = IsWork text work
 
--- three words ask a client for this
-pub record AsksClient (client first text : Option Text) (asked : ClientWords) : Type 0 where
+-- the words of its three options ask a client for this
+pub record AsksClient (client sequence text : Option Text) (asked : ClientWords) : Type 0 where
   pub number : number_in 0 MAX_CLIENT client ≡ Some asked.number
-  pub sequence : number_in 1 MAX_U32 first ≡ Some asked.sequence
+  pub first : first_in sequence ≡ Some asked.first
   pub work : AsksFor text asked.work
 
 abbrev pub client_gives : List Text → Option ClientWords → Type 0

@@ -11,6 +11,10 @@ use Rattle.clap.specs.declared.builder.action.ArgAction.TheVariants.{Set}
 abbrev pub option_rule : Text → Rule
 option_rule id = record (new_rule id) { long = Some id; action = Some Set; required = true }
 
+-- one that may be missing
+abbrev pub optional_rule : Text → Rule
+optional_rule id = record (new_rule id) { long = Some id; action = Some Set }
+
 abbrev pub drive_options : App
 drive_options =
     with_rule (with_rule (new_app (codes "drive")) (option_rule (codes "number"))) (option_rule (codes "connections"))
@@ -21,7 +25,7 @@ server_options = with_rule (new_app (codes "server")) (option_rule (codes "conne
 abbrev pub client_options : App
 client_options =
     with_rule (with_rule (with_rule (new_app (codes "client"))
-    (option_rule (codes "number"))) (option_rule (codes "sequence"))) (option_rule (codes "call"))
+    (option_rule (codes "number"))) (optional_rule (codes "sequence"))) (option_rule (codes "call"))
 
 -- what is wrong with the words
 unfoldable pub faults_of : App → List Text → Kinds

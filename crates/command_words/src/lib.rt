@@ -14,7 +14,7 @@ pub use stored_words::{
     StoredDriveWords, StoredServerWords, stored_drive_words, stored_server_words,
 };
 pub use words::{
-    ClientWords, DriveWords, MAX_CLIENT, MAX_DRIVE, ServerWords, WordsErr, client_words,
-    drive_words, server_words,
+    ClientWords, DriveWords, FirstNumber, MAX_CLIENT, MAX_DRIVE, ServerWords, WordsErr,
+    client_words, drive_words, server_words,
 };
 pub use work::{ClientWork, Order};

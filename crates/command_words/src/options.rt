@@ -1,7 +1,7 @@
 // The simple commands that read the options.
 ghost use Rattle.std.specs.Prelude.{◌≡◌, false, IfOk};
 ghost use Rattle.clap.specs.Words.{app_of, rule_of, with_rule};
-ghost use Rattle.command_words.specs.Options.{client_options, drive_options, option_rule, server_options};
+ghost use Rattle.command_words.specs.Options.{client_options, drive_options, option_rule, optional_rule, server_options};
 ghost use Rattle.command_words.specs.StoredAsked.{stored_drive_options, stored_server_options};
 
 use clap::{Arg, ArgAction, Command};
@@ -18,6 +18,14 @@ pub(crate) fn option<'a>(alloc: Global, id: &'a str) -> Arg<'a>
         .action(ArgAction::Set)
 }
 
+// An option that takes a text, and may be missing.
+fn optional<'a>(alloc: Global, id: &'a str) -> Arg<'a>
+    ensures rule { rule_of result ≡ optional_rule id.entry.now }
+    ensures local { result.global ≡ false }
+{
+    Arg::new(alloc, id).long(id).action(ArgAction::Set)
+}
+
 // The command with one more option.
 fn with_option<'a>(
     alloc: Global,
@@ -27,6 +35,17 @@ fn with_option<'a>(
     ensures { IfOk result (λ c. app_of c ≡ with_rule (app_of command.entry) (option_rule id.entry.now)) }
 {
     command.arg(option(alloc, id))
+}
+
+// The command with one more option that may be missing.
+fn with_optional<'a>(
+    alloc: Global,
+    command: Command<'a>,
+    id: &'a str,
+) -> Result<Command<'a>, AllocError>
+    ensures { IfOk result (λ c. app_of c ≡ with_rule (app_of command.entry) (optional_rule id.entry.now)) }
+{
+    command.arg(optional(alloc, id))
 }
 
 // `drive --number N --connections K`
@@ -61,11 +80,11 @@ pub(crate) fn stored_server_options<'a>(alloc: Global) -> Result<Command<'a>, Al
     with_option(alloc, command, "store")
 }
 
-// `client --number N --sequence Q --call TEXT`
+// `client --number N [--sequence Q] --call TEXT`
 pub(crate) fn client_options<'a>(alloc: Global) -> Result<Command<'a>, AllocError>
     ensures { IfOk result (λ c. app_of c ≡ client_options) }
 {
     let command = with_option(alloc, Command::new(alloc, "client"), "number")?;
-    let command = with_option(alloc, command, "sequence")?;
+    let command = with_optional(alloc, command, "sequence")?;
     with_option(alloc, command, "call")
 }

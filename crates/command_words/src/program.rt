@@ -79,7 +79,7 @@ fn stored_server<'a>(alloc: Global) -> Result<Command<'a>, AllocError> {
 fn client<'a>(alloc: Global) -> Result<Command<'a>, AllocError> {
     Command::new(alloc, "client")
         .arg(number(alloc, "number", "N", 0, u64::from(MAX_CLIENT)))?
-        .arg(number(alloc, "sequence", "Q", 1, MAX_U32))?
+        .arg(number(alloc, "sequence", "Q", 1, MAX_U32).required(false))?
         .arg(option(alloc, "call").value_name("TEXT"))
 }
 
@@ -126,7 +126,7 @@ fn usage_of(command: &str) -> &'static str {
         "stored-drive" => "pnfs_osd stored-drive --number N --connections K --store NAME < CLUSTER",
         "server" => "pnfs_osd server --connections K < CLUSTER",
         "stored-server" => "pnfs_osd stored-server --connections K --store NAME < CLUSTER",
-        "client" => "pnfs_osd client --number N --sequence Q --call TEXT < CLUSTER",
+        "client" => "pnfs_osd client --number N [--sequence Q] --call TEXT < CLUSTER",
         _ => "pnfs_osd <COMMAND>",
     }
 }

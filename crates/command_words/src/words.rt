@@ -3,7 +3,7 @@ ghost use Rattle.std.specs.Prelude.{◌≡◌, ◌≢◌, IfErr, IfOk, map, stri
 ghost use Rattle.std.specs.Option.{option_map};
 ghost use Rattle.command_words.specs.declared.words.WordsErr.TheVariants.{Bad};
 ghost use Rattle.command_words.specs.Options.{client_options, drive_options, server_options};
-ghost use Rattle.command_words.specs.Asked.{Asks, AsksClient, Refuses, client_gives, drive_gives, drive_words_from};
+ghost use Rattle.command_words.specs.Asked.{Asks, AsksClient, Refuses, client_gives, drive_gives, drive_words_from, first_in};
 ghost use Rattle.command_words.specs.Asked.{number_in, server_gives, server_words_from};
 ghost use Rattle.command_words.specs.Work.{Gives};
 
@@ -39,13 +39,22 @@ pub struct ServerWords {
     pub connections: u32,
 }
 
+/// Which number a client's first request has.
+#[derive(Clone, Copy, PartialEq, Eq)]
+pub enum FirstNumber {
+    /// This one, from 1.
+    Given(u32),
+    /// One that no request had, for which the client asks the server.
+    Fresh,
+}
+
 /// What the words of `client` ask for.
 #[derive(Drop)]
 pub struct ClientWords {
     /// At most [`MAX_CLIENT`].
     pub number: u32,
-    /// The number of its first request, from 1.
-    pub sequence: u32,
+    /// The number of its first request.
+    pub first: FirstNumber,
     /// What it does.
     pub work: ClientWork,
 }
@@ -117,6 +126,16 @@ pub(crate) fn server_from(count: Option<&str>) -> Option<ServerWords>
     })
 }
 
+// The number of the first request, which is a fresh one without a word.
+fn first_in(word: Option<&str>) -> Option<FirstNumber>
+    ensures { result ≡ first_in (option_map (λ w. w.now) word.entry) }
+{
+    match word {
+        Some(word) => Some(FirstNumber::Given(number(word, 1, MAX_U32)?)),
+        None => Some(FirstNumber::Fresh),
+    }
+}
+
 fn client_from(
     alloc: Global,
     client: Option<&str>,
@@ -129,7 +148,7 @@ fn client_from(
     let Some(number) = number_in(client, 0, MAX_CLIENT) else {
         return Ok(None);
     };
-    let Some(sequence) = number_in(sequence, 1, MAX_U32) else {
+    let Some(first) = first_in(sequence) else {
         return Ok(None);
     };
     let Some(text) = text else {
@@ -138,7 +157,7 @@ fn client_from(
     match work_in(alloc, text)? {
         Some(work) => Ok(Some(ClientWords {
             number,
-            sequence,
+            first,
             work,
         })),
         None => Ok(None),
@@ -192,9 +211,9 @@ pub fn server_words(alloc: Global, words: &[String]) -> Result<ServerWords, Word
 ///
 /// # Errors
 ///
-/// [`WordsErr::Bad`] exactly where they aren't `--number N --sequence Q --call TEXT` in one of the forms that
-/// `clap` takes, N at most [`MAX_CLIENT`] and Q of 32 bits from 1, in decimal digits without leading zeros, and
-/// TEXT the words of a call or an order as in a scenario, a call without `do` and the name of its client;
+/// [`WordsErr::Bad`] exactly where they aren't `--number N --call TEXT`, with or without `--sequence Q`, in one of
+/// the forms that `clap` takes, N at most [`MAX_CLIENT`] and Q of 32 bits from 1, in decimal digits without leading
+/// zeros, and TEXT the words of a call or an order as in a scenario, a call without `do` and the name of its client;
 /// [`WordsErr::Memory`].
 pub fn client_words(alloc: Global, words: &[String]) -> Result<ClientWords, WordsErr>
     ensures asks { IfOk result (Asks client_options client_gives (map string_bytes words.now)) }

@@ -1,17 +1,14 @@
 -- What a device server leaves over many records.
-use Rattle.std.proofs.Common.{◌≡◌, ◌≤◌, ◌⊎◌, inl, inr, ⊎_elim, false, ℕ, List, [], ◌∷◌, ◌++◌, refl, ◌∙◌, sym, ap, subst, append_assoc, arith, Err}
+use Rattle.std.proofs.Common.{◌≡◌, ◌≤◌, ◌⊎◌, inl, inr, ⊎_elim, false, ℕ, List, [], ◌∷◌, ◌++◌, refl, ◌∙◌, sym, ap, subst, append_assoc, arith}
 use Rattle.std.proofs.lemmas.List.{append-nil}
-use Rattle.osd_bytes.specs.Causes.{Rose}
 use Rattle.osd_disk.specs.Crashes.{LeavesOnly}
 use Rattle.osd_disk.proofs.Moments.{leaves_then}
 use Rattle.osd_drive.specs.State.{DriveState}
 use Rattle.osd_drive.specs.Effects.{drive_after}
-use Rattle.drive_command.specs.Connections.{CutsAll, Ends, Handled, after_all}
+use Rattle.drive_command.specs.Records.{Handled, after_all}
 use Rattle.drive_command.specs.declared.device_server.DeviceServer.{Ghosts}
-use Rattle.drive_command.specs.Kept.{StandsForSome, StandsSince, serve_err_of}
-use Rattle.drive_command.specs.declared.device_server.HandleErr.{HandleErr}
-use Rattle.drive_command.specs.declared.device_server.HandleErr.TheVariants.{DiskFault, Memory}
-use Rattle.drive_command.specs.GoesOn.{Breaks, BrokeOff, EndsServing, HasHandled, WentOn}
+use Rattle.drive_command.specs.Kept.{StandsForSome, StandsSince}
+use Rattle.drive_command.specs.GoesOn.{HasHandled, WentOn}
 
 pub after_all-then : (d : DriveState) (hs gs : List Handled) → after_all (after_all d hs) gs ≡ after_all d (hs ++ gs)
 after_all-then d [] gs = refl
@@ -110,46 +107,3 @@ module _ {H : Type 0} (s : Ghosts H) where
     goes_on = v.goes_on;
     same = v.same ∙ w.same;
   }
-
-  -- cut off behind records that were answered
-  pub broke-then : (Cuts Cuts' : (served unanswered : List Handled) → Type 0) (hs : List Handled) (old mid new : H)
-      → WentOn s hs old mid → BrokeOff s Cuts mid new
-      → ((served unanswered : List Handled) → Cuts served unanswered → Cuts' (hs ++ served) unanswered) → BrokeOff s Cuts' old new
-  broke-then Cuts Cuts' hs old mid new w b more = record {
-    served = hs ++ b.served;
-    handled = b.handled;
-    cut_off = b.cut_off;
-    carries = subst (λ (all : List Handled). HasHandled s all b.cut_off old new) (sym (append_assoc hs b.served b.handled))
-        (joined hs (b.served ++ b.handled) b.cut_off old mid new w.carries w.keeps b.carries);
-    cuts = more b.served (b.handled ++ b.cut_off) b.cuts;
-  }
-
-  -- cut off with no record behind them
-  pub broke-here : (Cuts : (served unanswered : List Handled) → Type 0) (hs : List Handled) (old new : H) → WentOn s hs old new
-      → Cuts hs [] → BrokeOff s Cuts old new
-  broke-here Cuts hs old new w cuts = record {
-    served = hs;
-    handled = [];
-    cut_off = [];
-    carries = subst (λ (all : List Handled). HasHandled s all [] old new) (sym (append-nil hs)) w.carries;
-    cuts = cuts;
-  }
-
-  -- the count of faults rose, behind records at which it didn't
-  pub rose-then : (hs : List Handled) (old mid new : H) → WentOn s hs old mid → Rose (s.faults mid) (s.faults new)
-      → Rose (s.faults old) (s.faults new)
-  rose-then hs old mid new w r = subst (λ (n : ℕ). Rose n (s.faults new)) w.same r
-
-  -- the same of an error
-  pub breaks-then : (Cuts Cuts' : (served unanswered : List Handled) → Type 0) (hs : List Handled) (old mid new : H)
-      (e : HandleErr) → WentOn s hs old mid → Breaks s Cuts mid new e
-      → ((served unanswered : List Handled) → Cuts served unanswered → Cuts' (hs ++ served) unanswered) → Breaks s Cuts' old new e
-  breaks-then Cuts Cuts' hs old mid new e w b more =
-      (broke-then Cuts Cuts' hs old mid new w b.0 more, λ is. rose-then hs old mid new w (b.1 is))
-
-  -- how serving ends then
-  pub stops-so : (connections : ℕ) (old new : H) (before now : Ends) (e : HandleErr)
-      → Breaks s (CutsAll connections (s.drive old) (s.drive new) before now) old new e
-      → EndsServing s connections old new before now (Err (serve_err_of e))
-  stops-so connections old new before now DiskFault b = (b.0, b.1 refl)
-  stops-so connections old new before now Memory b = b.0

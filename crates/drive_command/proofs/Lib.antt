@@ -1,10 +1,5 @@
 pub mod Described
-pub mod Rising
-pub mod Stopping
-pub mod Telling
 pub mod ShortRecords
-pub mod ConnectionLaws
 pub mod KeptLaws
 pub mod StoredLaws
 pub mod OpenedLaws
-pub mod StoredStopping

@@ -4,11 +4,9 @@ use Rattle.osd_bytes.specs.Causes.{Rose}
 use Rattle.osd_disk.specs.Crashes.{LeavesOnly}
 use Rattle.osd_drive.specs.State.{DriveState}
 use Rattle.osd_drive.specs.Effects.{drive_after}
-use Rattle.drive_command.specs.Connections.{Handled, after_all}
+use Rattle.drive_command.specs.Records.{Handled, after_all}
 use Rattle.drive_command.specs.declared.device_server.HandleErr.{HandleErr}
-use Rattle.drive_command.specs.declared.device_server.HandleErr.TheVariants.{DiskFault, Memory}
-use Rattle.drive_command.specs.declared.serve_err.DriveServeErr.{DriveServeErr}
-use Rattle.drive_command.specs.declared.serve_err.DriveServeErr.TheVariants as stops
+use Rattle.drive_command.specs.declared.device_server.HandleErr.TheVariants.{DiskFault}
 
 -- contents stand for the drive after some of these, the first of them first and none left out
 abbrev pub StandsForSome : (stands_for : DriveState → List ℕ → Type 0) → DriveState → List Handled → List ℕ → Type 0
@@ -44,8 +42,3 @@ pub record HasHandleCause {T : Type 0} (before now : ℕ) (result : Result T Han
   pub later : before ≤ now
   pub failed : IsErrOf result DiskFault → Rose before now
   pub same : OnOk result (now ≡ before)
-
--- why serving stops then
-abbrev pub serve_err_of : HandleErr → DriveServeErr
-serve_err_of DiskFault = stops.DiskFault
-serve_err_of Memory = stops.Memory

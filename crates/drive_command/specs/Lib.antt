@@ -1,11 +1,9 @@
-pub mod Connections
-pub mod Ends
 pub mod GoesOn
 pub mod Kept
 pub mod Opened
 pub mod Own
+pub mod Records
 pub mod Refusals
 pub mod StoredServer
-pub mod StoredService
 pub mod StoredEnds
 pub mod StoredStops

@@ -3,7 +3,7 @@ ghost use Rattle.std.specs.Prelude.{◌≡◌, ◌⊎◌, ◌≤◌, Bool, false
 ghost use Rattle.osd_drive.specs.declared.limits.TheConstants.{MAX_LENGTH};
 ghost use Rattle.osd_drive.specs.Effects.{reply_to};
 ghost use Rattle.osd_drive.specs.State.{DriveState};
-ghost use Rattle.drive_command.specs.Connections.{handled_at};
+ghost use Rattle.drive_command.specs.Records.{handled_at};
 ghost use Rattle.drive_command.specs.Kept.{Carries, HasHandleCause};
 
 use osd_commands::Reply;

@@ -1,9 +1,7 @@
 // What a drive tells whoever watches it of the commands that it refuses.
-ghost use Rattle.std.specs.Prelude.{◌≡◌, IfOk, OnOk, OnErr, string_bytes};
-ghost use Rattle.osd_bytes.specs.Connections.{after_notes};
-ghost use Rattle.drive_command.specs.Refusals.{is_later, is_told, last_told, lines_told, refusal_line, verdict_word};
+ghost use Rattle.std.specs.Prelude.{◌≡◌, IfOk, string_bytes};
+ghost use Rattle.drive_command.specs.Refusals.{is_later, is_told, refusal_line, verdict_word};
 
-use osd_bytes::Links;
 use osd_commands::Reply;
 use osd_lists::Memory;
 use std::alloc::Global;
@@ -64,29 +62,4 @@ pub fn is_told(last: Option<u64>, time: u64, reply: &Reply) -> bool
     ensures { result ≡ is_told last time reply.now }
 {
     reply.verdict != 0 && is_later(last, time)
-}
-
-/// Tells whoever watches the drive that it refused a command, unless a line was told in this second or a later one:
-/// `last` is the second of the newest line.
-pub(crate) fn tell_refusal<L: Links>(
-    alloc: Global,
-    links: &mut L,
-    last: &mut Option<u64>,
-    drive: u32,
-    time: u64,
-    reply: &Reply,
-) -> Result<(), Memory>
-    ensures lines { OnOk result (L.told links.new ≡ after_notes (lines_told drive last.old time reply.now) (L.told links.old)) }
-    ensures last { OnOk result (last.new ≡ last_told last.old time reply.now) }
-    ensures err { OnErr result (L.told links.new ≡ L.told links.old) }
-    ensures standing { L.standing links.new ≡ L.standing links.old }
-    ensures faults { L.faults links.new ≡ L.faults links.old }
-{
-    if !is_told(*last, time, reply) {
-        return Ok(());
-    }
-    let line = refusal_line(alloc, drive, reply)?;
-    links.note(line.as_bytes())?;
-    *last = Some(time);
-    Ok(())
 }

@@ -4,7 +4,7 @@ use Rattle.std.proofs.lemmas.List.{append-nil, map-append}
 use Rattle.osd_bytes.specs.Clocks.{TellsTime}
 use Rattle.osd_drive.specs.Effects.{drive_after}
 use Rattle.osd_drive.specs.State.{DriveState}
-use Rattle.drive_command.specs.Connections.{Handled, after_all, last_after, last_of, lines_of, notes_of, reply_bytes}
+use Rattle.drive_command.specs.Records.{Handled, after_all, last_after, last_of, lines_of, notes_of, reply_bytes}
 use Rattle.drive_command.specs.GoesOn.{WentOn}
 use Rattle.drive_command.specs.declared.device_server.DeviceServer.{Ghosts as DriveGhosts}
 use Rattle.port_loop.proofs.FrontLaws.{fronts}

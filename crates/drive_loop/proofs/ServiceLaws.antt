@@ -4,7 +4,7 @@ use Rattle.std.proofs.lemmas.List.{append-nil}
 use Rattle.std.specs.Io.KnownBytes.{Appends}
 use Rattle.osd_bytes.specs.Causes.{Rose}
 use Rattle.cluster_text.specs.Lines.{listening_line}
-use Rattle.drive_command.specs.Connections.{Handled, after_all}
+use Rattle.drive_command.specs.Records.{Handled, after_all}
 use Rattle.drive_command.specs.GoesOn.{WentOn}
 use Rattle.drive_command.specs.StoredStops.{stop_of_serving}
 use Rattle.drive_command.specs.declared.device_server.DeviceServer.{Ghosts}

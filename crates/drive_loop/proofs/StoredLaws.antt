@@ -12,7 +12,7 @@ use Rattle.drive_store.specs.Resting as resting
 use Rattle.drive_store.specs.Stores.{IsStoreOf, core_of, disk_in}
 use Rattle.drive_command.specs.declared.stored_stop.StoredStop.{StoredStop}
 use Rattle.drive_command.specs.declared.stored_stop.StoredStop.TheVariants.{Command, DiskFault, BadStore}
-use Rattle.drive_command.specs.Connections.{Handled, after_all}
+use Rattle.drive_command.specs.Records.{Handled, after_all}
 use Rattle.drive_command.specs.Kept.{StandsForSome}
 use Rattle.drive_command.specs.Opened.{BeginsWith, LeavesOpenable, StopsOpening}
 use Rattle.drive_command.proofs.StoredLaws.{Carried, Kept}

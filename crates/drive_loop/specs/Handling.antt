@@ -1,6 +1,6 @@
 -- What a drive does with one record.
 use Rattle.std.specs.Prelude.{◌≡◌, ◌⊎◌, ℕ, Bool, true, if◌then◌else◌, List, [], ◌∷◌, ◌++◌}
-use Rattle.drive_command.specs.Connections.{Handled, handled_at, last_of, lines_of}
+use Rattle.drive_command.specs.Records.{Handled, handled_at, last_of, lines_of}
 use Rattle.drive_command.specs.GoesOn.{HasHandled, WentOn}
 use Rattle.drive_command.specs.declared.device_server.DeviceServer.{Ghosts as DriveGhosts}
 use Rattle.drive_command.specs.declared.device_server.HandleErr.{HandleErr}

@@ -7,7 +7,7 @@ use Rattle.cluster_text.specs.Lines.{listening_line, served_line}
 use Rattle.cluster_text.specs.declared.stop.CommandStop.{CommandStop}
 use Rattle.cluster_text.specs.declared.stop.CommandStop.TheVariants.{WriteFault, Memory, LinkFault}
 use Rattle.osd_drive.specs.State.{DriveState}
-use Rattle.drive_command.specs.Connections.{Handled, after_all}
+use Rattle.drive_command.specs.Records.{Handled, after_all}
 use Rattle.drive_command.specs.GoesOn.{HasHandled}
 use Rattle.drive_command.specs.declared.device_server.DeviceServer.{Ghosts}
 use Rattle.drive_command.specs.declared.stored_stop.StoredStop.{StoredStop}

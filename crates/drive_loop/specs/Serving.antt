@@ -4,7 +4,7 @@ use Rattle.osd_bytes.specs.Clocks.{TellsTime}
 use Rattle.osd_bytes.specs.Inboxes.{Told}
 use Rattle.osd_drive.specs.Effects.{drive_after}
 use Rattle.osd_drive.specs.State.{DriveState}
-use Rattle.drive_command.specs.Connections.{Handled, after_all, handled_at, last_after, lines_of, notes_of, reply_bytes}
+use Rattle.drive_command.specs.Records.{Handled, after_all, handled_at, last_after, lines_of, notes_of, reply_bytes}
 use Rattle.drive_command.specs.GoesOn.{HasHandled, WentOn}
 use Rattle.drive_command.specs.declared.device_server.DeviceServer.{Ghosts}
 use Rattle.drive_command.specs.declared.serve_err.DriveServeErr.{DriveServeErr}

@@ -6,7 +6,7 @@ use Rattle.osd_drive.specs.State.{DriveState}
 use Rattle.drive_store.specs.Stores.{IsStoreOf}
 use Rattle.drive_command.specs.declared.stored_stop.StoredStop.{StoredStop}
 use Rattle.drive_command.specs.declared.stored_stop.StoredStop.TheVariants.{BadStore}
-use Rattle.drive_command.specs.Connections.{Handled, after_all}
+use Rattle.drive_command.specs.Records.{Handled, after_all}
 use Rattle.drive_command.specs.Kept.{StandsForSome, StandsSince}
 use Rattle.drive_command.specs.Opened.{BeginsWith, IsRefusedAt, LeavesOpenable}
 use Rattle.drive_loop.specs.Service.{Ends, HasNotBegun, Serves, StopsKept}

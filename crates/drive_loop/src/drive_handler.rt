@@ -76,7 +76,7 @@ impl<H: DeviceServer, N: Notes> Handler for DriveHandler<H, N> {
     ghost use Rattle.std.specs.Prelude.{false};
     ghost use Rattle.osd_drive.specs.State.{DriveState};
     ghost use Rattle.osd_drive.specs.Effects.{drive_after};
-    ghost use Rattle.drive_command.specs.Connections.{reply_bytes};
+    ghost use Rattle.drive_command.specs.Records.{reply_bytes};
     ghost use Rattle.drive_loop.specs.Handling.{AnswersOne, BreaksOne};
 
     ghost State = { DriveState };

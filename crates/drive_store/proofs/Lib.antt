@@ -1,4 +1,5 @@
 pub mod ContentLaws
+pub mod GatheringLaws
 pub mod HeaderLaws
 pub mod OpeningLaws
 pub mod RecordLaws

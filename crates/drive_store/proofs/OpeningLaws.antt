@@ -15,7 +15,7 @@ use Rattle.drive_store.specs.Opening.{HasTaken, IsNoHeader, IsNoStoreAt, StandBe
 use Rattle.drive_store.specs.Records.{after_record}
 use Rattle.drive_store.specs.Stores.{KeepsDrive, LeadTo, emptied, header_for}
 use Rattle.drive_store.proofs.RecordLaws.{same_made}
-use Rattle.drive_store.proofs.StoreLaws.{lead_more, one_header}
+use Rattle.drive_store.proofs.StoreLaws.{lead_all, one_header}
 
 -- no record leads to a drive as it was made
 pub lead_none : (d : DriveState) → d.number < 2 ^ 32 → d.store.capacity < 2 ^ 64 → emptied d ≡ d → LeadTo [] d
@@ -83,7 +83,7 @@ module _ {D : Type 0} (tells : D → Bool) (seen : D → List ℕ) (may_leave : 
       → HasTaken tells seen may_leave e new
   taken_more d e bytes old new t leads reads = record {
     records = t.records ++ bytes ∷ [];
-    lead = lead_more t.records d e bytes t.lead (record { leads = leads; same = same_made d e bytes leads });
+    lead = lead_all t.records (bytes ∷ []) d e t.lead leads (same_made d e bytes leads);
     read = subst (λ (h : List ℕ). HasRead tells seen may_leave h (t.records ++ bytes ∷ []) new)
         (sym (one_header d e (same_made d e bytes leads)))
         (reads (header_for d) t.records t.read);

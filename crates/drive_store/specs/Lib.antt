@@ -1,4 +1,5 @@
 pub mod Errors
+pub mod Gathering
 pub mod Header
 pub mod Laws
 pub mod Opening

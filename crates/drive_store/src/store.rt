@@ -72,6 +72,13 @@ impl<D> StoredDrive<D> {
     {
         self.log.into_disk()
     }
+
+    // The drive and its log.
+    pub(crate) fn into_parts(self) -> (DriveCore, GateLog<D>)
+        ensures { (result.0 ≡ self.core) × (result.1 ≡ self.log) }
+    {
+        (self.core, self.log)
+    }
 }
 
 impl<D: Drop> StoredDrive<D> {

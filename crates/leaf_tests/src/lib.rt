@@ -17,6 +17,8 @@ mod language;
 #[cfg(test)]
 mod many_connections;
 #[cfg(test)]
+mod many_nodes;
+#[cfg(test)]
 mod many_ports;
 #[cfg(test)]
 mod stored_drives;

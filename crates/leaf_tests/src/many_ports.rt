@@ -5,7 +5,7 @@ use port_loop::{Handler, HandlerErr, Happening, MemPorts, Planned, Room, serve_m
 use std::alloc::Global;
 
 // A record, its first bytes, and one that is followed by the header of one that is too long.
-const WHOLE: &[u8] = b"\x80\x00\x00\x04abcd";
+pub(crate) const WHOLE: &[u8] = b"\x80\x00\x00\x04abcd";
 
 const HALF: &[u8] = b"\x80\x00\x00\x04ab";
 
@@ -50,12 +50,12 @@ impl Handler for Echo {
 
 // What comes next on connections.
 #[derive(Clone, Copy, Drop)]
-enum Next {
+pub(crate) enum Next {
     Opens,
     Brings(u64, &'static [u8]),
 }
 
-fn planned(alloc: Global, next: Next) -> Planned {
+pub(crate) fn planned(alloc: Global, next: Next) -> Planned {
     match next {
         Next::Opens => Planned::Opens,
         Next::Brings(port, bytes) => Planned::Brings {
@@ -85,7 +85,7 @@ fn echoed(alloc: Global, nexts: &[Next], rooms: &[Room]) -> Result<MemPorts, Mem
 }
 
 // Whether these bytes were put on a connection, one after the other.
-fn has_put(alloc: Global, ports: &MemPorts, port: u64, want: &[u8]) -> bool {
+pub(crate) fn has_put(alloc: Global, ports: &MemPorts, port: u64, want: &[u8]) -> bool {
     let mut all = Bytes::new(alloc);
     for happening in ports.happened().unwrap_or(&[]) {
         if let Happening::Went {
@@ -102,7 +102,7 @@ fn has_put(alloc: Global, ports: &MemPorts, port: u64, want: &[u8]) -> bool {
     all.as_slice() == want
 }
 
-fn is_closed(ports: &MemPorts, port: u64) -> bool {
+pub(crate) fn is_closed(ports: &MemPorts, port: u64) -> bool {
     ports.happened().unwrap_or(&[]).iter().any(
         |happening| matches!(happening, Happening::Closed { port: on } if *on == port),
     )

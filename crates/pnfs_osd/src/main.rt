@@ -12,12 +12,13 @@ ghost use Rattle.stripe_repair.specs.Placing.{CanPlace, Places};
 ghost use Rattle.zone_place.specs.Choosing.{CanSpread, Spreads};
 
 use advice::Kept;
+use mio_ports::{PortLimits, StdNotes, TcpPorts};
 use osd_bytes::put_all;
 use osd_links::{FileDisk, StdSink, StdSource, SystemClock, TcpLinks};
 use osd_lists::{Memory, Numbers};
 use people::{Causes, tell};
 use pnfs_run::replay::{Stop, fewest_first, stopped};
-use pnfs_run::{Status, run};
+use pnfs_run::{Lent, Status, run};
 use std::io::ErrorKind;
 use std::process::ExitCode;
 use std::{env, io};
@@ -65,22 +66,28 @@ fn main(rt: HostRuntime) -> ExitCode {
         { deal(alloc, ask, loads) },
     );
     let mut links = TcpLinks::new(rt, alloc);
+    let mut ports = TcpPorts::new(rt, alloc, PortLimits::usual());
     let mut clock = SystemClock::new(rt);
-    let (status, disk) = run(
+    let lent = Lent {
+        disk: FileDisk::new(rt),
+        notes: StdNotes::new(rt),
+    };
+    let (status, lent) = run(
         alloc,
         words,
         &mut source,
         &mut sink,
         &mut links,
+        &mut ports,
         &mut clock,
-        FileDisk::new(rt),
+        lent,
         &placer,
         &zones,
     );
     let causes = Causes {
         input: source.bytes(),
-        links: links.last_fault(),
-        disk: disk.last_fault(),
+        links: ports.last_fault().or(links.last_fault()),
+        disk: lent.disk.last_fault(),
     };
     tell(rt, alloc, &status, words, causes);
     ExitCode::from(status.exit_code())

@@ -1,7 +1,9 @@
 // What a person is told on standard error of how a run ended.
 use crate::refused_line::refused_line;
 use crate::usage::PROGRAM;
-use advice::{Asker, failed_disk, failed_links, refused_cluster, refused_store, refused_words};
+use advice::{
+    Asker, failed_disk, failed_links, no_number, refused_cluster, refused_store, refused_words,
+};
 use cluster_text::Reader;
 use osd_links::{FileCause, LinkFault};
 use pnfs_run::Status;
@@ -14,7 +16,7 @@ use std::io::Eprint;
 pub struct Causes<'a> {
     /// What was read, as far as it was kept.
     pub input: Option<&'a [u8]>,
-    /// What failed last on the links.
+    /// What failed last of the ports or on the links.
     pub links: Option<LinkFault<'a>>,
     /// What failed last on the disk.
     pub disk: Option<&'a FileCause>,
@@ -104,6 +106,7 @@ fn text_of(
         Status::Memory => String::from_str(alloc, "pnfs_osd: there was no memory\n"),
         Status::Full { quantity } => String::from_str(alloc, full_text(*quantity)),
         Status::LinkFault => failed_links(alloc, asker_of(words), causes.links),
+        Status::Unnumbered => no_number(alloc, causes.links),
         Status::BadCluster { kind } => {
             refused_cluster(alloc, reader_of(words), *kind, causes.input)
         }

@@ -15,7 +15,7 @@ usage: pnfs_osd replay < SCENARIO
        pnfs_osd stored-drive --number N --connections K --store NAME < CLUSTER
        pnfs_osd server --connections K < CLUSTER
        pnfs_osd stored-server --connections K --store NAME < CLUSTER
-       pnfs_osd client --number N --sequence Q --call TEXT < CLUSTER
+       pnfs_osd client --number N [--sequence Q] --call TEXT < CLUSTER
        pnfs_osd help [COMMAND] | --help | --version
        pnfs_osd COMMAND --help
 
@@ -96,11 +96,11 @@ Writes 'listening' once that is done and it listens at its address, and 'served 
 ";
 
 const CLIENT: &str = "\
-usage: pnfs_osd client --number N --sequence Q --call TEXT < CLUSTER
+usage: pnfs_osd client --number N [--sequence Q] --call TEXT < CLUSTER
 
 Carries out one call as client N (0 to 15) of the cluster that the text describes, or hands its server one order
-(docs/use/OPERATIONS.md). Q, from 1, is the number of its first request: 1 the first time, then what the line 'next Q' of
-the run before says. All options are required.
+(docs/use/OPERATIONS.md). The client asks the server for the number of its first request, in two exchanges more. They can be
+saved with --sequence Q: 1 the first time, then what the line 'next Q' of the run before says, and no number twice.
 
 TEXT      write F OFFSET HEX, write F OFFSET -, read F OFFSET LENGTH, recall F, revoke F, rebuild F, audit F or
           declare D, F a file as f0, D a drive as d0. With - the bytes are those after the first zero byte of

@@ -12,7 +12,9 @@ use Rattle.pnfs_run.specs.declared.status.Status.TheVariants.{BadWords}
 use Rattle.pnfs_run.specs.Exit.{by_stop}
 use Rattle.pnfs_run.specs.Ends.{Ends}
 use Rattle.pnfs_run.specs.Network.{Runs}
-use Rattle.pnfs_run.specs.Run.{JudgesWords}
+use Rattle.osd_disk.specs.declared.disk.Disk.{Ghosts as DiskGhosts}
+use Rattle.pnfs_run.specs.declared.party.Party.{Party}
+use Rattle.pnfs_run.specs.Run.{JudgesWords, Promises}
 
 module _ {W : Type 0} (options : App) (gives : List Text → Option W → Type 0) (Does : W → Ends → Ends → Status → Type 0)
     (words : List Text) (before now : Ends) where
@@ -39,3 +41,10 @@ module _ {W : Type 0} (options : App) (gives : List Text → Option W → Type 0
     bad = λ is. absurd (other is);
     only = λ b. absurd (elim b [ inl ne ↦ ne asks.0 | inr none ↦ apart asks.1 none ]);
   }
+
+-- what is promised of the party that the words name
+pub as_party : {D : Type 0} (s : DiskGhosts D) (disk left : D) (o : Option Party) (p : Party) (words : List Text)
+    (before now : Ends) (status : Status) → o ≡ Some p → Promises s disk left (Some p) words before now status
+    → Promises s disk left o words before now status
+as_party s disk left o p words before now status is x =
+    subst (λ (q : Option Party). Promises s disk left q words before now status) (sym is) x

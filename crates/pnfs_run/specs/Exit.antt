@@ -11,7 +11,7 @@ use Rattle.osd_replay.specs.declared.status.Status.{Status as ReplayStatus}
 use Rattle.osd_replay.specs.declared.status.Status.TheVariants as replay
 use Rattle.pnfs_run.specs.declared.status.Status.{Status}
 use Rattle.pnfs_run.specs.declared.status.Status.TheVariants.{Done, BadWords, BadScenario, ReadFault, WriteFault, Memory}
-use Rattle.pnfs_run.specs.declared.status.Status.TheVariants.{Full, LinkFault, BadCluster, Refused, DiskFault, BadStore}
+use Rattle.pnfs_run.specs.declared.status.Status.TheVariants.{Full, LinkFault, BadCluster, Refused, Unnumbered, DiskFault, BadStore}
 
 -- a command without a network
 abbrev pub by_replay : ReplayStatus → Status
@@ -42,6 +42,7 @@ by_stored (stored.BadStore at) = BadStore at
 abbrev pub by_client : ClientEnd → Status
 by_client client.Done = Done
 by_client (client.Refused outcome) = Refused outcome
+by_client client.Unnumbered = Unnumbered
 
 abbrev pub exit_code_of : Status → ℕ
 exit_code_of Done = 0
@@ -54,5 +55,6 @@ exit_code_of (Full quantity) = 7
 exit_code_of LinkFault = 8
 exit_code_of (BadCluster kind) = 9
 exit_code_of (Refused outcome) = 10
+exit_code_of Unnumbered = 8
 exit_code_of DiskFault = 11
 exit_code_of (BadStore at) = 12

@@ -13,34 +13,38 @@ use Rattle.command_words.specs.declared.words.WordsErr.TheVariants.{Bad, Memory 
 use Rattle.command_words.specs.Asked.{Asks, Refuses}
 use Rattle.client_command.specs.declared.work_ends.ClientEnd.{ClientEnd}
 use Rattle.client_command.specs.Ends.{EndsClient, WorksAs}
-use Rattle.drive_command.specs.Ends as drive
+use Rattle.drive_loop.specs.Ends as drive
 use Rattle.server_command.specs.Ends as server
 use Rattle.osd_replay.specs.Errors.{words_error}
 use Rattle.pnfs_run.specs.declared.status.Status.{Status}
 use Rattle.pnfs_run.specs.declared.status.Status.TheVariants.{Done, BadWords, Memory}
 use Rattle.pnfs_run.specs.Exit.{by_client, by_stop}
-use Rattle.pnfs_run.specs.Ends.{AsksNobody, Ends, LeavesInput, drive_ends, links_of, server_ends, streams_of}
+use Rattle.pnfs_run.specs.Ends.{AsksNobody, Ends, LeavesInput, LeavesLinks, LeavesPorts, drive_ends, links_of, server_ends}
+use Rattle.pnfs_run.specs.Ends.{streams_of}
 
 -- ---- what the words ask for
 
--- the links have the addresses that they had, or those of the drive in the cluster that the text describes
-abbrev pub HasDrivesAddresses : (number : ℕ) → (before now : Ends) → Type 0
-HasDrivesAddresses number before now = drive.SettlesAsText number before.left now.left before.standing now.standing
+-- the ports listen where they did, or as the drive of the cluster that the text describes; the links are left alone
+abbrev pub ListensAsDrive : (number : ℕ) → (before now : Ends) → Type 0
+ListensAsDrive number before now =
+    LeavesLinks before now × drive.MayListenAsText number before.left now.left before.ports.listens now.ports.listens
 
 -- a drive serves all connections, or stops
 abbrev pub DriveEnds : DriveWords → (before now : Ends) → Status → Type 0
 DriveEnds w before now status =
-    HasDrivesAddresses w.number before now
+    ListensAsDrive w.number before now
     × (((status ≡ Done)
     × drive.ServesAs w.number w.connections (streams_of before) (streams_of now) (drive_ends before) (drive_ends now)
-    now.standing)
+    now.ports.listens)
     ⊎ ((why : CommandStop) × (status ≡ by_stop why)
     × drive.EndsDrive w.number w.connections (streams_of before) (streams_of now) (drive_ends before) (drive_ends now)
-    now.standing why))
+    now.ports.listens why))
 
--- the links have the addresses that they had, or those of the server of the cluster that the text describes
+-- the links have the addresses that they had, or those of the server of the cluster that the text describes; the ports are left
+-- alone
 abbrev pub HasServersAddresses : (before now : Ends) → Type 0
-HasServersAddresses before now = server.SettlesAsText before.left now.left before.standing now.standing
+HasServersAddresses before now =
+    LeavesPorts before now × server.SettlesAsText before.left now.left before.standing now.standing
 
 -- a server serves all connections, or stops
 abbrev pub ServerEnds : ServerWords → (before now : Ends) → Status → Type 0
@@ -52,10 +56,10 @@ ServerEnds w before now status =
     × server.EndsServer w.connections (streams_of before) (streams_of now) (server_ends before) (server_ends now) now.standing
     why))
 
--- a client's work is done or refused, or it stops; it asks for no time
+-- a client's work is done or refused, or it stops; it asks for no time, and leaves the ports alone
 abbrev pub ClientEnds : ClientWords → (before now : Ends) → Status → Type 0
 ClientEnds w before now status =
-    (now.times ≡ before.times)
+    (now.times ≡ before.times) × LeavesPorts before now
     × (((end : ClientEnd) × (status ≡ by_client end)
     × WorksAs w (streams_of before) (streams_of now) (links_of before) (links_of now) now.standing end)
     ⊎ ((why : CommandStop) × (status ≡ by_stop why)

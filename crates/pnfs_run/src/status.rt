@@ -30,6 +30,8 @@ pub enum Status {
     BadCluster { kind: ClusterKind },
     /// What the client was asked to do was refused.
     Refused { outcome: Refusal },
+    /// The client didn't begin its call: the server didn't tell the number that it expects, or didn't take it.
+    Unnumbered,
     /// The disk of a store failed.
     DiskFault,
     /// What the disk has isn't in the form of a store from this byte on, or with 8 may be the store of a drive with another
@@ -97,6 +99,7 @@ impl From<ClientEnd> for Status {
         match end {
             ClientEnd::Done => Status::Done,
             ClientEnd::Refused(outcome) => Status::Refused { outcome },
+            ClientEnd::Unnumbered => Status::Unnumbered,
         }
     }
 }
@@ -114,7 +117,7 @@ impl Status {
             Status::WriteFault => 5,
             Status::Memory => 6,
             Status::Full { .. } => 7,
-            Status::LinkFault => 8,
+            Status::LinkFault | Status::Unnumbered => 8,
             Status::BadCluster { .. } => 9,
             Status::Refused { .. } => 10,
             Status::DiskFault => 11,

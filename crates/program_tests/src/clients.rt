@@ -99,10 +99,10 @@ const CALLS: &[Case] = &[
 
 const LOSSES: &[Case] = &[
     Case {
-        name: "a drive that ends the connection times out",
+        name: "a drive that ends two connections times out",
         words: WRITES,
-        asked: &[GRANTED_WRITE, b"", REPORTED],
-        sent: &[GET_WRITE, WRITE, REPORT],
+        asked: &[GRANTED_WRITE, b"", b"", REPORTED],
+        sent: &[GET_WRITE, WRITE, WRITE, REPORT],
         exit_code: 10,
         output: "t c0 0\no c0 write silent 0\nnext 3\n",
         ..NOTHING

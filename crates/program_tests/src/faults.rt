@@ -1,4 +1,5 @@
-// Clients of whose calls of links each fails in turn. Call 0 settles them; then each exchange connects, sends and receives.
+// Clients of whose calls of links each fails in turn. Call 0 settles them; then each exchange connects, sends and receives. A
+// drive of which no record came is asked once more.
 use crate::clients::{READS, WRITES};
 use crate::runs::{Case, NOTHING, play};
 use crate::scripts::{
@@ -50,28 +51,35 @@ const FAULTS: &[Case] = &[
         name: "connecting to the drive",
         words: WRITES,
         fails: &[4],
-        asked: &[GRANTED_WRITE, WRITTEN, REPORTED],
-        sent: &[GET_WRITE, REPORT],
-        exit_code: 10,
-        output: "t c0 0\no c0 write silent 0\nnext 3\n",
+        asked: &[GRANTED_WRITE, WRITTEN, WRITTEN, COMMITTED, RETURNED],
+        sent: &[GET_WRITE, WRITE, COMMIT, RETURN],
+        output: "o c0 write ok 2\nnext 4\n",
         ..NOTHING
     },
     Case {
         name: "sending the WRITE",
         words: WRITES,
         fails: &[5],
-        asked: &[GRANTED_WRITE, WRITTEN, REPORTED],
-        sent: &[GET_WRITE, b"", REPORT],
-        exit_code: 10,
-        output: "t c0 0\no c0 write silent 0\nnext 3\n",
+        asked: &[GRANTED_WRITE, WRITTEN, WRITTEN, COMMITTED, RETURNED],
+        sent: &[GET_WRITE, b"", WRITE, COMMIT, RETURN],
+        output: "o c0 write ok 2\nnext 4\n",
         ..NOTHING
     },
     Case {
         name: "receiving its reply",
         words: WRITES,
         fails: &[6],
-        asked: &[GRANTED_WRITE, WRITTEN, REPORTED],
-        sent: &[GET_WRITE, WRITE, REPORT],
+        asked: &[GRANTED_WRITE, WRITTEN, WRITTEN, COMMITTED, RETURNED],
+        sent: &[GET_WRITE, WRITE, WRITE, COMMIT, RETURN],
+        output: "o c0 write ok 2\nnext 4\n",
+        ..NOTHING
+    },
+    Case {
+        name: "connecting to the drive twice",
+        words: WRITES,
+        fails: &[4, 5],
+        asked: &[GRANTED_WRITE, WRITTEN, WRITTEN, REPORTED],
+        sent: &[GET_WRITE, REPORT],
         exit_code: 10,
         output: "t c0 0\no c0 write silent 0\nnext 3\n",
         ..NOTHING
@@ -195,30 +203,27 @@ const READ_FAULTS: &[Case] = &[
         name: "connecting to the drive",
         words: READS,
         fails: &[4],
-        asked: &[GRANTED_READ, DATA, RETURNED_READ],
-        sent: &[GET_READ, RETURN_READ],
-        exit_code: 10,
-        output: "t c0 0\no c0 read lost 0\nnext 6\n",
+        asked: &[GRANTED_READ, DATA, DATA, RETURNED_READ],
+        sent: &[GET_READ, READ, RETURN_READ],
+        output: "o c0 read ok 4142\nnext 6\n",
         ..NOTHING
     },
     Case {
         name: "sending the READ",
         words: READS,
         fails: &[5],
-        asked: &[GRANTED_READ, DATA, RETURNED_READ],
-        sent: &[GET_READ, b"", RETURN_READ],
-        exit_code: 10,
-        output: "t c0 0\no c0 read lost 0\nnext 6\n",
+        asked: &[GRANTED_READ, DATA, DATA, RETURNED_READ],
+        sent: &[GET_READ, b"", READ, RETURN_READ],
+        output: "o c0 read ok 4142\nnext 6\n",
         ..NOTHING
     },
     Case {
         name: "receiving its reply",
         words: READS,
         fails: &[6],
-        asked: &[GRANTED_READ, DATA, RETURNED_READ],
-        sent: &[GET_READ, READ, RETURN_READ],
-        exit_code: 10,
-        output: "t c0 0\no c0 read lost 0\nnext 6\n",
+        asked: &[GRANTED_READ, DATA, DATA, RETURNED_READ],
+        sent: &[GET_READ, READ, READ, RETURN_READ],
+        output: "o c0 read ok 4142\nnext 6\n",
         ..NOTHING
     },
     Case {

@@ -1,4 +1,5 @@
-// The commands of a drive and of the metadata server over links of which calls fail.
+// The commands of a drive over ports, and of the metadata server over links of which calls fail.
+use crate::ends::Next;
 use crate::messages::{
     ASK_LENGTH, ASKS_AGAIN, ASKS_ON, ASKS_THRICE, BOTH_ARE_TOLD, CREATE, CREATE_NINE, CREATE_THREE,
     CREATED, CREATED_TOO, EXISTS, LENGTH, NEITHER_IS, NO_COMMAND, NOISE_AND_ASKS, ONE_IS_TOLD,
@@ -6,6 +7,7 @@ use crate::messages::{
 };
 use crate::runs::{CLUSTER, Case, FILELESS, KEYLESS, NOTHING, TWO_FILES, play};
 use crate::scripts::{AUDIT_STARTED, ORDER_AUDIT};
+use port_loop::Room;
 
 // What a drive tells of it, at most once a second.
 const REFUSED: &str = "drive 0 refused: format (detail 0, object 0, nonce 0)";
@@ -13,132 +15,99 @@ const REFUSED: &str = "drive 0 refused: format (detail 0, object 0, nonce 0)";
 // Messages of which none is a command come to a drive.
 const DRIVES: &[Case] = &[
     Case {
-        name: "each record of each connection is answered, at its own time",
+        name: "each record of each connection is answered, in the order in which they come, at its own time",
         words: &["drive", "--number", "0", "--connections", "2"],
         input: FILELESS,
-        accepted: &[
-            b"\x80\0\0\x01a\x80\0\0\0",
-            b"\x80\0\0\x0ano command\x80\0\0\x02no",
+        happens: &[
+            Next::Opens,
+            Next::Opens,
+            Next::Brings(1, b"\x80\0\0\x0ano command"),
+            Next::Brings(0, b"\x80\0\0\x01a\x80\0\0\0"),
+            Next::Brings(1, b"\x80\0\0\x02no"),
+            Next::Closes(0),
+            Next::Closes(1),
         ],
-        put: &[TWICE_NO_COMMAND, TWICE_NO_COMMAND],
+        replies: &[TWICE_NO_COMMAND, TWICE_NO_COMMAND],
         notes: &[REFUSED, REFUSED, REFUSED, REFUSED],
         next_time: 9,
         output: "listening\nserved 2\n",
         ..NOTHING
     },
     Case {
-        name: "a record that doesn't come whole is none",
+        name: "one that doesn't come whole holds no other up, and is none",
+        words: &["drive", "--number", "0", "--connections", "2"],
+        input: FILELESS,
+        happens: &[
+            Next::Opens,
+            Next::Brings(0, b"\x80\0\0\x01a\x80\0\0\x09part"),
+            Next::Opens,
+            Next::Brings(1, b"\x80\0\0\0"),
+            Next::Closes(1),
+            Next::Closes(0),
+        ],
+        replies: &[NO_COMMAND, NO_COMMAND],
+        notes: &[REFUSED, REFUSED],
+        next_time: 7,
+        output: "listening\nserved 2\n",
+        ..NOTHING
+    },
+    Case {
+        name: "records before one that is too long are answered, none after it, and the connection is over",
         words: &["drive", "--number", "0", "--connections", "1"],
         input: FILELESS,
-        accepted: &[b"\x80\0\0\x01a\x80\0\0\x09part"],
-        put: &[NO_COMMAND],
+        happens: &[
+            Next::Opens,
+            Next::Brings(
+                0,
+                b"\x80\0\0\x01a\0\0\0\x01b\x80\0\0\x01c\x80\x04\x93\xe1\x80\0\0\x01a",
+            ),
+        ],
+        replies: &[TWICE_NO_COMMAND],
+        notes: &[REFUSED, REFUSED],
+        next_time: 7,
+        output: "listening\nserved 1\n",
+        ..NOTHING
+    },
+    Case {
+        name: "a connection on which no answer goes out is over",
+        words: &["drive", "--number", "0", "--connections", "2"],
+        input: FILELESS,
+        happens: &[
+            Next::Opens,
+            Next::Opens,
+            Next::Brings(0, b"\x80\0\0\x01a\x80\0\0\0"),
+            Next::Brings(1, b"\x80\0\0\x01a\x80\0\0\0"),
+            Next::Closes(1),
+        ],
+        rooms: &[Room::Fails],
+        replies: &[b"", TWICE_NO_COMMAND],
+        notes: &[REFUSED, REFUSED, REFUSED, REFUSED],
+        next_time: 9,
+        output: "listening\nserved 2\n",
+        ..NOTHING
+    },
+    Case {
+        name: "one on which there is room for a part of it gets the rest later",
+        words: &["drive", "--number", "0", "--connections", "1"],
+        input: FILELESS,
+        happens: &[
+            Next::Opens,
+            Next::Brings(0, b"\x80\0\0\x01a"),
+            Next::Drains(0),
+            Next::Closes(0),
+        ],
+        rooms: &[Room::Takes { count: 3 }],
+        replies: &[NO_COMMAND],
         notes: &[REFUSED],
         next_time: 6,
         output: "listening\nserved 1\n",
         ..NOTHING
     },
     Case {
-        // Call 0 settles the links, 1 and 2 accept and take, 3 puts the first answer, 4 would put the second.
-        name: "behind an answer that failed a drive handles records without one",
-        words: &["drive", "--number", "0", "--connections", "1"],
+        name: "a drive that serves no connection waits for none",
+        words: &["drive", "--number", "0", "--connections", "0"],
         input: FILELESS,
-        accepted: &[b"\x80\0\0\x01a\x80\0\0\0\x80\0\0\x0ano command"],
-        fails: &[4],
-        put: &[NO_COMMAND],
-        notes: &[REFUSED, REFUSED, REFUSED],
-        next_time: 8,
-        output: "listening\nserved 1\n",
-        ..NOTHING
-    },
-    Case {
-        name: "records before one that is too long are answered, and none behind it",
-        words: &["drive", "--number", "0", "--connections", "1"],
-        input: FILELESS,
-        accepted: &[b"\x80\0\0\x01a\0\0\0\x01b\x80\0\0\x01c\x80\x04\x93\xe1\x80\0\0\x01a"],
-        put: &[TWICE_NO_COMMAND],
-        notes: &[REFUSED, REFUSED],
-        next_time: 7,
-        output: "listening\nserved 1\n",
-        ..NOTHING
-    },
-    Case {
-        // Call 0 settles the links. Of two connections with two records each 1 and 6 accept, 2 and 7 take, 3, 4, 8 and 9 put.
-        name: "a connection of which nothing can be taken",
-        words: &["drive", "--number", "0", "--connections", "2"],
-        input: FILELESS,
-        accepted: &[b"\x80\0\0\x01a\x80\0\0\0", b"\x80\0\0\x01a\x80\0\0\0"],
-        fails: &[2],
-        put: &[b"", TWICE_NO_COMMAND],
-        notes: &[REFUSED, REFUSED],
-        next_time: 7,
-        output: "listening\nserved 2\n",
-        ..NOTHING
-    },
-    Case {
-        name: "one on which no answer goes out",
-        words: &["drive", "--number", "0", "--connections", "2"],
-        input: FILELESS,
-        accepted: &[b"\x80\0\0\x01a\x80\0\0\0", b"\x80\0\0\x01a\x80\0\0\0"],
-        fails: &[3],
-        put: &[b"", TWICE_NO_COMMAND],
-        notes: &[REFUSED, REFUSED, REFUSED, REFUSED],
-        next_time: 9,
-        output: "listening\nserved 2\n",
-        ..NOTHING
-    },
-    Case {
-        name: "one whose end can't be taken, behind its records",
-        words: &["drive", "--number", "0", "--connections", "2"],
-        input: FILELESS,
-        accepted: &[b"\x80\0\0\x01a\x80\0\0\0", b"\x80\0\0\x01a\x80\0\0\0"],
-        fails: &[5],
-        put: &[TWICE_NO_COMMAND, TWICE_NO_COMMAND],
-        notes: &[REFUSED, REFUSED, REFUSED, REFUSED],
-        next_time: 9,
-        output: "listening\nserved 2\n",
-        ..NOTHING
-    },
-    Case {
-        name: "no second connection can be accepted",
-        words: &["drive", "--number", "0", "--connections", "2"],
-        input: FILELESS,
-        accepted: &[b"\x80\0\0\x01a\x80\0\0\0", b"\x80\0\0\x01a\x80\0\0\0"],
-        fails: &[6],
-        put: &[TWICE_NO_COMMAND],
-        notes: &[REFUSED, REFUSED],
-        next_time: 7,
-        exit_code: 8,
-        output: "listening\nerror link\n",
-        ..NOTHING
-    },
-    Case {
-        // Calls 1 and 2 serve the first connection, which is empty; 3 would accept the next.
-        name: "a drive that can accept no further connection",
-        words: &["drive", "--number", "0", "--connections", "2"],
-        input: FILELESS,
-        accepted: &[b""],
-        fails: &[3],
-        put: &[b""],
-        exit_code: 8,
-        output: "listening\nerror link\n",
-        ..NOTHING
-    },
-    Case {
-        name: "a drive that can accept none",
-        words: &["drive", "--number", "0", "--connections", "1"],
-        input: FILELESS,
-        fails: &[1],
-        exit_code: 8,
-        output: "listening\nerror link\n",
-        ..NOTHING
-    },
-    Case {
-        name: "a drive whose links can't be settled",
-        words: &["drive", "--number", "0", "--connections", "1"],
-        input: FILELESS,
-        fails: &[0],
-        exit_code: 8,
-        output: "error link\n",
+        output: "listening\nserved 0\n",
         ..NOTHING
     },
 ];

@@ -3,12 +3,13 @@ ghost use Rattle.std.specs.Result.{ForOk};
 ghost use Rattle.stripe_repair.specs.Placing.{CanPlace, IsPlacer, Places};
 ghost use Rattle.zone_place.specs.Choosing.{CanSpread, IsZonePlacer, Spreads};
 
-use crate::ends::{copied, lists, numbers};
+use crate::ends::{Next, copied, lists, numbers, planned, put_on};
 use osd_bytes::{Clock, Links, MemClock, MemLinks, MemSink, MemSource, Sink, Source};
 use osd_disk::MemDisk;
-use osd_lists::{Bytes, Memory, Numbers, Times};
+use osd_lists::{Bytes, Memory, Numbers, Sequence, Times};
 use pnfs_run::replay::fewest_first;
-use pnfs_run::{Status, run};
+use pnfs_run::{Lent, Status, run};
+use port_loop::{MemNotes, MemPorts, Ports, Room};
 use std::alloc::Global;
 use std::process::Abort;
 use stripe_repair::{DriveLoad, Placer};
@@ -34,6 +35,12 @@ pub struct Case {
     pub put: &'static [&'static [u8]],
     /// What goes out on the connections that ask.
     pub sent: &'static [&'static [u8]],
+    /// What happens on the connections of a drive.
+    pub happens: &'static [Next],
+    /// How the puts on them end.
+    pub rooms: &'static [Room],
+    /// What goes out on them.
+    pub replies: &'static [&'static [u8]],
     /// What is told beside.
     pub notes: &'static [&'static str],
     /// What the clock tells behind the run. It tells 5 first, then 6, and so on to 9.
@@ -122,6 +129,9 @@ pub const NOTHING: Case = Case {
     asked: &[],
     put: &[],
     sent: &[],
+    happens: &[],
+    rooms: &[],
+    replies: &[],
     notes: &[],
     next_time: 5,
     exit_code: 0,
@@ -147,32 +157,72 @@ fn add_string(alloc: Global, strings: &mut Vec<String>, word: &str) {
     }
 }
 
+// How a run ends, and what is told beside a drive.
+#[derive(Drop)]
+struct Ended {
+    exit_code: u8,
+    notes: MemNotes,
+}
+
 // How a run of these words ends.
-fn status_of<S: Source, K: Sink, L: Links, C: Clock, F, Z>(
+fn end_of_run<S: Source, K: Sink, L: Links, P: Ports, C: Clock, F, Z>(
     alloc: Global,
     words: &[String],
     source: &mut S,
     sink: &mut K,
     links: &mut L,
+    ports: &mut P,
     clock: &mut C,
     placer: &Placer<F>,
     zones: &ZonePlacer<Z>,
-) -> Status
+) -> Ended
 where
     F: Fn(u32, &[DriveLoad]) -> Result<Numbers, Memory>,
     Z: Fn(&ZoneAsk, &[ZoneLoad]) -> Result<Numbers, Memory>,
     requires placer { IsPlacer F.Fn placer.now }
     requires zones { IsZonePlacer Z.Fn zones.now }
 {
-    let disk = MemDisk::new(alloc, Numbers::new(alloc));
-    let (status, _disk) = run(
-        alloc, words, source, sink, links, clock, disk, placer, zones,
+    let lent = Lent {
+        disk: MemDisk::new(alloc, Numbers::new(alloc)),
+        notes: MemNotes::new(alloc),
+    };
+    let (status, lent) = run(
+        alloc, words, source, sink, links, ports, clock, lent, placer, zones,
     );
-    status
+    Ended {
+        exit_code: status.exit_code(),
+        notes: lent.notes,
+    }
 }
 
-/// The exit status of the program for these words, where components are spread over zones by this rule. Those of other
-/// files are placed as the program places them.
+// The same where components are spread over zones by this rule. Those of other files are placed as the program places them.
+fn ended_by<S: Source, K: Sink, L: Links, P: Ports, C: Clock, Z>(
+    alloc: Global,
+    words: &[String],
+    source: &mut S,
+    sink: &mut K,
+    links: &mut L,
+    ports: &mut P,
+    clock: &mut C,
+    zones: &ZonePlacer<Z>,
+) -> Ended
+where
+    Z: Fn(&ZoneAsk, &[ZoneLoad]) -> Result<Numbers, Memory>,
+    requires { IsZonePlacer Z.Fn zones.now }
+{
+    let placer = Placer::new(
+        |count: u32, loads: &[DriveLoad]| -> Result<Numbers, Memory>
+            requires { CanPlace count loads.now }
+            ensures { ForOk result (Places count loads.now) }
+        { fewest_first(alloc, count, loads) },
+    );
+    end_of_run(
+        alloc, words, source, sink, links, ports, clock, &placer, zones,
+    )
+}
+
+/// The exit status of the program for these words, where components are spread over zones by this rule and nothing happens
+/// on ports.
 pub fn exit_code_by<S: Source, K: Sink, L: Links, C: Clock, Z>(
     alloc: Global,
     words: &[String],
@@ -186,16 +236,30 @@ where
     Z: Fn(&ZoneAsk, &[ZoneLoad]) -> Result<Numbers, Memory>,
     requires { IsZonePlacer Z.Fn zones.now }
 {
-    let placer = Placer::new(
-        |count: u32, loads: &[DriveLoad]| -> Result<Numbers, Memory>
-            requires { CanPlace count loads.now }
-            ensures { ForOk result (Places count loads.now) }
-        { fewest_first(alloc, count, loads) },
-    );
-    status_of(alloc, words, source, sink, links, clock, &placer, zones).exit_code()
+    let mut ports = ports_of(alloc, &[], &[]);
+    ended_by(alloc, words, source, sink, links, &mut ports, clock, zones).exit_code
 }
 
-/// The same where they are spread as the program spreads them.
+// How a run ends where they are spread as the program spreads them.
+fn ended_as_usual<S: Source, K: Sink, L: Links, P: Ports, C: Clock>(
+    alloc: Global,
+    words: &[String],
+    source: &mut S,
+    sink: &mut K,
+    links: &mut L,
+    ports: &mut P,
+    clock: &mut C,
+) -> Ended {
+    let zones = ZonePlacer::new(
+        |ask: &ZoneAsk, loads: &[ZoneLoad]| -> Result<Numbers, Memory>
+            requires { CanSpread ask.now loads.now }
+            ensures { ForOk result (Spreads ask.now loads.now) }
+        { deal(alloc, ask, loads) },
+    );
+    ended_by(alloc, words, source, sink, links, ports, clock, &zones)
+}
+
+/// The exit status then, where nothing happens on ports.
 pub fn exit_code<S: Source, K: Sink, L: Links, C: Clock>(
     alloc: Global,
     words: &[String],
@@ -204,27 +268,31 @@ pub fn exit_code<S: Source, K: Sink, L: Links, C: Clock>(
     links: &mut L,
     clock: &mut C,
 ) -> u8 {
-    let zones = ZonePlacer::new(
-        |ask: &ZoneAsk, loads: &[ZoneLoad]| -> Result<Numbers, Memory>
-            requires { CanSpread ask.now loads.now }
-            ensures { ForOk result (Spreads ask.now loads.now) }
-        { deal(alloc, ask, loads) },
-    );
-    exit_code_by(alloc, words, source, sink, links, clock, &zones)
+    let mut ports = ports_of(alloc, &[], &[]);
+    ended_as_usual(alloc, words, source, sink, links, &mut ports, clock).exit_code
 }
 
-// The same of a case.
-fn exit_code_of<K: Sink, L: Links, C: Clock>(
+// How a case ends.
+fn ended_of<K: Sink, L: Links, P: Ports, C: Clock>(
     alloc: Global,
     case: &Case,
     sink: &mut K,
     links: &mut L,
+    ports: &mut P,
     clock: &mut C,
-) -> u8 {
+) -> Ended {
     let words = strings(alloc, case.words);
     let input = copied(alloc, case.input.as_bytes());
     let mut source = MemSource::new(input, numbers(alloc, case.reads));
-    exit_code(alloc, words.as_slice(), &mut source, sink, links, clock)
+    ended_as_usual(
+        alloc,
+        words.as_slice(),
+        &mut source,
+        sink,
+        links,
+        ports,
+        clock,
+    )
 }
 
 // Whether exactly this went out on the connections that were accepted.
@@ -253,32 +321,46 @@ fn sent_is(links: &MemLinks, sent: &[&[u8]]) -> bool {
     true
 }
 
-// Whether exactly these notes were told.
-fn are_noted(notes: &[Bytes], told: &[&str]) -> bool {
-    if notes.len() != told.len() {
+// Whether exactly this went out on the connections of ports.
+fn replies_are(alloc: Global, ports: &MemPorts, replies: &[&[u8]]) -> bool {
+    for (port, reply) in replies.iter().enumerate() {
+        if put_on(alloc, ports, port as u64).as_slice() != *reply {
+            return false;
+        }
+    }
+    put_on(alloc, ports, replies.len() as u64).is_empty()
+}
+
+// Whether exactly these notes were told, on links or beside a drive.
+fn are_noted(on_links: &[Bytes], beside: &[Bytes], told: &[&str]) -> bool {
+    if on_links.len() + beside.len() != told.len() {
         return false;
     }
-    for i in 0..told.len() {
-        if notes[i].as_slice() != told[i].as_bytes() {
+    let notes = on_links.iter().chain(beside.iter());
+    for (note, line) in notes.zip(told) {
+        if note.as_slice() != line.as_bytes() {
             return false;
         }
     }
     true
 }
 
-// Whether a case comes to what it says over a sink, links and a clock.
+// Whether a case comes to what it says over a sink, links, ports and a clock.
 fn goes_over(
     alloc: Global,
     case: &Case,
     sink: &mut MemSink,
     links: &mut MemLinks,
+    ports: &mut MemPorts,
     clock: &mut MemClock,
 ) -> bool {
-    exit_code_of(alloc, case, sink, links, clock) == case.exit_code
+    let ended = ended_of(alloc, case, sink, links, ports, clock);
+    ended.exit_code == case.exit_code
         && sink.bytes() == case.output.as_bytes()
         && put_is(links, case.put)
         && sent_is(links, case.sent)
-        && are_noted(links.notes(), case.notes)
+        && replies_are(alloc, ports, case.replies)
+        && are_noted(links.notes(), ended.notes.lines(), case.notes)
         && clock.now() == case.next_time
 }
 
@@ -300,7 +382,21 @@ fn goes(alloc: Global, case: &Case) -> bool {
     );
     let mut sink = MemSink::new(alloc, numbers(alloc, case.writes));
     let mut clock = the_clock(alloc);
-    goes_over(alloc, case, &mut sink, &mut links, &mut clock)
+    let mut ports = ports_of(alloc, case.happens, case.rooms);
+    goes_over(alloc, case, &mut sink, &mut links, &mut ports, &mut clock)
+}
+
+// Ports on which this happens, and whose puts end so.
+fn ports_of(alloc: Global, happens: &[Next], rooms: &[Room]) -> MemPorts {
+    let mut all = Sequence::new(alloc);
+    for next in happens {
+        let _ = all.push(planned(alloc, *next));
+    }
+    let rooms = match Sequence::copied(alloc, rooms) {
+        Ok(rooms) => rooms,
+        Err(_) => Sequence::new(alloc),
+    };
+    MemPorts::new(alloc, all, rooms)
 }
 
 /// Links over which nothing comes.

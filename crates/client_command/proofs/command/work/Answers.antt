@@ -1,5 +1,5 @@
 use Rattle.cluster_text.specs.Outside.{streams}
-use Rattle.client_command.specs.Reports.{on_links}
+use Rattle.client_command.specs.OnLinks.{on_links}
 use Rattle.client_command.proofs.Stopping.{acting}
 use Rattle.client_command.proofs.command.work.Goals as goal
 

@@ -9,8 +9,8 @@ returns-clause-asks g c =
     let faults = g.L.Links.faults c.args.links.now in
     record {
       came = c.in_ok-came.came;
-      told = c.in_ok-came.ensures.came;
-      dealt = ap (on_links (g.L.Links.told c.asked.new.links) (g.L.Links.faults c.asked.new.links))
+      told = rw c.late_component-awaited.ensures at c.in_ok-came.ensures.came;
+      dealt = ap (on_links (g.L.Links.told c.asked_for.new.links) (g.L.Links.faults c.asked_for.new.links))
           (is_answered (dealing c.args.core.now c.args.waiting.now c.args.notices.now told faults)
           (dealing c.hear_reply.new.core c.hear_reply.new.waiting c.hear_reply.new.notices told faults) _ c.args.drive
           c.args.command.now c.in_ok-came.came

@@ -1,5 +1,5 @@
 use Rattle.std.proofs.Common.{rules}
-use Rattle.client_command.specs.Reports.{on_links}
+use Rattle.client_command.specs.OnLinks.{on_links}
 use Rattle.client_command.proofs.Reported.{cuts_ended, cuts_stopped, is_ended, is_lost, untold}
 use Rattle.client_command.proofs.reports.report_call.Goals as goal
 

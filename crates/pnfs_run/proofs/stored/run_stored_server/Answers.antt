@@ -11,11 +11,11 @@ use Rattle.pnfs_run.proofs.stored.run_stored_server.Goals as goal
 
 pub returns-in-Ok-stored_server_command-clause-promise :
     goal.returns-in-Ok-stored_server_command-clause-promise
-returns-in-Ok-stored_server_command-clause-promise g c = (
+returns-in-Ok-stored_server_command-clause-promise g c = λ ports. (
   c.in-Ok.asked,
   c.in-Ok.ensures.asks,
   (
-    c.stored_server_command.ensures.addresses,
+    (refl, c.stored_server_command.ensures.addresses),
     inl (
       refl,
       c.in-Ok-stored_server_command.ensures.serves,
@@ -30,14 +30,15 @@ returns-in-Ok-stored_server_command-clause-words g c =
     (stored_server_apart (map string_bytes c.args.words.now) c.in-Ok.asked) c.in-Ok.ensures.asks (λ e. cc e)
 
 pub returns-clause-promise : goal.returns-clause-promise
-returns-clause-promise g c =
+returns-clause-promise g c = λ ports.
     stored_stopped stored_server_options stored_server_gives
     (StoredServerEnds g.D.Disk c.args.disk c.in-Err-stored_server_command.refusal.1) (map string_bytes c.args.words.now)
-    (ends_at g.S.Source g.K.Sink g.L.Links g.C.Clock c.args.source.now c.args.sink.now c.args.links.now c.args.clock.now)
+    (ends_at g.S.Source g.K.Sink g.L.Links g.C.Clock c.args.source.now c.args.sink.now c.args.links.now c.args.clock.now
+    ports)
     (ends_at g.S.Source g.K.Sink g.L.Links g.C.Clock c.stored_server_command.new.source c.stored_server_command.new.sink
-    c.stored_server_command.new.links c.stored_server_command.new.clock)
+    c.stored_server_command.new.links c.stored_server_command.new.clock ports)
     c.in-Ok.asked c.in-Err-stored_server_command.refusal.0 c.from.result c.from.ensures c.in-Ok.ensures.asks (
-      c.stored_server_command.ensures.addresses,
+      (refl, c.stored_server_command.ensures.addresses),
       inr (
         c.in-Err-stored_server_command.refusal.0,
         refl,

@@ -1,0 +1,5 @@
+pub mod Nodes
+pub mod Rules
+pub mod Steps
+pub mod Serving
+pub mod Points
