@@ -6,6 +6,9 @@ use std::alloc::{AllocError, Global};
 // The place of a drive's number in its store.
 const NUMBER_PLACE: u64 = 8;
 
+// The place at which the journal of another cluster is refused.
+const CLUSTER_PLACE: u64 = 8;
+
 // The place of the first gate, behind the header.
 const FIRST_GATE: u64 = 24;
 
@@ -81,8 +84,8 @@ fn fault_at(asker: Asker, at: u64) -> &'static str {
     }
 }
 
-/// What a person is told if a file is no store of the drive, or no journal of a server, from this place on: what its header
-/// says, or which record isn't as it was written.
+/// What a person is told if a file is no store of the drive, or no journal of the server, from this place on: whose it is, what
+/// its header says, or which record isn't as it was written.
 pub fn refused_store(
     alloc: Global,
     asker: Asker,
@@ -90,6 +93,11 @@ pub fn refused_store(
     at: u64,
 ) -> Result<String, AllocError> {
     let file = Printable::new(store.as_bytes());
+    if asker == Asker::Server && at == CLUSTER_PLACE {
+        return format!(in alloc;
+            "pnfs_osd: is the file {file} the right journal? It has drives of the cluster text, but all with other keys, as another cluster's has. No drive was asked for anything\n"
+        );
+    }
     if at < FIRST_GATE {
         let fault = fault_at(asker, at);
         return format!(in alloc; "pnfs_osd: the file {file} {fault}. It is left as it is\n");

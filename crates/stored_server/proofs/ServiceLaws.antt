@@ -1,6 +1,6 @@
 -- What a server in a journal leaves on its disk, and how its serving ends.
 use Rattle.std.proofs.Common.{◌≡◌, ◌∙◌, ◌⊎◌, ⊎_elim, inl, inr, ℕ, List, [], ◌++◌, Option, ap, append-nil, append_assoc, sym, subst}
-use Rattle.std.specs.Prelude.{IsTrue}
+use Rattle.std.specs.Prelude.{IsTrue, false}
 use Rattle.osd_bytes.specs.Asking.{Ends}
 use Rattle.osd_bytes.specs.Causes.{Rose}
 use Rattle.osd_disk.specs.Crashes.{LeavesOnly, Only}
@@ -20,9 +20,10 @@ use Rattle.server_journal.specs.Opening.{IsOfOpening}
 use Rattle.server_journal.specs.Resting as resting
 use Rattle.server_journal.proofs.JournalLaws.{on_and_on, weaker}
 use Rattle.stored_server.specs.declared.stored_server.StoredServer.{StoredServer}
+use Rattle.stored_server.specs.Differences.{is_of_another}
 use Rattle.stored_server.specs.Opened.{BeginsWith, LeavesOpenable}
 use Rattle.stored_server.specs.Preparing.{Prepares}
-use Rattle.stored_server.specs.Service.{BreaksOff, IsOfRun, LeavesRun, ServesFrom, StaysSince, StopsBehind, stored_stop_of}
+use Rattle.stored_server.specs.Service.{BreaksOff, IsOfRun, LeavesRun, ServesFrom, StaysSince, StopsBehind, once_told, stored_stop_of}
 use Rattle.stored_server.specs.StoredServer.{StandsFor, is_among, kept_on}
 use Rattle.stored_server.proofs.JournalLaws.{JournalCarries}
 
@@ -51,9 +52,11 @@ module _ {D : Type 0} (s : DiskGhosts D) where
       (IsOfRun s disk (core_of old.journal) steps)
       (record { later = leaves.later; each = leaves.each; before = leaves.before }) (λ c left. inr (inr left)))))
 
-  module _ (connections : ℕ) (cluster : Cluster) (before now : Ends) (taken_before taken : Option (List ℕ)) (disk left : D)
+  module _ (connections : ℕ) (cluster : Cluster) (first before now : Ends) (taken_before taken : Option (List ℕ)) (disk left : D)
       (old new : StoredServer D) (step : Step) (begins : IsTrue (s.tells disk)
       → BeginsWith (s.seen disk) (core_of old.journal) (made_of old.journal) step)
+      (own : is_of_another cluster.drives (core_of old.journal).drives ≡ false)
+      (told_all : before ≡ once_told cluster (core_of old.journal) first)
       (kept : IsTrue (s.tells disk) → IsKept s old.journal) (opens : IsTrue (s.tells disk)
       → LeavesOpenable s disk (kept_on old)) (done : List ServerStep) (same : left ≡ kept_on new) where
     pub served_from : (made : Server) (prepared : List ServerStep) (between : Ends)
@@ -62,16 +65,18 @@ module _ {D : Type 0} (s : DiskGhosts D) where
         → core_of new.journal ≡ after_steps (core_of old.journal) done
         → JournalCarries s done [] old new → (IsKept s old.journal → IsKept s new.journal)
         → s.faults (kept_on new) ≡ s.faults (kept_on old) → s.faults (kept_on old) ≡ s.faults disk
-        → ServesFrom s connections cluster before now taken_before taken disk left
+        → ServesFrom s connections cluster first now taken_before taken disk left
     served_from made prepared between prepares serves all x keeps still faults = record {
       begun = core_of old.journal;
       own = made_of old.journal;
       step = step;
       begins = begins;
+      of_cluster = own;
       made = made;
       prepared = prepared;
       between = between;
-      prepares = prepares;
+      prepares = subst (λ (e : Ends). Prepares (is_among (made_of old.journal)) cluster (core_of old.journal) step [] e made
+          prepared between) told_all prepares;
       last = core_of new.journal;
       done = done;
       serves = serves;
@@ -94,7 +99,7 @@ module _ {D : Type 0} (s : DiskGhosts D) where
         → JournalCarries s (done ++ handled) cut_off old new
         → (cause ≡ DiskFault → Rose (s.faults (kept_on old)) (s.faults (kept_on new)))
         → s.faults (kept_on old) ≡ s.faults disk
-        → BreaksOff s connections cluster before now taken_before taken failed_before failed disk left stop
+        → BreaksOff s connections cluster first now taken_before taken failed_before failed disk left stop
     broke_off served unserved handled cut_off failed_before failed stop cause first behind is why x rose faults =
         let all : (done ++ handled) ++ cut_off ≡ served ++ unserved =
         append_assoc done handled cut_off ∙ ap (λ (xs : List ServerStep). done ++ xs) (sym behind)
@@ -103,11 +108,13 @@ module _ {D : Type 0} (s : DiskGhosts D) where
           own = made_of old.journal;
           step = step;
           begins = begins;
+          of_cluster = own;
           cause = cause;
           is = is;
           served = served;
           unserved = unserved;
-          why = why;
+          why = subst (λ (e : Ends). StopsBehind connections cluster (core_of old.journal) (made_of old.journal) step e now
+              taken_before taken failed_before failed cause served unserved) told_all why;
           rose =
               λ f. subst (λ (d : D). Rose (s.faults disk) (s.faults d)) (sym same)
               (subst (λ (n : ℕ). Rose n (s.faults (kept_on new))) faults (rose f));

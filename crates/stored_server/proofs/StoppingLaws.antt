@@ -1,5 +1,5 @@
 -- Why the command of a server with a store stops.
-use Rattle.std.proofs.Common.{◌≡◌, ◌∙◌, ℕ, List, Option, ap, inl, inr, sym, subst}
+use Rattle.std.proofs.Common.{◌≡◌, ◌∙◌, ℕ, List, Option, ap, inl, inr, refl, sym, subst}
 use Rattle.osd_bytes.specs.Asking.{Ends, ends_of}
 use Rattle.osd_bytes.specs.Connections.{Standing, Traffic}
 use Rattle.osd_bytes.specs.Counts.{Faults}
@@ -14,6 +14,10 @@ use Rattle.drive_command.specs.StoredStops.{IsTold, no_memory}
 use Rattle.server_command.specs.declared.server_stop.ServerStop.{ServerStop}
 use Rattle.server_command.specs.declared.server_stop.ServerStop.TheVariants as server
 use Rattle.server_command.specs.Ends.{IsSettledAs}
+use Rattle.server_command.specs.Notes.{TellsSome}
+use Rattle.server_command.proofs.CutLaws.{tells_none}
+use Rattle.stored_server.specs.Beginning.{StopsBeginning}
+use Rattle.stored_server.specs.Differences.{difference_lines}
 use Rattle.stored_server.specs.Ends.{ServesStoredAs, StopsStoredServer}
 use Rattle.stored_server.specs.Service.{ServesFrom, StopsFrom, stored_stop_of}
 
@@ -31,6 +35,22 @@ settled_as told now_told faults now_faults times tells same =
 
 module _ {D : Type 0} (s : DiskGhosts D) (connections : ℕ) (standing : Standing) (disk left : D)
     (in_before in_now : Streams) (before now : Ends) where
+  -- there was no memory for the line of a place at which serving doesn't begin
+  shut_without : (c : Cluster) (at : ℕ) (told now_told : Option Traffic)
+      → StopsBeginning s c disk left told now_told (BadStore at) → StopsBeginning s c disk left told now_told no_memory
+  shut_without c at told now_told (inl opening) = inl (tt, opening.1)
+  shut_without c at told now_told (inr (inl other)) =
+      inr (inr (record {
+        begun = other.begun;
+        own = other.own;
+        step = other.step;
+        begins = other.begins;
+        cause = refl;
+        some = subst (λ (t : Option Traffic). TellsSome (difference_lines c other.begun) told t) (sym other.silent)
+            (tells_none (difference_lines c other.begun) told);
+      }))
+  shut_without c at told now_told (inr (inr cut)) = absurd (cc cut.cause)
+
   -- there was no memory for the line of a place: nothing else happened
   without_line : (at : ℕ) → StopsStoredServer s connections in_before in_now before now standing disk left (BadStore at)
       → StopsStoredServer s connections in_before in_now before now standing disk left no_memory
@@ -42,7 +62,17 @@ module _ {D : Type 0} (s : DiskGhosts D) (connections : ℕ) (standing : Standin
           inr (record {
             cluster = x.cluster;
             gives = x.gives;
-            why = inr (y.0, inl (record { why = tt; ends = shut.ends; silent = shut.silent; stays = shut.stays }));
+            why =
+                inr (
+                  y.0,
+                  inl (record {
+                    why = shut_without x.cluster at before.told now.told shut.why;
+                    faults = shut.faults;
+                    times = shut.times;
+                    silent = shut.silent;
+                    stays = shut.stays;
+                  }),
+                );
           })
       | inr broke ↦ absurd (never_bad at broke.cause broke.is)
     ]

@@ -1,3 +1,5 @@
+pub mod Beginning
+pub mod Differences
 pub mod Ends
 pub mod Lacking
 pub mod Opened

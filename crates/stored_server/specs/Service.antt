@@ -1,7 +1,8 @@
 -- What a server does that serves from the journal on a disk, and what stays there.
-use Rattle.std.specs.Prelude.{◌≡◌, ◌⊎◌, ◌≤◌, ℕ, List, [], ◌++◌, length, IsTrue, Option}
+use Rattle.std.specs.Prelude.{◌≡◌, ◌⊎◌, ◌≤◌, ℕ, false, List, [], ◌++◌, length, IsTrue, Option}
 use Rattle.osd_bytes.specs.Asking.{Ends}
 use Rattle.osd_bytes.specs.Causes.{Rose}
+use Rattle.osd_bytes.specs.Connections.{after_notes}
 use Rattle.osd_disk.specs.Crashes.{LeavesOnly, Only}
 use Rattle.osd_disk.specs.declared.disk.Disk.{Ghosts as DiskGhosts}
 use Rattle.cluster_text.specs.declared.cluster.Cluster.{Cluster}
@@ -17,7 +18,9 @@ use Rattle.server_command.specs.declared.server_stop.ServerStop.TheVariants.{Com
 use Rattle.server_journal.specs.Opening.{IsOfOpening}
 use Rattle.server_journal.specs.declared.made.MadeObject.{MadeObject}
 use Rattle.stored_server.specs.StoredServer.{StandsFor, is_among}
-use Rattle.stored_server.specs.Opened.{BeginsWith, LeavesOpenable, StopsOpening}
+use Rattle.stored_server.specs.Beginning.{StopsBeginning}
+use Rattle.stored_server.specs.Differences.{difference_lines, is_of_another}
+use Rattle.stored_server.specs.Opened.{BeginsWith, LeavesOpenable}
 use Rattle.stored_server.specs.Preparing.{Prepares, StopsPreparing}
 
 -- ---- what stays on the disk
@@ -42,18 +45,24 @@ LeavesRun s disk left begun steps =
 
 -- ---- serving from a disk
 
--- The server began from its journal, was prepared and has served all connections with these steps, each of which the disk has
--- from the step's end on. At the end the disk has the server as it then is, and a crash leaves that.
+-- what the text has otherwise than the server with which serving began was told
+abbrev pub once_told : Cluster → (begun : Server) → Ends → Ends
+once_told cluster begun before = record before { told = after_notes (difference_lines cluster begun) before.told }
+
+-- The server began from its journal, which is this cluster's, and what differs was told. It was prepared and has served all
+-- connections with these steps, each of which the disk has from the step's end on. At the end the disk has the server as it then
+-- is, and a crash leaves that.
 pub record ServesFrom {D : Type 0} (s : DiskGhosts D) (connections : ℕ) (cluster : Cluster) (before now : Ends)
     (taken_before taken : Option (List ℕ)) (disk left : D) : Type 0 where
   pub begun : Server
   pub own : List MadeObject
   pub step : Step
   pub begins : IsTrue (s.tells disk) → BeginsWith (s.seen disk) begun own step
+  pub of_cluster : is_of_another cluster.drives begun.drives ≡ false
   pub made : Server
   pub prepared : List ServerStep
   pub between : Ends
-  pub prepares : Prepares (is_among own) cluster begun step [] before made prepared between
+  pub prepares : Prepares (is_among own) cluster begun step [] (once_told cluster begun before) made prepared between
   pub last : Server
   pub done : List ServerStep
   pub serves : Serves connections made last prepared done between now taken_before taken
@@ -84,20 +93,21 @@ StopsBehind connections cluster begun own step before now taken_before taken fai
     × (last : Server)
     × StopsCore connections made last prepared served unserved between now taken_before taken failed_before failed cause)
 
--- The server began from its journal, and stopped. The disk has each step that was served, and so each that gave what was put,
--- from the step's end on; and the one behind them, if it was done to its end.
+-- The server began from its journal, which is this cluster's, what differs was told, and it stopped. The disk has each step that
+-- was served, and so each that gave what was put, from the step's end on; and the one behind them, if it was done to its end.
 pub record BreaksOff {D : Type 0} (s : DiskGhosts D) (connections : ℕ) (cluster : Cluster) (before now : Ends)
     (taken_before taken : Option (List ℕ)) (failed_before failed : ℕ) (disk left : D) (stop : StoredStop) : Type 0 where
   pub begun : Server
   pub own : List MadeObject
   pub step : Step
   pub begins : IsTrue (s.tells disk) → BeginsWith (s.seen disk) begun own step
+  pub of_cluster : is_of_another cluster.drives begun.drives ≡ false
   pub cause : ServerStop
   pub is : stop ≡ stored_stop_of cause
   pub served : List ServerStep
   pub unserved : List ServerStep
-  pub why : StopsBehind connections cluster begun own step before now taken_before taken failed_before failed cause served
-      unserved
+  pub why : StopsBehind connections cluster begun own step (once_told cluster begun before) now taken_before taken failed_before
+      failed cause served unserved
   pub rose : cause ≡ DiskFault → Rose (s.faults disk) (s.faults left)
   pub handled : List ServerStep
   pub cut_off : List ServerStep
@@ -106,11 +116,12 @@ pub record BreaksOff {D : Type 0} (s : DiskGhosts D) (connections : ℕ) (cluste
   pub any_moment : IsTrue (s.tells disk) → LeavesRun s disk left begun (served ++ unserved)
   pub stays : IsTrue (s.tells disk) → StaysSince s begun (served ++ handled) cut_off left
 
--- its journal was neither made nor opened, and nothing else happened
-pub record StaysShut {D : Type 0} (s : DiskGhosts D) (before now : Ends) (taken_before taken : Option (List ℕ)) (disk left : D)
-    (stop : StoredStop) : Type 0 where
-  pub why : StopsOpening s disk left stop
-  pub ends : now ≡ before
+-- serving didn't begin: nobody was asked for anything
+pub record StaysShut {D : Type 0} (s : DiskGhosts D) (cluster : Cluster) (before now : Ends)
+    (taken_before taken : Option (List ℕ)) (disk left : D) (stop : StoredStop) : Type 0 where
+  pub why : StopsBeginning s cluster disk left before.told now.told stop
+  pub faults : now.faults ≡ before.faults
+  pub times : now.times ≡ before.times
   pub silent : taken ≡ taken_before
   pub stays : IsTrue (s.tells disk) → LeavesOpenable s disk left
 
@@ -118,5 +129,5 @@ pub record StaysShut {D : Type 0} (s : DiskGhosts D) (before now : Ends) (taken_
 abbrev pub StopsFrom : {D : Type 0} → DiskGhosts D → (connections : ℕ) → Cluster → (before now : Ends)
     → (taken_before taken : Option (List ℕ)) → (failed_before failed : ℕ) → (disk left : D) → StoredStop → Type 0
 StopsFrom s connections cluster before now taken_before taken failed_before failed disk left stop =
-    StaysShut s before now taken_before taken disk left stop
+    StaysShut s cluster before now taken_before taken disk left stop
     ⊎ BreaksOff s connections cluster before now taken_before taken failed_before failed disk left stop

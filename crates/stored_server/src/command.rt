@@ -9,7 +9,7 @@ ghost use Rattle.server_command.proofs.Described.{IsSound};
 ghost use Rattle.stored_server.specs.Ends.{EndsStored, ServesStoredAs, StopsStoredServer};
 ghost use Rattle.stored_server.specs.Service.{ServesFrom, StopsFrom, stored_stop_of};
 
-use crate::opened::journal_on;
+use crate::beginning::begin_on;
 use crate::preparing::prepare;
 use cluster_text::{Cluster, Reader, cluster_from, settle_at};
 use drive_command::{StoredStop, put_stored_stop};
@@ -51,7 +51,7 @@ fn serve_from<K: Sink, L: Links, C: Clock, D: Disk, P: Place>(
         (K.taken sink.old) (K.taken sink.new) (K.faults sink.old) (K.faults sink.new) disk e.1 e.0) }
     ensures addresses { KeepsAddresses (L.standing links.old) (L.standing links.new) }
 {
-    let (mut server, step) = match journal_on(alloc, disk, name) {
+    let (mut server, step) = match begin_on(alloc, disk, name, cluster, links) {
         Ok(opened) => opened,
         Err(refusal) => return Err(refusal),
     };
@@ -114,17 +114,18 @@ fn serve_stored_cluster<S: Source, K: Sink, L: Links, C: Clock, D: Disk, P: Plac
 }
 
 /// Serves so many connections as the metadata server of the cluster that the source describes, from its journal: the file of
-/// this name, if the disk is one. On an empty disk a journal is made. What an opening gives to send is sent; then the drives
-/// of the cluster that the server doesn't know are added, its files that the server lacks are made, and the server's format
-/// is at least the cluster's. The sink is told `listening` and `served` as by [`server_command::server_command`], or else, in
-/// a line of its own, why the server stopped before. The disk comes back.
+/// this name, if the disk is one. On an empty disk a journal is made. What the text has otherwise than the journal is told, and
+/// changes nothing. What an opening gives to send is sent; then the drives of the cluster that the server doesn't know are
+/// added, its files that the server lacks are made, and the server's format is at least the cluster's. The sink is told
+/// `listening` and `served` as by [`server_command::server_command`], or else, in a line of its own, why the server stopped
+/// before. The disk comes back.
 ///
 /// # Errors
 ///
 /// [`StoredStop::Command`] for the causes of [`server_command::server_command`], those of the text and the links first, and if
 /// fewer drives are online than a file that the server lacks has components; [`StoredStop::DiskFault`] only if the disk's
 /// count of faults rose; [`StoredStop::BadStore`] exactly if what the disk has isn't in the form of a journal from this byte
-/// on.
+/// on, or, with 8, is the journal of another cluster: it has drives of the text, and none of them with the text's key.
 pub fn stored_server_command<S: Source, K: Sink, L: Links, C: Clock, D: Disk, P: Place>(
     alloc: Global,
     connections: u32,

@@ -20,7 +20,8 @@ use std::alloc::Global;
 use stripe_repair::Place;
 use zone_place::MAX_DRIVES;
 
-fn has_number(drives: &[Drive], number: u32) -> bool
+/// Whether one of these drives has the number.
+pub(crate) fn has_number(drives: &[Drive], number: u32) -> bool
     ensures { result ≡ has_number drives.now number }
 {
     drives.iter().any(|drive| drive.number == number)

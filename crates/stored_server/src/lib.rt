@@ -4,7 +4,9 @@
 #![tactic(auto)]
 
 mod again;
+mod beginning;
 mod command;
+mod differences;
 mod lacking;
 mod opened;
 mod preparing;
