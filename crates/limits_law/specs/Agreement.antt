@@ -11,11 +11,8 @@ use Rattle.server_entries.specs.declared.fields.TheConstants as entries
 use Rattle.server_entries.specs.declared.applied.TheConstants as journal
 use Rattle.scenario_text.specs.declared.names.TheConstants as names
 use Rattle.zone_place.specs.declared.loads.TheConstants as zones
-use Rattle.world_calm.specs.declared.files.TheConstants as calm
 use Rattle.cluster_text.specs.declared.fields.TheConstants as texts
 use Rattle.command_words.specs.declared.words.TheConstants as words
-use Rattle.command_words.specs.declared.program.TheConstants as program
-use Rattle.osd_replay.specs.declared.command.TheConstants as replay
 
 -- what clients and the server say to each other
 pub record PartiesAgree : Type 0 where
@@ -42,15 +39,13 @@ pub record CapacitiesAgree : Type 0 where
   pub clients : names.CLIENTS ≡ server.MAX_CLIENT + 1
   pub files : names.FILES ≡ journal.MAX_FILES
 
--- a cluster text and the words of the program name as many, and who judges whether a run is calm looks as far as a drive has bytes
+-- a cluster text and the words of the program name as many
 pub record CommandsAgree : Type 0 where
   pub drives : texts.MAX_DRIVES ≡ zones.MAX_DRIVES
   pub files : texts.MAX_FILES ≡ journal.MAX_FILES
   pub components : texts.MAX_FILE_COMPONENTS ≡ server.MAX_FILE_COMPONENTS
   pub drive_words : words.MAX_DRIVE ≡ client.MAX_DRIVE
   pub client_words : words.MAX_CLIENT ≡ client.MAX_CLIENT
-  pub generated : program.MAX_CALLS ≡ replay.MAX_CALLS
-  pub offsets : calm.MAX_OFFSET ≡ drive.MAX_END
 
 -- both are this number
 abbrev pub AreBoth : ℕ → ℕ → ℕ → Type 0
