@@ -47,7 +47,8 @@ impl Party for Relay {
     ghost fails = { λ _ _ _ _ _ _. ⊤ };
 
     fn sender(&self, alloc: Global, message: &[u8]) -> Result<Node, Memory> {
-        let _ = (alloc, message);
+        let _ = alloc;
+        let _ = message;
         Ok(Node::Client(CLIENT))
     }
 
